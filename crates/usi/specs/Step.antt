@@ -107,15 +107,16 @@ clocked sda u =
     withUSICTL1 (rules.endFlags (u .usictl1) (u .usicnt))
     (withUSICNT (rules.countDown (u .usicnt)) (withUSISRL (rules.shifted (u .usisrl) sda) u))
 
+abbrev pub bitTaken : Bool → Usi → Usi
+bitTaken sda u = clocked sda (arbitrated (rules.loses (u .usictl0) (u .enable) (u .latch) sda) u)
+
 unfoldable pub risen : Bool → Bool → Usi → Usi
-risen scl sda u =
-    cond (rules.takesBit (u .scl) scl (u .usicnt))
-    (clocked sda (arbitrated (rules.loses (u .usictl0) (u .enable) (u .latch) sda) u))
-    u
+risen scl sda u = cond (rules.takesBit (u .scl) scl (u .usicnt)) (bitTaken sda u) u
 
 -- SCL falls: the latch may take the next bit.
 unfoldable pub fallen : Bool → Usi → Usi
-fallen scl u = cond (rules.falls (u .scl) scl && rules.movesLatch (u .usictl0) (u .usicnt)) (latched u) u
+fallen scl u =
+    cond (rules.falls (u .scl) scl) (cond (rules.movesLatch (u .usictl0) (u .usicnt)) (latched u) u) u
 
 -- The levels are remembered; caught or not.
 abbrev pub recorded : Bool → Bool → Usi → Usi
@@ -123,9 +124,11 @@ recorded scl sda u =
     withLevels scl sda (rules.stretchAfter (u .stretch) (u .seen && rules.falls (u .scl) scl) (u .phase) scl) u
 
 -- With no levels remembered, a sample only records.
-unfoldable pub sampled : Bool → Bool → Usi → Usi
-sampled scl sda u =
-    followed (recorded scl sda (cond (u .seen) (fallen scl (risen scl sda (conditioned scl sda u))) u))
+unfoldable pub edged : Bool → Bool → Usi → Usi
+edged scl sda u = cond (u .seen) (fallen scl (risen scl sda (conditioned scl sda u))) u
+
+abbrev pub sampled : Bool → Bool → Usi → Usi
+sampled scl sda u = followed (recorded scl sda (edged scl sda u))
 
 -- Sample: the level byte is SCL + 2·SDA. Refusals 4, 3.
 unfoldable pub sample : Usi → ℕ → Step

@@ -1,7 +1,8 @@
 // The USI module in I2C mode: six register bytes and a hidden state, stepped by writes, samples and ticks.
 ghost use mathlib.Core.Path.{_≡_};
+ghost use Prim.Native.Nat.{_+_, _*_};
 ghost use Rattle.usi.specs.Module.{powerUp, atRest, fits as fitsRule, pullsSda, pullsScl};
-ghost use Rattle.usi.specs.Step.{refusal as refusalOf, moduleOf, latched as latchedRule, followed as followedRule, settled as settledRule, readByte, writeByte, joined as joinedRule, readWord, writeWord, conditioned as conditionedRule, arbitrated as arbitratedRule, clocked as clockedRule, risen as risenRule, fallen as fallenRule, recorded as recordedRule, sampled as sampledRule, sample as sampleRule, ticked as tickedRule, tick as tickRule};
+ghost use Rattle.usi.specs.Step.{refusal as refusalOf, moduleOf, latched as latchedRule, followed as followedRule, settled as settledRule, readByte, writeByte, readWord, writeWord, conditioned as conditionedRule, arbitrated as arbitratedRule, clocked as clockedRule, bitTaken, risen as risenRule, fallen as fallenRule, recorded as recordedRule, edged as edgedRule, sampled as sampledRule, sample as sampleRule, ticked as tickedRule, tick as tickRule};
 
 pub struct Usi {
     pub usictl0: u8,
@@ -165,19 +166,19 @@ impl Usi {
         if address % 2 == 1 {
             return Read::Refused(2);
         }
-        Usi::joined(self.read(address), self.read(address + 1))
+        match address {
+            Usi::USICTL0 => Read::Value(Usi::word(self.usictl0, self.usictl1)),
+            Usi::USICKCTL => Read::Value(Usi::word(self.usickctl, self.usicnt)),
+            Usi::USISRL => Read::Value(Usi::word(self.usisrl, self.usisrh)),
+            _ => Read::Refused(1),
+        }
     }
 
-    fn joined(low: Read, high: Read) -> Read
-        ensures { λ r. ⌜ r ≡ joinedRule low high ⌝ }
+    // Two bytes as a word.
+    fn word(low: u8, high: u8) -> u16
+        ensures { λ r. ⌜ r ≡ low + 256 * high ⌝ }
     {
-        match low {
-            Read::Value(l) => match high {
-                Read::Value(h) => Read::Value(l + 256 * h),
-                Read::Refused(n) => Read::Refused(n),
-            },
-            Read::Refused(n) => Read::Refused(n),
-        }
+        (low as u16) + 256 * (high as u16)
     }
 
     // A byte written to a register.
@@ -265,13 +266,20 @@ impl Usi {
         self
     }
 
+    // One bit: arbitration, then the shift.
+    fn bit_taken(self, sda: bool) -> Usi
+        ensures { λ r. ⌜ r ≡ bitTaken sda self ⌝ }
+    {
+        let lost = usi_rules::loses(self.usictl0, self.enable, self.latch, sda);
+        self.arbitrated(lost).clocked(sda)
+    }
+
     // SCL rises.
     fn risen(self, scl: bool, sda: bool) -> Usi
         ensures { λ r. ⌜ r ≡ risenRule scl sda self ⌝ }
     {
         if usi_rules::takes_bit(self.scl, scl, self.usicnt) {
-            let lost = usi_rules::loses(self.usictl0, self.enable, self.latch, sda);
-            return self.arbitrated(lost).clocked(sda);
+            return self.bit_taken(sda);
         }
         self
     }
@@ -280,9 +288,10 @@ impl Usi {
     fn fallen(self, scl: bool) -> Usi
         ensures { λ r. ⌜ r ≡ fallenRule scl self ⌝ }
     {
-        let fell = usi_rules::falls(self.scl, scl);
-        let moves = usi_rules::moves_latch(self.usictl0, self.usicnt);
-        if fell & moves {
+        if !usi_rules::falls(self.scl, scl) {
+            return self;
+        }
+        if usi_rules::moves_latch(self.usictl0, self.usicnt) {
             return self.latched();
         }
         self
@@ -301,14 +310,20 @@ impl Usi {
         self
     }
 
+    // What the lines did since the last sample.
+    fn edged(self, scl: bool, sda: bool) -> Usi
+        ensures { λ r. ⌜ r ≡ edgedRule scl sda self ⌝ }
+    {
+        if self.seen {
+            return self.conditioned(scl, sda).risen(scl, sda).fallen(scl);
+        }
+        self
+    }
+
     fn sampled(self, scl: bool, sda: bool) -> Usi
         ensures { λ r. ⌜ r ≡ sampledRule scl sda self ⌝ }
     {
-        if self.seen {
-            let edge = self.conditioned(scl, sda).risen(scl, sda).fallen(scl);
-            return edge.recorded(scl, sda).followed();
-        }
-        self.recorded(scl, sda).followed()
+        self.edged(scl, sda).recorded(scl, sda).followed()
     }
 
     // A sample of both lines: SCL + 2 SDA.
