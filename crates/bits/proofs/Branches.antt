@@ -36,20 +36,21 @@ call-is-not a b k e p = ne-eqb b k (λ q. p (e ∙ q))
 pub other-key : (x k j : ℕ) → x ≡ k → eqb k j ≡ false → eqb x j ≡ false
 other-key x k j e t = rw e t
 
-pub ruleset branches =
-    (refl,
-    first-case,
-    second-case,
-    call-is,
-    call-is-not,
-    other-key,
-    call-true,
-    call-false,
-    call-yes,
-    call-no,
-    eq-eqb,
-    ne-eqb,
-    lt-ltb,
-    le-ltb,
-    le-leb,
-    lt-leb)
+pub ruleset branches = (
+  refl,
+  first-case,
+  second-case,
+  call-is,
+  call-is-not,
+  other-key,
+  call-true,
+  call-false,
+  call-yes,
+  call-no,
+  eq-eqb,
+  ne-eqb,
+  lt-ltb,
+  le-ltb,
+  le-leb,
+  lt-leb,
+)

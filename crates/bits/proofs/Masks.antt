@@ -65,13 +65,13 @@ pub on-bit : (x position : ℕ) → on x (bit position) ≡ isSet position x
 on-bit x p =
     ap (λ (a : ℕ). eqb a (bit p)) (one-bit p x)
     ∙ at-digit (λ d. eqb (d * bit p) (bit p) ≡ eqb d 1) (ne-eqb (0 * bit p) (bit p) (λ e. omega (arith, pow-pos p)))
-      (eq-eqb (1 * bit p) (bit p) (omega arith)) (digit p x) (digit-lt p x)
+    (eq-eqb (1 * bit p) (bit p) (omega arith)) (digit p x) (digit-lt p x)
 
 pub off-bit : (x position : ℕ) → off x (bit position) ≡ not (isSet position x)
 off-bit x p =
     ap (λ (a : ℕ). eqb a 0) (one-bit p x)
     ∙ at-digit (λ d. eqb (d * bit p) 0 ≡ not (eqb d 1)) (eq-eqb (0 * bit p) 0 (omega arith))
-      (ne-eqb (1 * bit p) 0 (λ e. omega (arith, pow-pos p))) (digit p x) (digit-lt p x)
+    (ne-eqb (1 * bit p) 0 (λ e. omega (arith, pow-pos p))) (digit p x) (digit-lt p x)
 
 -- shifted down and masked, the lowest bits are the field at that position
 pub field-mask : (position width x : ℕ) → bitAnd (x / 2 ^ position) (lowest width) ≡ field position width x

@@ -65,7 +65,7 @@ writeByte u address value =
     (cond (eqb address USICTL1) (Next (settled (withUSICTL1 value u)))
     (cond (eqb address USICKCTL) (Next (settled (withUSICKCTL value u)))
     (cond (eqb address USICNT)
-      (Next (settled (withUSICNT value (withUSICTL1 (rules.countFlags (u .usictl1) value) u))))
+    (Next (settled (withUSICNT value (withUSICTL1 (rules.countFlags (u .usictl1) value) u))))
     (cond (eqb address USISRL) (Next (settled (withUSISRL value u)))
     (cond (eqb address USISRH) (Next (settled (withUSISRH value u)))
     (Refused 1 u))))))

@@ -60,15 +60,23 @@ impl Step {
 
 impl Usi {
     pub const USICTL0: u16 = 0x078;
+
     pub const USICTL1: u16 = 0x079;
+
     pub const USICKCTL: u16 = 0x07a;
+
     pub const USICNT: u16 = 0x07b;
+
     pub const USISRL: u16 = 0x07c;
+
     pub const USISRH: u16 = 0x07d;
 
     pub const USICTL0_POWER_UP: u8 = 0x01;
+
     pub const USICTL1_POWER_UP: u8 = 0x01;
+
     pub const USICKCTL_POWER_UP: u8 = 0x00;
+
     pub const USICNT_POWER_UP: u8 = 0x00;
 
     // The module after power-up, which keeps the two shift bytes.

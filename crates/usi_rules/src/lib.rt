@@ -4,19 +4,30 @@ ghost use Rattle.usi_rules.specs.Rules.{divider, clockSource, bitCount, 
 
 // USICTL0
 pub const USIPE7: u8 = 0x80;
+
 pub const USIPE6: u8 = 0x40;
+
 pub const USILSB: u8 = 0x10;
+
 pub const USIMST: u8 = 0x08;
+
 pub const USIGE: u8 = 0x04;
+
 pub const USIOE: u8 = 0x02;
+
 pub const USISWRST: u8 = 0x01;
 
 // USICTL1
 pub const USICKPH: u8 = 0x80;
+
 pub const USII2C: u8 = 0x40;
+
 pub const USIAL: u8 = 0x08;
+
 pub const USISTP: u8 = 0x04;
+
 pub const USISTTIFG: u8 = 0x02;
+
 pub const USIIFG: u8 = 0x01;
 
 // USICKCTL
@@ -24,8 +35,11 @@ pub const USICKPL: u8 = 0x02;
 
 // USICNT
 pub const USISCLREL: u8 = 0x80;
+
 pub const USI16B: u8 = 0x40;
+
 pub const USIIFGCC: u8 = 0x20;
+
 pub const USICNTX: u8 = 0x1f;
 
 // USISRL: the bit sent first

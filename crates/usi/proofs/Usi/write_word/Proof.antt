@@ -1,49 +1,45 @@
+-- The low byte's write, and unless it was refused the high byte's.
+use borrow.Author.Tests.{ne-eqb}
+use Rattle.bits.proofs.Branches.{branches}
+use Rattle.usi.specs.Step.{writeWord}
 use borrow.Author.Needs.{needs}
 use Rattle.usi.proofs.Usi.write_word.Statement.{statement}
 use Rattle.usi.proofs.Usi.write_word.Tie as tie
-use Rattle.usi.proofs.Usi.write_word.Reads as reads
-use Rattle.usi.proofs.Usi.write_word.Lts as lts
-use Rattle.usi.proofs.Usi.write.Reads as write-reads
 
--- src/lib.rt:222:13
 returns : tie.Need-returns
-returns c = ?
+unfolding writeWord
+returns c = search branches
 
--- src/lib.rt:224:35
 cast-write : tie.Need-cast-write
 cast-write c = search needs
 
--- src/lib.rt:224:15
 write-requires : tie.Need-write-requires
 write-requires c κs = search needs
 
--- src/lib.rt:225:24
 enum-known-u : tie.Need-enum-known-u
 enum-known-u c = search needs
 
--- src/lib.rt:225:38
 add-write : tie.Need-add-write
 add-write c = search needs
 
--- src/lib.rt:225:51
 cast-write-2 : tie.Need-cast-write-2
 cast-write-2 c = search needs
 
--- src/lib.rt:225:30
 write-requires-2 : tie.Need-write-requires-2
 write-requires-2 c κs = search needs
 
--- src/lib.rt:226:27
 enum-known-number : tie.Need-enum-known-number
 enum-known-number c = search needs
 
--- src/lib.rt:218:5
 returns-2 : tie.Need-returns-2
-returns-2 c = ?
+unfolding writeWord
+returns-2 c =
+    rw (ne-eqb _ _ (c .before .before .before .before .before .if1 .left), ← c .before .before .before .before .write .ensures, c .before .before .u .given .1)
+    (c .write2 .ensures)
 
--- src/lib.rt:218:5
 returns-3 : tie.Need-returns-3
-returns-3 c = ?
+unfolding writeWord
+returns-3 c = rw (ne-eqb _ _ (c .before .before .before .before .if1 .left), ← c .before .before .before .write .ensures, c .before .number .given .1)
 
 pub write-word-spec : {M : Type 1} → statement M
 write-word-spec =
