@@ -77,7 +77,8 @@ off-bit x p =
 pub field-mask : (position width x : ℕ) → bitAnd (x / 2 ^ position) (lowest width) ≡ field position width x
 field-mask position width x = and-mask (x / 2 ^ position) width
 
-bool-lt : (b : Bool) → boolByte b < 2
+-- a bit as a number
+pub bool-lt : (b : Bool) → boolByte b < 2
 bool-lt true = omega arith
 bool-lt false = omega arith
 
