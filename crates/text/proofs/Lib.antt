@@ -1,2 +1,5 @@
 pub mod Picks
 pub mod Runs
+pub mod Reading
+pub mod Putting
+pub mod Spelling

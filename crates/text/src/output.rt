@@ -2,7 +2,7 @@
 // what would fall past the buffer's end is dropped, and the position is then the buffer's length.
 ghost use mathlib.Core.Path.{_≡_};
 ghost use mathlib.Core.List.{[], _∷_};
-ghost use Prim.Native.Nat.{_<_, _+_};
+ghost use Prim.Native.Nat.{_<_, min};
 ghost use Rattle.text.specs.Output.{Put, digitByte, decimalText, hexText};
 
 pub fn put_byte(out: &mut [u8], at: usize, b: u8) -> usize
@@ -15,13 +15,16 @@ pub fn put_byte(out: &mut [u8], at: usize, b: u8) -> usize
     out.len()
 }
 
+fn least(a: usize, b: usize) -> usize
+    ensures { λ r. ⌜ r ≡ min a b ⌝ }
+{
+    if a < b { a } else { b }
+}
+
 pub fn put_bytes(out: &mut [u8], at: usize, text: &[u8]) -> usize
     ensures { λ r. ⌜ Put (now (out .entry)) at (now (text .entry)) (now (out .exit)) r ⌝ }
 {
-    let mut next = at;
-    if out.len() < at {
-        next = out.len();
-    }
+    let mut next = least(at, out.len());
     let mut i = 0;
     while i < text.len() {
         next = put_byte(out, next, text[i]);

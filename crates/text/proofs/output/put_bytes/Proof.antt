@@ -1,46 +1,49 @@
+-- `text::output::put_bytes` meets its contract. The invariant: the bytes passed have been put.
+use Prim.Native.Nat.{_≤_, _<_, _-_}
+use borrow.Author.Needs.{needs}
+use lib.ListN.{length, take}
+use Rattle.text.specs.Output.{Put}
+use Rattle.text.proofs.Putting.{put-none, put-more, put-all, put-length}
 use Rattle.text.proofs.output.put_bytes.Statement.{statement}
 use Rattle.text.proofs.output.put_bytes.Tie as tie
-use Rattle.text.proofs.output.put_bytes.Reads as reads
-use Rattle.text.proofs.output.put_bytes.Lts as lts
-use Rattle.text.proofs.output.put_byte.Reads as put-byte-reads
 
 abbrev Inv-loop : tie.InvT-loop
-Inv-loop out₀ at text next₀ i₀ out next i = ?
+Inv-loop out₀ at text next₀ i₀ out next i = (i ≤ length text) × Put out₀ at (take i text) out next
 
 abbrev μ-loop : tie.MeasureT-loop
-μ-loop out₀ at text next₀ i₀ out next i = ?
+μ-loop out₀ at text next₀ i₀ out next i = length text - i
 
--- src/output.rt:26:5
+least-requires : tie.Need-least-requires Inv-loop μ-loop
+least-requires c κs = search needs
+
 loop-holds : tie.Need-loop-holds Inv-loop μ-loop
-loop-holds c = ?
+loop-holds c = (search needs, put-none _ _ _ (c .least .ensures))
 
--- src/output.rt:27:36
 shared-slice-read-put-byte : tie.Need-shared-slice-read-put-byte Inv-loop μ-loop
-shared-slice-read-put-byte c = ?
+shared-slice-read-put-byte c = search needs
 
--- src/output.rt:27:9
 put-byte-requires : tie.Need-put-byte-requires Inv-loop μ-loop
-put-byte-requires c κs = ?
+put-byte-requires c κs = search needs
 
--- src/output.rt:28:9
 add-i : tie.Need-add-i Inv-loop μ-loop
-add-i c = ?
+add-i c = search needs
 
--- src/output.rt:26:5
 loop-less : tie.Need-loop-less Inv-loop μ-loop
-loop-less c = ?
+loop-less c = search needs
 
--- src/output.rt:26:5
 loop-again : tie.Need-loop-again Inv-loop μ-loop
-loop-again c = ?
+loop-again c =
+    let turn = c .before .before .before .before .before .before in
+    let inside : turn .loop .i < length (turn .before .before .before .before .args .text .now) = search needs in
+    (search needs, put-more _ _ _ _ inside (turn .loop .inv .1) (c .before .before .put-byte .ensures))
 
--- src/output.rt:18:1
 same-length : tie.Need-same-length Inv-loop μ-loop
-same-length c = ?
+same-length c = put-length _ _ (c .before .loop .inv .1)
 
--- src/output.rt:18:1
 returns : tie.Need-returns Inv-loop μ-loop
-returns c = ?
+returns c =
+    let done : length (c .before .before .before .before .before .args .text .now) ≤ c .before .loop .i = search needs in
+    put-all _ _ _ _ done (c .before .loop .inv .1)
 
 pub put-bytes-spec : {M : Type 1} → statement M
 put-bytes-spec =
@@ -48,6 +51,7 @@ put-bytes-spec =
     (tie.spec
     Inv-loop
     μ-loop
+    least-requires
     loop-holds
     shared-slice-read-put-byte
     put-byte-requires
