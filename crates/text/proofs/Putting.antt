@@ -29,13 +29,14 @@ sets-append (a ∷ s) t l i =
 sets-min : (text l : List ℕ) (k : ℕ) → sets l (min k (length l)) text ≡ sets l k text
 sets-min text l k = by-test (leb k (length l)) refl
   where
-  at-min : {i : ℕ} → min k (length l) ≡ i → sets l (min k (length l)) text ≡ sets l i text
-  at-min e = ap (λ (j : ℕ). sets l j text) e
-  by-test : (b : Bool) → leb k (length l) ≡ b → sets l (min k (length l)) text ≡ sets l k text
-  by-test true e = at-min (min-eq-left (leb-true k (length l) e))
-  by-test false e =
-      let past : length l ≤ k = omega (arith, leb-false k (length l) e) in
-      at-min (min-eq-right past) ∙ sets-out text l (length l) (le-refl (length l)) ∙ sym (sets-out text l k past)
+    at-min : {i : ℕ} → min k (length l) ≡ i → sets l (min k (length l)) text ≡ sets l i text
+    at-min e = ap (λ (j : ℕ). sets l j text) e
+
+    by-test : (b : Bool) → leb k (length l) ≡ b → sets l (min k (length l)) text ≡ sets l k text
+    by-test true e = at-min (min-eq-left (leb-true k (length l) e))
+    by-test false e =
+        let past : length l ≤ k = omega (arith, leb-false k (length l) e) in
+        at-min (min-eq-right past) ∙ sets-out text l (length l) (le-refl (length l)) ∙ sym (sets-out text l k past)
 
 module _ (old : List ℕ) (at : ℕ) where
   pub put-holds : (text new : List ℕ) (next : ℕ)

@@ -42,9 +42,9 @@ module _ (test : ℕ → Bool) where
   run-within [] = omega arith
   run-within (b ∷ bs) = at-most (test b) (runLength test bs) (run-within bs)
     where
-    at-most : (v : Bool) (n : ℕ) → n ≤ length bs → cond v (suc n) 0 ≤ suc (length bs)
-    at-most true n h = omega arith
-    at-most false n h = omega arith
+      at-most : (v : Bool) (n : ℕ) → n ≤ length bs → cond v (suc n) 0 ≤ suc (length bs)
+      at-most true n h = omega arith
+      at-most false n h = omega arith
 
 -- the part from n to the end is what `drop` leaves
 pub to-end : (n : ℕ) (l : List ℕ) → take (length l - n) (drop n l) ≡ drop n l

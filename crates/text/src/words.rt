@@ -5,8 +5,11 @@ ghost use lib.ListN.{length};
 ghost use Rattle.text.specs.Words.{blank, belongs, runLength, firstLine, afterLine, fromWord, firstWord, afterWord};
 
 const SPACE: u8 = 0x20;
+
 const TAB: u8 = 0x09;
+
 const RETURN: u8 = 0x0d;
+
 const NEWLINE: u8 = 0x0a;
 
 // Bytes that stand together.
@@ -15,7 +18,6 @@ enum Run {
     Blanks,
     Word,
 }
-
 
 fn is_blank(b: u8) -> bool
     ensures { λ r. ⌜ r ≡ blank b ⌝ }

@@ -1,46 +1,40 @@
+-- `text::numbers::all_digits` meets its contract. The invariant: the bytes passed are digits.
+use Prim.Native.Nat.{_-_, _<_, _≤_}
+use borrow.Author.Needs.{needs}
+use lib.ListN.{length}
+use Rattle.text.proofs.Reading.{Passed, passed-none, passed-more, passed-stop, passed-all}
 use Rattle.text.proofs.numbers.all_digits.Statement.{statement}
 use Rattle.text.proofs.numbers.all_digits.Tie as tie
-use Rattle.text.proofs.numbers.all_digits.Reads as reads
-use Rattle.text.proofs.numbers.all_digits.Lts as lts
-use Rattle.text.proofs.numbers.digit_wide.Reads as digit-wide-reads
 
 abbrev Inv-loop : tie.InvT-loop
-Inv-loop word base i₀ i = ?
+Inv-loop word base i₀ i = Passed base word i
 
 abbrev μ-loop : tie.MeasureT-loop
-μ-loop word base i₀ i = ?
+μ-loop word base i₀ i = length word - i
 
--- src/numbers.rt:65:5
 loop-holds : tie.Need-loop-holds Inv-loop μ-loop
-loop-holds c = ?
+loop-holds c = passed-none _ _
 
--- src/numbers.rt:66:23
 shared-slice-read-digit-wide : tie.Need-shared-slice-read-digit-wide Inv-loop μ-loop
-shared-slice-read-digit-wide c = ?
+shared-slice-read-digit-wide c = search needs
 
--- src/numbers.rt:66:12
 digit-wide-requires : tie.Need-digit-wide-requires Inv-loop μ-loop
-digit-wide-requires c κs = ?
+digit-wide-requires c κs = search needs
 
--- src/numbers.rt:67:13
 returns : tie.Need-returns Inv-loop μ-loop
-returns c = ?
+returns c = passed-stop _ _ _ _ (c .before .digit-wide .ensures) (c .before .before .before .before .loop .inv) (search needs) (c .if1 .taken)
 
--- src/numbers.rt:69:9
 add-i : tie.Need-add-i Inv-loop μ-loop
-add-i c = ?
+add-i c = search needs
 
--- src/numbers.rt:65:5
 loop-less : tie.Need-loop-less Inv-loop μ-loop
-loop-less c = ?
+loop-less c = search needs
 
--- src/numbers.rt:65:5
 loop-again : tie.Need-loop-again Inv-loop μ-loop
-loop-again c = ?
+loop-again c = passed-more _ _ _ _ (c .before .digit-wide .ensures) (c .before .before .before .before .loop .inv) (search needs) (c .if1 .left)
 
--- src/numbers.rt:61:1
 returns-2 : tie.Need-returns-2 Inv-loop μ-loop
-returns-2 c = ?
+returns-2 c = passed-all _ _ _ (c .before .loop .inv) (search needs)
 
 pub all-digits-spec : {M : Type 1} → statement M
 all-digits-spec =

@@ -1,30 +1,23 @@
+-- `text::numbers::number_in` meets its contract.
+use Rattle.text.proofs.Reading.{number-empty, number-bad, number-good}
 use borrow.Author.Needs.{needs}
 use Rattle.text.proofs.numbers.number_in.Statement.{statement}
 use Rattle.text.proofs.numbers.number_in.Tie as tie
-use Rattle.text.proofs.numbers.number_in.Reads as reads
-use Rattle.text.proofs.numbers.number_in.Lts as lts
-use Rattle.text.proofs.numbers.all_digits.Reads as all-digits-reads
-use Rattle.text.proofs.numbers.value.Reads as value-reads
 
--- src/numbers.rt:47:9
 returns : tie.Need-returns
-returns c = ?
+returns c = number-empty _ _ (c .if1 .taken)
 
--- src/numbers.rt:49:9
 all-digits-requires : tie.Need-all-digits-requires
 all-digits-requires c κs = search needs
 
--- src/numbers.rt:50:9
 returns-2 : tie.Need-returns-2
-returns-2 c = ?
+returns-2 c = number-bad _ _ _ (c .before .all-digits .ensures) (c .if2 .taken)
 
--- src/numbers.rt:52:5
 value-requires : tie.Need-value-requires
 value-requires c κs = search needs
 
--- src/numbers.rt:42:1
 returns-3 : tie.Need-returns-3
-returns-3 c = ?
+returns-3 c = number-good _ _ _ _ (c .before .before .all-digits .ensures) (c .before .if2 .left) (c .before .before .before .if1 .left) (c .value .ensures)
 
 pub number-in-spec : {M : Type 1} → statement M
 number-in-spec =

@@ -1,62 +1,63 @@
+-- `text::numbers::value` meets its contract. The invariant: the digits passed spell v.
+use Prim.Native.Nat.{_+_, _*_, _-_, _^_, _<_}
+use borrow.Author.Needs.{needs, fits-under}
+use native.Mathlib.Omega.{arith}
+use lib.ListN.{length}
+use mir.Syntax.{w64}
+use Rattle.text.proofs.Reading.{Spelled, spelled-none, spelled-more, spelled-all, spelled-large, one-more, one-too-many}
 use Rattle.text.proofs.numbers.value.Statement.{statement}
 use Rattle.text.proofs.numbers.value.Tie as tie
-use Rattle.text.proofs.numbers.value.Reads as reads
-use Rattle.text.proofs.numbers.value.Lts as lts
-use Rattle.text.proofs.numbers.digit_wide.Reads as digit-wide-reads
 
 abbrev Inv-loop : tie.InvT-loop
-Inv-loop word base v₀ i₀ v i = ?
+Inv-loop word base v₀ i₀ v i = Spelled base word v i
 
 abbrev μ-loop : tie.MeasureT-loop
-μ-loop word base v₀ i₀ v i = ?
+μ-loop word base v₀ i₀ v i = length word - i
 
--- src/numbers.rt:81:5
 loop-holds : tie.Need-loop-holds Inv-loop μ-loop
-loop-holds c = ?
+loop-holds c = spelled-none _ _
 
--- src/numbers.rt:82:28
 shared-slice-read-digit-wide : tie.Need-shared-slice-read-digit-wide Inv-loop μ-loop
-shared-slice-read-digit-wide c = ?
+shared-slice-read-digit-wide c = search needs
 
--- src/numbers.rt:82:13
 digit-wide-requires : tie.Need-digit-wide-requires Inv-loop μ-loop
-digit-wide-requires c κs = ?
+digit-wide-requires c κs = search needs
 
--- src/numbers.rt:83:17
 sub-if1 : tie.Need-sub-if1 Inv-loop μ-loop
-sub-if1 c = ?
+sub-if1 c = search needs
 
--- src/numbers.rt:83:16
 div-if1 : tie.Need-div-if1 Inv-loop μ-loop
-div-if1 c = ?
+div-if1 c = search needs
 
--- src/numbers.rt:84:13
+-- the next number fits
+fits : (c : tie.Else1 Inv-loop μ-loop)
+    → c .before .before .before .before .loop .v * c .before .before .before .before .before .before .args .base
+    + c .before .digit-wide .result < 2 ^ 64
+fits c = omega (arith, one-more _ _ _ _ (c .if1 .left) (c .before .before .before .before .before .before .pre) (search needs))
+
 returns : tie.Need-returns Inv-loop μ-loop
-returns c = ?
+returns c =
+    let turn = c .before .before .before .before in
+    let large = one-too-many _ _ _ _ (c .if1 .taken) (search needs) in
+    spelled-large _ _ _ _ _ (c .before .digit-wide .ensures) (turn .loop .inv) (search needs) (search needs) (omega (arith, large))
 
--- src/numbers.rt:86:13
 mul-v : tie.Need-mul-v Inv-loop μ-loop
-mul-v c = ?
+mul-v c = fits-under w64 _ (2 ^ 64) (omega (arith, fits c)) tt
 
--- src/numbers.rt:86:13
 add-v : tie.Need-add-v Inv-loop μ-loop
-add-v c = ?
+add-v c = fits-under w64 _ (2 ^ 64) (fits c) tt
 
--- src/numbers.rt:87:9
 add-i : tie.Need-add-i Inv-loop μ-loop
-add-i c = ?
+add-i c = search needs
 
--- src/numbers.rt:81:5
 loop-less : tie.Need-loop-less Inv-loop μ-loop
-loop-less c = ?
+loop-less c = search needs
 
--- src/numbers.rt:81:5
 loop-again : tie.Need-loop-again Inv-loop μ-loop
-loop-again c = ?
+loop-again c = spelled-more _ _ _ _ _ (c .before .digit-wide .ensures) (c .before .before .before .before .loop .inv) (search needs) (fits c)
 
--- src/numbers.rt:75:1
 returns-2 : tie.Need-returns-2 Inv-loop μ-loop
-returns-2 c = ?
+returns-2 c = spelled-all _ _ _ _ (c .before .loop .inv) (search needs)
 
 pub value-spec : {M : Type 1} → statement M
 value-spec =
