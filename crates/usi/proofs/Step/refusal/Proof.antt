@@ -1,0 +1,19 @@
+-- Each constructor has its number.
+use borrow.Author.Needs.{needs}
+use Rattle.usi.proofs.Step.refusal.Statement.{statement}
+use Rattle.usi.proofs.Step.refusal.Tie as tie
+
+enum-told : tie.Need-enum-told
+enum-told c = search needs
+
+enum-known-self : tie.Need-enum-known-self
+enum-known-self c = search needs
+
+returns : tie.Need-returns
+returns c = search needs
+
+returns-2 : tie.Need-returns-2
+returns-2 c = rw (c .before .self .given .1)
+
+pub refusal-spec : {M : Type 1} → statement M
+refusal-spec = tie.close (tie.spec enum-told enum-known-self returns returns-2)

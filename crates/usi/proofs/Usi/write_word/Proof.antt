@@ -1,0 +1,57 @@
+-- The low byte's write, and unless it was refused the high byte's.
+use borrow.Author.Tests.{ne-eqb}
+use Rattle.bits.proofs.Branches.{branches}
+use Rattle.usi.specs.Step.{writeWord}
+use borrow.Author.Needs.{needs}
+use Rattle.usi.proofs.Usi.write_word.Statement.{statement}
+use Rattle.usi.proofs.Usi.write_word.Tie as tie
+
+returns : tie.Need-returns
+unfolding writeWord
+returns c = search branches
+
+cast-write : tie.Need-cast-write
+cast-write c = search needs
+
+write-requires : tie.Need-write-requires
+write-requires c κs = search needs
+
+enum-known-u : tie.Need-enum-known-u
+enum-known-u c = search needs
+
+add-write : tie.Need-add-write
+add-write c = search needs
+
+cast-write-2 : tie.Need-cast-write-2
+cast-write-2 c = search needs
+
+write-requires-2 : tie.Need-write-requires-2
+write-requires-2 c κs = search needs
+
+enum-known-number : tie.Need-enum-known-number
+enum-known-number c = search needs
+
+returns-2 : tie.Need-returns-2
+unfolding writeWord
+returns-2 c =
+    rw (ne-eqb _ _ (c .before .before .before .before .before .if1 .left), ← c .before .before .before .before .write .ensures, c .before .before .u .given .1)
+    (c .write2 .ensures)
+
+returns-3 : tie.Need-returns-3
+unfolding writeWord
+returns-3 c = rw (ne-eqb _ _ (c .before .before .before .before .if1 .left), ← c .before .before .before .write .ensures, c .before .number .given .1)
+
+pub write-word-spec : {M : Type 1} → statement M
+write-word-spec =
+    tie.close
+    (tie.spec
+    returns
+    cast-write
+    write-requires
+    enum-known-u
+    add-write
+    cast-write-2
+    write-requires-2
+    enum-known-number
+    returns-2
+    returns-3)

@@ -1,0 +1,223 @@
+-- The module's state as a value: power-up, one register replaced, the hidden state at rest, and the lines that it drives.
+use Prim.Native.Nat.{ℕ}
+use mathlib.Core.Bool.{Bool, cond, true, false, _&&_, _||_}
+use Rattle.usi_rules.specs.Registers.{USICTL0-powerUp, USICTL1-powerUp, USICKCTL-powerUp, USICNT-powerUp}
+use Rattle.usi_rules.specs.Rules as rules
+use Rattle.usi.specs.declared.Usi.{Usi}
+
+-- Power-up is told the two shift bytes to keep; the hidden state is at rest: latch 1, enable 0, half high, no levels, not caught.
+abbrev pub powerUp : ℕ → ℕ → Usi
+powerUp low high =
+    record {
+      usictl0 = USICTL0-powerUp;
+      usictl1 = USICTL1-powerUp;
+      usickctl = USICKCTL-powerUp;
+      usicnt = USICNT-powerUp;
+      usisrl = low;
+      usisrh = high;
+      latch = true;
+      enable = false;
+      phase = true;
+      seen = false;
+      scl = false;
+      sda = false;
+      stretch = false;
+    }
+
+-- One register replaced.
+abbrev pub withUSICTL0 : ℕ → Usi → Usi
+withUSICTL0 value u =
+    record {
+      usictl0 = value;
+      usictl1 = u .usictl1;
+      usickctl = u .usickctl;
+      usicnt = u .usicnt;
+      usisrl = u .usisrl;
+      usisrh = u .usisrh;
+      latch = u .latch;
+      enable = u .enable;
+      phase = u .phase;
+      seen = u .seen;
+      scl = u .scl;
+      sda = u .sda;
+      stretch = u .stretch;
+    }
+
+abbrev pub withUSICTL1 : ℕ → Usi → Usi
+withUSICTL1 value u =
+    record {
+      usictl0 = u .usictl0;
+      usictl1 = value;
+      usickctl = u .usickctl;
+      usicnt = u .usicnt;
+      usisrl = u .usisrl;
+      usisrh = u .usisrh;
+      latch = u .latch;
+      enable = u .enable;
+      phase = u .phase;
+      seen = u .seen;
+      scl = u .scl;
+      sda = u .sda;
+      stretch = u .stretch;
+    }
+
+abbrev pub withUSICKCTL : ℕ → Usi → Usi
+withUSICKCTL value u =
+    record {
+      usictl0 = u .usictl0;
+      usictl1 = u .usictl1;
+      usickctl = value;
+      usicnt = u .usicnt;
+      usisrl = u .usisrl;
+      usisrh = u .usisrh;
+      latch = u .latch;
+      enable = u .enable;
+      phase = u .phase;
+      seen = u .seen;
+      scl = u .scl;
+      sda = u .sda;
+      stretch = u .stretch;
+    }
+
+abbrev pub withUSICNT : ℕ → Usi → Usi
+withUSICNT value u =
+    record {
+      usictl0 = u .usictl0;
+      usictl1 = u .usictl1;
+      usickctl = u .usickctl;
+      usicnt = value;
+      usisrl = u .usisrl;
+      usisrh = u .usisrh;
+      latch = u .latch;
+      enable = u .enable;
+      phase = u .phase;
+      seen = u .seen;
+      scl = u .scl;
+      sda = u .sda;
+      stretch = u .stretch;
+    }
+
+abbrev pub withUSISRL : ℕ → Usi → Usi
+withUSISRL value u =
+    record {
+      usictl0 = u .usictl0;
+      usictl1 = u .usictl1;
+      usickctl = u .usickctl;
+      usicnt = u .usicnt;
+      usisrl = value;
+      usisrh = u .usisrh;
+      latch = u .latch;
+      enable = u .enable;
+      phase = u .phase;
+      seen = u .seen;
+      scl = u .scl;
+      sda = u .sda;
+      stretch = u .stretch;
+    }
+
+abbrev pub withUSISRH : ℕ → Usi → Usi
+withUSISRH value u =
+    record {
+      usictl0 = u .usictl0;
+      usictl1 = u .usictl1;
+      usickctl = u .usickctl;
+      usicnt = u .usicnt;
+      usisrl = u .usisrl;
+      usisrh = value;
+      latch = u .latch;
+      enable = u .enable;
+      phase = u .phase;
+      seen = u .seen;
+      scl = u .scl;
+      sda = u .sda;
+      stretch = u .stretch;
+    }
+
+-- The hidden state at rest, whatever it was.
+abbrev pub atRest : Usi → Usi
+atRest u =
+    record {
+      usictl0 = u .usictl0;
+      usictl1 = u .usictl1;
+      usickctl = u .usickctl;
+      usicnt = u .usicnt;
+      usisrl = u .usisrl;
+      usisrh = u .usisrh;
+      latch = true;
+      enable = false;
+      phase = true;
+      seen = false;
+      scl = false;
+      sda = false;
+      stretch = false;
+    }
+
+-- The output latch and the latched enable replaced.
+abbrev pub withLatch : Bool → Bool → Usi → Usi
+withLatch latch enable u =
+    record {
+      usictl0 = u .usictl0;
+      usictl1 = u .usictl1;
+      usickctl = u .usickctl;
+      usicnt = u .usicnt;
+      usisrl = u .usisrl;
+      usisrh = u .usisrh;
+      latch = latch;
+      enable = enable;
+      phase = u .phase;
+      seen = u .seen;
+      scl = u .scl;
+      sda = u .sda;
+      stretch = u .stretch;
+    }
+
+-- The clock phase (01: clock half) replaced.
+abbrev pub withPhase : Bool → Usi → Usi
+withPhase phase u =
+    record {
+      usictl0 = u .usictl0;
+      usictl1 = u .usictl1;
+      usickctl = u .usickctl;
+      usicnt = u .usicnt;
+      usisrl = u .usisrl;
+      usisrh = u .usisrh;
+      latch = u .latch;
+      enable = u .enable;
+      phase = phase;
+      seen = u .seen;
+      scl = u .scl;
+      sda = u .sda;
+      stretch = u .stretch;
+    }
+
+-- The levels last seen and the stretch (01: caught) replaced.
+abbrev pub withLevels : Bool → Bool → Bool → Usi → Usi
+withLevels scl sda stretch u =
+    record {
+      usictl0 = u .usictl0;
+      usictl1 = u .usictl1;
+      usickctl = u .usickctl;
+      usicnt = u .usicnt;
+      usisrl = u .usisrl;
+      usisrh = u .usisrh;
+      latch = u .latch;
+      enable = u .enable;
+      phase = u .phase;
+      seen = true;
+      scl = scl;
+      sda = sda;
+      stretch = stretch;
+    }
+
+-- The set-up fits.
+abbrev pub fits : Usi → Bool
+fits u = rules.fits (u .usictl0) (u .usictl1) (u .usickctl) (u .usicnt)
+
+-- Lines: SDA and SCL pulled low; both released while the set-up doesn't fit.
+abbrev pub pullsSda : Usi → Bool
+pullsSda u = rules.pullsSda (fits u) (u .enable) (u .latch)
+
+abbrev pub pullsScl : Usi → Bool
+pullsScl u =
+    fits u
+    && (rules.drives (u .usictl0) (u .usictl1) (u .phase) || rules.holds (u .usictl1) (u .usicnt) (u .stretch))

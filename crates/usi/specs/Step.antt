@@ -1,0 +1,145 @@
+-- The three kinds of step, register access and their answers: 01's rules composed over the module.
+use Prim.Native.Nat.{ℕ, _+_, _*_, _/_, _%_}
+use mathlib.Core.Bool.{Bool, cond, true, false, not, _&&_}
+use lib.Dec.{eqb, ltb}
+use Rattle.bits.specs.Positions.{isSet}
+use Rattle.usi_rules.specs.Registers.{USICTL0, USICTL1, USICKCTL, USICNT, USISRL, USISRH}
+use Rattle.usi_rules.specs.Rules as rules
+use Rattle.usi.specs.declared.Usi.{Usi}
+use Rattle.usi.specs.declared.Step.{Step}
+use Rattle.usi.specs.declared.Step.the-variants.{Next, Refused}
+use Rattle.usi.specs.declared.Read.{Read}
+use Rattle.usi.specs.declared.Read.the-variants.{Value, Refused as NoValue}
+use Rattle.usi.specs.Module.{withUSICTL0, withUSICTL1, withUSICKCTL, withUSICNT, withUSISRL, withUSISRH, withLatch, withPhase, withLevels, atRest, fits}
+
+-- 01's number for each answer of a step (0: not refused), and the module that it hands back.
+abbrev pub refusal : Step → ℕ
+refusal (Next u) = 0
+refusal (Refused number u) = number
+
+abbrev pub moduleOf : Step → Usi
+moduleOf (Next u) = u
+moduleOf (Refused number u) = u
+
+-- 01's number and value for each answer of a read.
+abbrev pub readRefusal : Read → ℕ
+readRefusal (Value v) = 0
+readRefusal (NoValue number) = number
+
+abbrev pub valueOf : Read → ℕ
+valueOf (Value v) = v
+valueOf (NoValue number) = 0
+
+-- The step that follows, unless this one was refused.
+abbrev pub andThen : Step → (Usi → Step) → Step
+andThen (Next u) next = next u
+andThen (Refused number u) next = Refused number u
+
+-- The latch takes bit 7 of USISRL, and the enable takes OE.
+abbrev pub latched : Usi → Usi
+latched u = withLatch (rules.firstBit (u .usisrl)) (rules.outputEnable (u .usictl0)) u
+
+-- GE=1: after each step on a fitting set-up the latch and the enable follow.
+unfoldable pub followed : Usi → Usi
+followed u = cond (rules.transparent (u .usictl0)) (latched u) u
+
+-- While the set-up doesn't fit the hidden state rests.
+unfoldable pub settled : Usi → Usi
+settled u = cond (fits u) (followed u) (atRest u)
+
+-- Register read; refusal 1 outside 078h to 07Dh.
+unfoldable pub readByte : Usi → ℕ → Read
+readByte u address =
+    cond (eqb address USICTL0) (Value (u .usictl0))
+    (cond (eqb address USICTL1) (Value (u .usictl1))
+    (cond (eqb address USICKCTL) (Value (u .usickctl))
+    (cond (eqb address USICNT) (Value (u .usicnt))
+    (cond (eqb address USISRL) (Value (u .usisrl))
+    (cond (eqb address USISRH) (Value (u .usisrh))
+    (NoValue 1))))))
+
+-- Register write; a write to USICNT acts on the flags of USICTL1 too.
+unfoldable pub writeByte : Usi → ℕ → ℕ → Step
+writeByte u address value =
+    cond (eqb address USICTL0) (Next (settled (withUSICTL0 value u)))
+    (cond (eqb address USICTL1) (Next (settled (withUSICTL1 value u)))
+    (cond (eqb address USICKCTL) (Next (settled (withUSICKCTL value u)))
+    (cond (eqb address USICNT)
+    (Next (settled (withUSICNT value (withUSICTL1 (rules.countFlags (u .usictl1) value) u))))
+    (cond (eqb address USISRL) (Next (settled (withUSISRL value u)))
+    (cond (eqb address USISRH) (Next (settled (withUSISRH value u)))
+    (Refused 1 u))))))
+
+-- A word takes an even address (else 2), low byte there, high byte after it; a write is the low byte's, then the high byte's.
+abbrev pub odd : ℕ → Bool
+odd address = eqb (address % 2) 1
+
+-- the word of two byte reads
+abbrev pub joined : Read → Read → Read
+joined (Value low) (Value high) = Value (low + 256 * high)
+joined (Value low) (NoValue number) = NoValue number
+joined (NoValue number) high = NoValue number
+
+unfoldable pub readWord : Usi → ℕ → Read
+readWord u address = cond (odd address) (NoValue 2) (joined (readByte u address) (readByte u (address + 1)))
+
+unfoldable pub writeWord : Usi → ℕ → ℕ → Step
+writeWord u address value =
+    cond (odd address) (Refused 2 u)
+    (andThen (writeByte u address (value % 256)) (λ v. writeByte v (address + 1) (value / 256)))
+
+-- START and STOP of a sample, on the flags and SCLREL.
+abbrev pub conditioned : Bool → Bool → Usi → Usi
+conditioned scl sda u =
+    withUSICTL1
+    (rules.conditionFlags (u .usictl1) (rules.start (u .scl) (u .sda) scl sda) (rules.stop (u .scl) (u .sda) scl sda))
+    (withUSICNT (rules.conditionCount (u .usicnt) (rules.start (u .scl) (u .sda) scl sda)) u)
+
+-- SCL rises, CNT>0: arbitration first.
+abbrev pub arbitrated : Bool → Usi → Usi
+arbitrated lost u =
+    withUSICTL1 (rules.lossFlags (u .usictl1) lost)
+    (withUSICTL0 (rules.lossControl (u .usictl0) lost) (withLatch (u .latch) (u .enable && not lost) u))
+
+-- Then the bit is taken.
+abbrev pub clocked : Bool → Usi → Usi
+clocked sda u =
+    withUSICTL1 (rules.endFlags (u .usictl1) (u .usicnt))
+    (withUSICNT (rules.countDown (u .usicnt)) (withUSISRL (rules.shifted (u .usisrl) sda) u))
+
+abbrev pub bitTaken : Bool → Usi → Usi
+bitTaken sda u = clocked sda (arbitrated (rules.loses (u .usictl0) (u .enable) (u .latch) sda) u)
+
+unfoldable pub risen : Bool → Bool → Usi → Usi
+risen scl sda u = cond (rules.takesBit (u .scl) scl (u .usicnt)) (bitTaken sda u) u
+
+-- SCL falls: the latch may take the next bit.
+unfoldable pub fallen : Bool → Usi → Usi
+fallen scl u =
+    cond (rules.falls (u .scl) scl) (cond (rules.movesLatch (u .usictl0) (u .usicnt)) (latched u) u) u
+
+-- The levels are remembered; caught or not.
+abbrev pub recorded : Bool → Bool → Usi → Usi
+recorded scl sda u =
+    withLevels scl sda (rules.stretchAfter (u .stretch) (u .seen && rules.falls (u .scl) scl) (u .phase) scl) u
+
+-- With no levels remembered, a sample only records.
+unfoldable pub edged : Bool → Bool → Usi → Usi
+edged scl sda u = cond (u .seen) (fallen scl (risen scl sda (conditioned scl sda u))) u
+
+abbrev pub sampled : Bool → Bool → Usi → Usi
+sampled scl sda u = followed (recorded scl sda (edged scl sda u))
+
+-- Sample: the level byte is SCL + 2·SDA. Refusals 4, 3.
+unfoldable pub sample : Usi → ℕ → Step
+sample u level =
+    cond (ltb 3 level) (Refused 4 u)
+    (cond (fits u) (Next (sampled (isSet 0 level) (isSet 1 level) u)) (Refused 3 u))
+
+-- Tick. Refusal 3.
+abbrev pub ticked : Usi → Usi
+ticked u =
+    followed (withPhase (rules.phaseAfter (rules.clocks (u .usictl0) (u .usictl1) (u .usicnt)) (u .phase) (u .seen) (u .scl)) u)
+
+unfoldable pub tick : Usi → Step
+tick u = cond (fits u) (Next (ticked u)) (Refused 3 u)

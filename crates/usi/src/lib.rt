@@ -1,0 +1,386 @@
+// The USI module in I2C mode: six register bytes and a hidden state, stepped by writes, samples and ticks.
+ghost use mathlib.Core.Path.{_≡_};
+ghost use Prim.Native.Nat.{_+_, _*_};
+ghost use Rattle.usi.specs.Module.{powerUp, atRest, fits as fitsRule, pullsSda, pullsScl};
+ghost use Rattle.usi.specs.Step.{refusal as refusalOf, moduleOf, latched as latchedRule, followed as followedRule, settled as settledRule, readByte, writeByte, readWord, writeWord, conditioned as conditionedRule, arbitrated as arbitratedRule, clocked as clockedRule, bitTaken, risen as risenRule, fallen as fallenRule, recorded as recordedRule, edged as edgedRule, sampled as sampledRule, sample as sampleRule, ticked as tickedRule, tick as tickRule};
+
+pub struct Usi {
+    pub usictl0: u8,
+    pub usictl1: u8,
+    pub usickctl: u8,
+    pub usicnt: u8,
+    pub usisrl: u8,
+    pub usisrh: u8,
+    // the output latch and the latched output enable
+    pub latch: bool,
+    pub enable: bool,
+    // the clock phase, true when high (01: clock half)
+    pub phase: bool,
+    // whether levels are remembered, and the levels last seen
+    pub seen: bool,
+    pub scl: bool,
+    pub sda: bool,
+    // SCL was pulled low by another and is low still (01: caught)
+    pub stretch: bool,
+}
+
+// What a step answers: the next module, or a refusal's number with the module as it was.
+pub enum Step {
+    Next(Usi),
+    Refused(u8, Usi),
+}
+
+// What a read answers: the byte or word, or a refusal's number.
+pub enum Read {
+    Value(u16),
+    Refused(u8),
+}
+
+impl Step {
+    // The refusal's number; 0: not refused.
+    pub fn refusal(self) -> u8
+        ensures { λ r. ⌜ r ≡ refusalOf self ⌝ }
+    {
+        match self {
+            Step::Next(_) => 0,
+            Step::Refused(number, _) => number,
+        }
+    }
+
+    // The module that the step hands back.
+    pub fn module(self) -> Usi
+        ensures { λ r. ⌜ r ≡ moduleOf self ⌝ }
+    {
+        match self {
+            Step::Next(u) => u,
+            Step::Refused(_, u) => u,
+        }
+    }
+}
+
+impl Usi {
+    pub const USICTL0: u16 = 0x078;
+
+    pub const USICTL1: u16 = 0x079;
+
+    pub const USICKCTL: u16 = 0x07a;
+
+    pub const USICNT: u16 = 0x07b;
+
+    pub const USISRL: u16 = 0x07c;
+
+    pub const USISRH: u16 = 0x07d;
+
+    pub const USICTL0_POWER_UP: u8 = 0x01;
+
+    pub const USICTL1_POWER_UP: u8 = 0x01;
+
+    pub const USICKCTL_POWER_UP: u8 = 0x00;
+
+    pub const USICNT_POWER_UP: u8 = 0x00;
+
+    // The module after power-up, which keeps the two shift bytes.
+    pub fn power_up(low: u8, high: u8) -> Usi
+        ensures { λ r. ⌜ r ≡ powerUp low high ⌝ }
+    {
+        Usi {
+            usictl0: Usi::USICTL0_POWER_UP,
+            usictl1: Usi::USICTL1_POWER_UP,
+            usickctl: Usi::USICKCTL_POWER_UP,
+            usicnt: Usi::USICNT_POWER_UP,
+            usisrl: low,
+            usisrh: high,
+            latch: true,
+            enable: false,
+            phase: true,
+            seen: false,
+            scl: false,
+            sda: false,
+            stretch: false,
+        }
+    }
+
+    // The set-up fits I2C mode.
+    pub fn fits(self) -> bool
+        ensures { λ r. ⌜ r ≡ fitsRule self ⌝ }
+    {
+        usi_rules::fits(self.usictl0, self.usictl1, self.usickctl, self.usicnt)
+    }
+
+    // The hidden state at rest.
+    fn at_rest(mut self) -> Usi
+        ensures { λ r. ⌜ r ≡ atRest self ⌝ }
+    {
+        self.latch = true;
+        self.enable = false;
+        self.phase = true;
+        self.seen = false;
+        self.scl = false;
+        self.sda = false;
+        self.stretch = false;
+        self
+    }
+
+    // The latch takes the next bit to send, and the enable takes OE.
+    fn latched(mut self) -> Usi
+        ensures { λ r. ⌜ r ≡ latchedRule self ⌝ }
+    {
+        let latch = usi_rules::first_bit(self.usisrl);
+        let enable = usi_rules::output_enable(self.usictl0);
+        self.latch = latch;
+        self.enable = enable;
+        self
+    }
+
+    // With GE=1 the latch follows.
+    fn followed(self) -> Usi
+        ensures { λ r. ⌜ r ≡ followedRule self ⌝ }
+    {
+        if usi_rules::transparent(self.usictl0) {
+            return self.latched();
+        }
+        self
+    }
+
+    // The hidden state after a write.
+    fn settled(self) -> Usi
+        ensures { λ r. ⌜ r ≡ settledRule self ⌝ }
+    {
+        if self.fits() {
+            return self.followed();
+        }
+        self.at_rest()
+    }
+
+    // A register's byte.
+    pub fn read(self, address: u16) -> Read
+        ensures { λ r. ⌜ r ≡ readByte self address ⌝ }
+    {
+        match address {
+            Usi::USICTL0 => Read::Value(self.usictl0 as u16),
+            Usi::USICTL1 => Read::Value(self.usictl1 as u16),
+            Usi::USICKCTL => Read::Value(self.usickctl as u16),
+            Usi::USICNT => Read::Value(self.usicnt as u16),
+            Usi::USISRL => Read::Value(self.usisrl as u16),
+            Usi::USISRH => Read::Value(self.usisrh as u16),
+            _ => Read::Refused(1),
+        }
+    }
+
+    // Two registers as a word, low byte at an even address.
+    pub fn read_word(self, address: u16) -> Read
+        ensures { λ r. ⌜ r ≡ readWord self address ⌝ }
+    {
+        if address % 2 == 1 {
+            return Read::Refused(2);
+        }
+        match address {
+            Usi::USICTL0 => Read::Value(Usi::word(self.usictl0, self.usictl1)),
+            Usi::USICKCTL => Read::Value(Usi::word(self.usickctl, self.usicnt)),
+            Usi::USISRL => Read::Value(Usi::word(self.usisrl, self.usisrh)),
+            _ => Read::Refused(1),
+        }
+    }
+
+    // Two bytes as a word.
+    fn word(low: u8, high: u8) -> u16
+        ensures { λ r. ⌜ r ≡ low + 256 * high ⌝ }
+    {
+        (low as u16) + 256 * (high as u16)
+    }
+
+    // A byte written to a register.
+    pub fn write(mut self, address: u16, value: u8) -> Step
+        ensures { λ r. ⌜ r ≡ writeByte self address value ⌝ }
+    {
+        match address {
+            Usi::USICTL0 => {
+                self.usictl0 = value;
+                Step::Next(self.settled())
+            }
+            Usi::USICTL1 => {
+                self.usictl1 = value;
+                Step::Next(self.settled())
+            }
+            Usi::USICKCTL => {
+                self.usickctl = value;
+                Step::Next(self.settled())
+            }
+            Usi::USICNT => {
+                self.usictl1 = usi_rules::count_flags(self.usictl1, value);
+                self.usicnt = value;
+                Step::Next(self.settled())
+            }
+            Usi::USISRL => {
+                self.usisrl = value;
+                Step::Next(self.settled())
+            }
+            Usi::USISRH => {
+                self.usisrh = value;
+                Step::Next(self.settled())
+            }
+            _ => Step::Refused(1, self),
+        }
+    }
+
+    // A word written: the low byte's write, then the high byte's.
+    pub fn write_word(self, address: u16, value: u16) -> Step
+        ensures { λ r. ⌜ r ≡ writeWord self address value ⌝ }
+    {
+        if address % 2 == 1 {
+            return Step::Refused(2, self);
+        }
+        match self.write(address, (value % 256) as u8) {
+            Step::Next(u) => u.write(address + 1, (value / 256) as u8),
+            Step::Refused(number, u) => Step::Refused(number, u),
+        }
+    }
+
+    // START and STOP.
+    fn conditioned(mut self, scl: bool, sda: bool) -> Usi
+        ensures { λ r. ⌜ r ≡ conditionedRule scl sda self ⌝ }
+    {
+        let started = usi_rules::start(self.scl, self.sda, scl, sda);
+        let stopped = usi_rules::stop(self.scl, self.sda, scl, sda);
+        let flags = usi_rules::condition_flags(self.usictl1, started, stopped);
+        let count = usi_rules::condition_count(self.usicnt, started);
+        self.usictl1 = flags;
+        self.usicnt = count;
+        self
+    }
+
+    // Arbitration at one bit.
+    fn arbitrated(mut self, lost: bool) -> Usi
+        ensures { λ r. ⌜ r ≡ arbitratedRule lost self ⌝ }
+    {
+        let flags = usi_rules::loss_flags(self.usictl1, lost);
+        let control = usi_rules::loss_control(self.usictl0, lost);
+        self.usictl1 = flags;
+        self.usictl0 = control;
+        self.enable = self.enable & !lost;
+        self
+    }
+
+    // A bit enters the shift register and is counted.
+    fn clocked(mut self, sda: bool) -> Usi
+        ensures { λ r. ⌜ r ≡ clockedRule sda self ⌝ }
+    {
+        let flags = usi_rules::end_flags(self.usictl1, self.usicnt);
+        let count = usi_rules::count_down(self.usicnt);
+        let low = usi_rules::shifted(self.usisrl, sda);
+        self.usictl1 = flags;
+        self.usicnt = count;
+        self.usisrl = low;
+        self
+    }
+
+    // One bit: arbitration, then the shift.
+    fn bit_taken(self, sda: bool) -> Usi
+        ensures { λ r. ⌜ r ≡ bitTaken sda self ⌝ }
+    {
+        let lost = usi_rules::loses(self.usictl0, self.enable, self.latch, sda);
+        self.arbitrated(lost).clocked(sda)
+    }
+
+    // SCL rises.
+    fn risen(self, scl: bool, sda: bool) -> Usi
+        ensures { λ r. ⌜ r ≡ risenRule scl sda self ⌝ }
+    {
+        if usi_rules::takes_bit(self.scl, scl, self.usicnt) {
+            return self.bit_taken(sda);
+        }
+        self
+    }
+
+    // SCL falls.
+    fn fallen(self, scl: bool) -> Usi
+        ensures { λ r. ⌜ r ≡ fallenRule scl self ⌝ }
+    {
+        if !usi_rules::falls(self.scl, scl) {
+            return self;
+        }
+        if usi_rules::moves_latch(self.usictl0, self.usicnt) {
+            return self.latched();
+        }
+        self
+    }
+
+    // The levels are remembered.
+    fn recorded(mut self, scl: bool, sda: bool) -> Usi
+        ensures { λ r. ⌜ r ≡ recordedRule scl sda self ⌝ }
+    {
+        let fell = self.seen & usi_rules::falls(self.scl, scl);
+        let stretch = usi_rules::stretch_after(self.stretch, fell, self.phase, scl);
+        self.seen = true;
+        self.scl = scl;
+        self.sda = sda;
+        self.stretch = stretch;
+        self
+    }
+
+    // What the lines did since the last sample.
+    fn edged(self, scl: bool, sda: bool) -> Usi
+        ensures { λ r. ⌜ r ≡ edgedRule scl sda self ⌝ }
+    {
+        if self.seen {
+            return self.conditioned(scl, sda).risen(scl, sda).fallen(scl);
+        }
+        self
+    }
+
+    fn sampled(self, scl: bool, sda: bool) -> Usi
+        ensures { λ r. ⌜ r ≡ sampledRule scl sda self ⌝ }
+    {
+        self.edged(scl, sda).recorded(scl, sda).followed()
+    }
+
+    // A sample of both lines: SCL + 2 SDA.
+    pub fn sample(self, level: u8) -> Step
+        ensures { λ r. ⌜ r ≡ sampleRule self level ⌝ }
+    {
+        if level > 3 {
+            return Step::Refused(4, self);
+        }
+        if !self.fits() {
+            return Step::Refused(3, self);
+        }
+        let scl = bits::is_set(level, 0);
+        let sda = bits::is_set(level, 1);
+        Step::Next(self.sampled(scl, sda))
+    }
+
+    fn ticked(mut self) -> Usi
+        ensures { λ r. ⌜ r ≡ tickedRule self ⌝ }
+    {
+        let clocking = usi_rules::clocks(self.usictl0, self.usictl1, self.usicnt);
+        let phase = usi_rules::phase_after(clocking, self.phase, self.seen, self.scl);
+        self.phase = phase;
+        self.followed()
+    }
+
+    // A tick of the module's clock.
+    pub fn tick(self) -> Step
+        ensures { λ r. ⌜ r ≡ tickRule self ⌝ }
+    {
+        if !self.fits() {
+            return Step::Refused(3, self);
+        }
+        Step::Next(self.ticked())
+    }
+
+    // Whether the module pulls SDA low.
+    pub fn pulls_sda(self) -> bool
+        ensures { λ r. ⌜ r ≡ pullsSda self ⌝ }
+    {
+        usi_rules::pulls_sda(self.fits(), self.enable, self.latch)
+    }
+
+    // Whether the module pulls SCL low.
+    pub fn pulls_scl(self) -> bool
+        ensures { λ r. ⌜ r ≡ pullsScl self ⌝ }
+    {
+        let driven = usi_rules::drives(self.usictl0, self.usictl1, self.phase);
+        let held = usi_rules::holds(self.usictl1, self.usicnt, self.stretch);
+        self.fits() & (driven | held)
+    }
+}
