@@ -1,4 +1,3 @@
-pub mod Picks
 pub mod Runs
 pub mod Reading
 pub mod Putting

@@ -66,12 +66,17 @@ module _ (old : List ℕ) (at : ℕ) where
       ∙ sym (ap (sets old at) e ∙ sets-append s t old at))
       (omega (arith, p .moved, q .moved))
 
+  pub put-next : {s t mid new : List ℕ} {next end : ℕ}
+      → Put old at s mid next → Put mid next t new end → Put old at (s ++ t) new end
+  put-next p q = put-then _ _ _ refl p q
+
   pub put-none : (next : ℕ) → next ≡ min at (length old) → Put old at [] old next
   put-none next m = put-holds [] old next refl (omega arith)
 
   -- the text byte by byte: one byte more
   pub put-more : (text : List ℕ) (i : ℕ) {mid new : List ℕ} {next end : ℕ} → i < length text
-      → Put old at (take i text) mid next → Put mid next (getD text i 0 ∷ []) new end → Put old at (take (i + 1) text) new end
+      → Put old at (take i text) mid next → Put mid next (getD text i 0 ∷ []) new end
+      → Put old at (take (i + 1) text) new end
   put-more text i h p q =
       put-then (take (i + 1) text) (take i text) (getD text i 0 ∷ []) (rw add-one (take-suc text i 0 h)) p q
 

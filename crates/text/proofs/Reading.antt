@@ -56,11 +56,14 @@ module _ (base : ℕ) (s : List ℕ) where
   unfolding allDigits
   passed-next i b h t = rw (drop-cons s i 0, t, add-one)
 
-  pub passed-more : (i d : ℕ) → d ≡ digitValue (getD s i 0) → Passed base s i → i < length s → d < base → Passed base s (i + 1)
+  pub passed-more : (i d : ℕ) → d ≡ digitValue (getD s i 0) → Passed base s i → i < length s → d < base
+      → Passed base s (i + 1)
   passed-more i d e p h small =
-      record { within = omega arith; same = p .same ∙ passed-next i true h (lt-ltb _ base (subst (λ (x : ℕ). x < base) e small)) }
+      let digit = lt-ltb _ base (subst (λ (x : ℕ). x < base) e small) in
+      record { within = omega arith; same = p .same ∙ passed-next i true h digit }
 
-  pub passed-stop : (i d : ℕ) → d ≡ digitValue (getD s i 0) → Passed base s i → i < length s → base ≤ d → false ≡ allDigits base s
+  pub passed-stop : (i d : ℕ) → d ≡ digitValue (getD s i 0) → Passed base s i → i < length s → base ≤ d
+      → false ≡ allDigits base s
   passed-stop i d e p h large =
       sym (p .same ∙ passed-next i false h (le-ltb _ base (subst (λ (x : ℕ). base ≤ x) e large)))
 
@@ -71,8 +74,8 @@ module _ (base : ℕ) (s : List ℕ) where
   pub spelled-none : Spelled base s 0 0
   spelled-none = record { within = omega arith; small = omega arith; same = refl }
 
-  pub spelled-more : (v i d : ℕ) → d ≡ digitValue (getD s i 0) → Spelled base s v i → i < length s → v * base + d < 2 ^ 64
-      → Spelled base s (v * base + d) (i + 1)
+  pub spelled-more : (v i d : ℕ) → d ≡ digitValue (getD s i 0) → Spelled base s v i → i < length s
+      → v * base + d < 2 ^ 64 → Spelled base s (v * base + d) (i + 1)
   unfolding valueAfter
   spelled-more v i d e p h small =
       record { within = omega arith; small = small; same = p .same ∙ rw (drop-cons s i 0, e, add-one) }
@@ -92,8 +95,9 @@ module _ (base : ℕ) (s : List ℕ) where
       → 2 ^ 64 ≤ v * base + d → TooLarge ≡ fitting (valueOf base s)
   unfolding fitting valueAfter
   spelled-large v i d e p h pos large =
-      let read : valueOf base s ≡ valueAfter base (v * base + d) (drop (suc i) s) = p .same ∙ rw (drop-cons s i 0, e) in
-      let past : 2 ^ 64 ≤ valueOf base s = omega (arith, grows (v * base + d) (drop (suc i) s) pos) in
+      let rest = drop (suc i) s in
+      let read : valueOf base s ≡ valueAfter base (v * base + d) rest = p .same ∙ rw (drop-cons s i 0, e) in
+      let past : 2 ^ 64 ≤ valueOf base s = omega (arith, grows (v * base + d) rest pos) in
       rw (le-ltb (valueOf base s) (2 ^ 64) past)
 
   pub number-empty : length s ≡ 0 → Bad ≡ numberIn base s

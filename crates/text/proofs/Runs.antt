@@ -5,9 +5,10 @@ use mathlib.Core.List.{List, [], _∷_}
 use Prim.Native.Nat.{ℕ, suc, _+_, _-_, _≤_, _<_}
 use native.Mathlib.Numerals.{add-one}
 use native.Mathlib.Omega.{arith}
-use lib.ListN.{length, getD, take, drop, length-drop, drop-of-length-le}
+use lib.ListN.{length, getD, take, drop, length-take, length-drop, drop-of-length-le}
 use lib.Seq.{drop-cons, take-all}
-use Rattle.text.specs.Words.{runLength}
+use Rattle.text.specs.declared.words.Run.the-variants.{Line, Blanks, Word}
+use Rattle.text.specs.Words.{belongs, runLength, afterLine, firstWord, afterWord}
 
 module _ (test : ℕ → Bool) where
   -- the run from byte i on goes by whether byte i belongs to it
@@ -58,3 +59,13 @@ pub past-last : (n k : ℕ) (l : List ℕ) → n ≡ k → length l ≤ n → ta
 past-last n k l e h =
     let past : length l ≤ suc k = omega arith in
     to-end n l ∙ drop-of-length-le l h ∙ sym (drop-of-length-le l past)
+
+-- a loop that goes from line to line, or from word to word, ends
+pub after-line-shorter : (t : List ℕ) → 0 < length t → length (afterLine t) < length t
+after-line-shorter t h = omega (arith, length-drop (suc (runLength (belongs Line) t)) t)
+
+pub after-word-shorter : (l : List ℕ) → 0 < length (firstWord l) → length (afterWord l) < length l
+after-word-shorter l h =
+    let blanks = runLength (belongs Blanks) l in
+    let word = runLength (belongs Word) (drop blanks l) in
+    omega (arith, length-drop blanks l, length-drop word (drop blanks l), length-take word (drop blanks l))

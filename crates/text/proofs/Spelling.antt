@@ -19,18 +19,21 @@ unfolding decimalUpTo
 decimal-enough zero k n h g = absurd (omega arith)
 decimal-enough (suc j) zero n h g = absurd (omega arith)
 decimal-enough (suc j) (suc k) n h g =
-    other-same (ltb n 10) _ _ _
+    ap
+    (λ (front : List ℕ). front ++ (digitByte (n % 10) ∷ []))
+    (other-same (ltb n 10) _ _ _
     (λ e.
-    let big : 10 ≤ n = ltb-false n 10 e in
+    let large : 10 ≤ n = ltb-false n 10 e in
     let less-j : n / 10 < j = omega arith in
     let less-k : n / 10 < k = omega arith in
-    ap (λ (l : List ℕ). l ++ (digitByte (n % 10) ∷ [])) (decimal-enough j k (n / 10) less-j less-k))
+    decimal-enough j k (n / 10) less-j less-k))
 
 pub decimal-one : (n last : ℕ) → last ≡ digitByte (n % 10) → n < 10 → decimalText n ≡ last ∷ []
 unfolding decimalUpTo
 decimal-one n last e h = rw (lt-ltb n 10 h, e)
 
-pub decimal-more : (n last : ℕ) → last ≡ digitByte (n % 10) → 10 ≤ n → decimalText n ≡ decimalText (n / 10) ++ (last ∷ [])
+pub decimal-more : (n last : ℕ) → last ≡ digitByte (n % 10) → 10 ≤ n
+    → decimalText n ≡ decimalText (n / 10) ++ (last ∷ [])
 unfolding decimalUpTo
 decimal-more n last e h =
     let less : n / 10 < n = omega arith in

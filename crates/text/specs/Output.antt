@@ -7,8 +7,8 @@ use lib.Dec.{ltb}
 use lib.ListN.{length, take}
 use lib.Seq.{sets}
 
--- `new` is the buffer `old` with `text` stored from position `at` on, as far as the buffer goes, and `next` the position
--- after it, at most the buffer's length. The last two follow: with them `&new[..next]` needs no proof of the caller.
+-- `new` is the buffer `old` with `text` stored from position `at` on, as far as the buffer goes, and `next` the
+-- position after it, at most the buffer's length. The last two follow from these: `&new[..next]` asks for them.
 pub record Put (old : List ℕ) (at : ℕ) (text : List ℕ) (new : List ℕ) (next : ℕ) : Type 0 where
   pub stored : new ≡ sets old at text
   pub moved : next ≡ min (at + length text) (length old)
@@ -22,7 +22,7 @@ digitByte d = cond (ltb d 10) (48 + d) (65 + d - 10)
 -- the digits of n in base 10, the most significant first, at most so many
 unfoldable pub decimalUpTo : ℕ → ℕ → List ℕ
 decimalUpTo zero n = []
-decimalUpTo (suc most) n = cond (ltb n 10) (digitByte (n % 10) ∷ []) (decimalUpTo most (n / 10) ++ (digitByte (n % 10) ∷ []))
+decimalUpTo (suc most) n = cond (ltb n 10) [] (decimalUpTo most (n / 10)) ++ (digitByte (n % 10) ∷ [])
 
 -- n in decimal: it has no more than n + 1 digits
 abbrev pub decimalText : ℕ → List ℕ

@@ -2,7 +2,8 @@
 ghost use mathlib.Core.Path.{_≡_};
 ghost use Prim.Native.Nat.{_≤_};
 ghost use lib.ListN.{length};
-ghost use Rattle.text.specs.Words.{blank, belongs, runLength, firstLine, afterLine, fromWord, firstWord, afterWord};
+ghost use Rattle.text.specs.Words.{blank, belongs, runLength};
+ghost use Rattle.text.specs.Words.{firstLine, afterLine, fromWord, firstWord, afterWord};
 
 const SPACE: u8 = 0x20;
 
@@ -51,48 +52,48 @@ fn run_length(s: &[u8], run: Run) -> usize
     i
 }
 
-// The text up to its first line end, which is not part of it.
+// The text up to its first newline, which is not part of it.
 pub fn first_line(text: &[u8]) -> &[u8]
     ensures { λ r. ⌜ now r ≡ firstLine (now (text .entry)) ⌝ }
 {
-    let n = run_length(text, Run::Line);
-    &text[..n]
+    let length = run_length(text, Run::Line);
+    &text[..length]
 }
 
-// The text past its first line end, nothing where there is none.
+// The text past its first newline, empty where there is none.
 pub fn after_line(text: &[u8]) -> &[u8]
     ensures { λ r. ⌜ now r ≡ afterLine (now (text .entry)) ⌝ }
 {
-    let n = run_length(text, Run::Line);
-    if n < text.len() {
-        let from = n + 1;
-        return &text[from..];
+    let end = run_length(text, Run::Line);
+    if end < text.len() {
+        let next = end + 1;
+        return &text[next..];
     }
-    &text[n..]
+    &text[end..]
 }
 
 // A line from its first byte that is no blank.
 fn from_word(line: &[u8]) -> &[u8]
     ensures { λ r. ⌜ now r ≡ fromWord (now (line .entry)) ⌝ }
 {
-    let n = run_length(line, Run::Blanks);
-    &line[n..]
+    let start = run_length(line, Run::Blanks);
+    &line[start..]
 }
 
-// The first word of a line: empty where the line has none.
+// The first word of a line, empty where the line has none.
 pub fn first_word(line: &[u8]) -> &[u8]
     ensures { λ r. ⌜ now r ≡ firstWord (now (line .entry)) ⌝ }
 {
-    let rest = from_word(line);
-    let n = run_length(rest, Run::Word);
-    &rest[..n]
+    let word = from_word(line);
+    let length = run_length(word, Run::Word);
+    &word[..length]
 }
 
 // What follows the first word of a line.
 pub fn after_word(line: &[u8]) -> &[u8]
     ensures { λ r. ⌜ now r ≡ afterWord (now (line .entry)) ⌝ }
 {
-    let rest = from_word(line);
-    let n = run_length(rest, Run::Word);
-    &rest[n..]
+    let word = from_word(line);
+    let end = run_length(word, Run::Word);
+    &word[end..]
 }

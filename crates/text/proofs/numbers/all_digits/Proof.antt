@@ -22,7 +22,9 @@ digit-wide-requires : tie.Need-digit-wide-requires Inv-loop μ-loop
 digit-wide-requires c κs = search needs
 
 returns : tie.Need-returns Inv-loop μ-loop
-returns c = passed-stop _ _ _ _ (c .before .digit-wide .ensures) (c .before .before .before .before .loop .inv) (search needs) (c .if1 .taken)
+returns c =
+    let turn = c .before .before .before .before in
+    passed-stop _ _ _ _ (c .before .digit-wide .ensures) (turn .loop .inv) (search needs) (c .if1 .taken)
 
 add-i : tie.Need-add-i Inv-loop μ-loop
 add-i c = search needs
@@ -31,7 +33,9 @@ loop-less : tie.Need-loop-less Inv-loop μ-loop
 loop-less c = search needs
 
 loop-again : tie.Need-loop-again Inv-loop μ-loop
-loop-again c = passed-more _ _ _ _ (c .before .digit-wide .ensures) (c .before .before .before .before .loop .inv) (search needs) (c .if1 .left)
+loop-again c =
+    let turn = c .before .before .before .before in
+    passed-more _ _ _ _ (c .before .digit-wide .ensures) (turn .loop .inv) (search needs) (c .if1 .left)
 
 returns-2 : tie.Need-returns-2 Inv-loop μ-loop
 returns-2 c = passed-all _ _ _ (c .before .loop .inv) (search needs)

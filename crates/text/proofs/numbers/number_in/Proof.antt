@@ -17,7 +17,10 @@ value-requires : tie.Need-value-requires
 value-requires c κs = search needs
 
 returns-3 : tie.Need-returns-3
-returns-3 c = number-good _ _ _ _ (c .before .before .all-digits .ensures) (c .before .if2 .left) (c .before .before .before .if1 .left) (c .value .ensures)
+returns-3 c =
+    let digits = c .before .before in
+    let some = digits .before .if1 .left in
+    number-good _ _ _ _ (digits .all-digits .ensures) (c .before .if2 .left) some (c .value .ensures)
 
 pub number-in-spec : {M : Type 1} → statement M
 number-in-spec =

@@ -4,7 +4,8 @@ use borrow.Author.Needs.{needs, fits-under}
 use native.Mathlib.Omega.{arith}
 use lib.ListN.{length}
 use mir.Syntax.{w64}
-use Rattle.text.proofs.Reading.{Spelled, spelled-none, spelled-more, spelled-all, spelled-large, one-more, one-too-many}
+use Rattle.text.proofs.Reading.{one-more, one-too-many}
+use Rattle.text.proofs.Reading.{Spelled, spelled-none, spelled-more, spelled-all, spelled-large}
 use Rattle.text.proofs.numbers.value.Statement.{statement}
 use Rattle.text.proofs.numbers.value.Tie as tie
 
@@ -33,13 +34,20 @@ div-if1 c = search needs
 fits : (c : tie.Else1 Inv-loop μ-loop)
     → c .before .before .before .before .loop .v * c .before .before .before .before .before .before .args .base
     + c .before .digit-wide .result < 2 ^ 64
-fits c = omega (arith, one-more _ _ _ _ (c .if1 .left) (c .before .before .before .before .before .before .pre) (search needs))
+fits c =
+    let base-positive = c .before .before .before .before .before .before .pre in
+    omega (arith, one-more _ _ _ _ (c .if1 .left) base-positive (search needs))
 
 returns : tie.Need-returns Inv-loop μ-loop
 returns c =
     let turn = c .before .before .before .before in
     let large = one-too-many _ _ _ _ (c .if1 .taken) (search needs) in
-    spelled-large _ _ _ _ _ (c .before .digit-wide .ensures) (turn .loop .inv) (search needs) (search needs) (omega (arith, large))
+    spelled-large _ _ _ _ _
+    (c .before .digit-wide .ensures)
+    (turn .loop .inv)
+    (search needs)
+    (search needs)
+    (omega (arith, large))
 
 mul-v : tie.Need-mul-v Inv-loop μ-loop
 mul-v c = fits-under w64 _ (2 ^ 64) (omega (arith, fits c)) tt
@@ -54,7 +62,9 @@ loop-less : tie.Need-loop-less Inv-loop μ-loop
 loop-less c = search needs
 
 loop-again : tie.Need-loop-again Inv-loop μ-loop
-loop-again c = spelled-more _ _ _ _ _ (c .before .digit-wide .ensures) (c .before .before .before .before .loop .inv) (search needs) (fits c)
+loop-again c =
+    let turn = c .before .before .before .before in
+    spelled-more _ _ _ _ _ (c .before .digit-wide .ensures) (turn .loop .inv) (search needs) (fits c)
 
 returns-2 : tie.Need-returns-2 Inv-loop μ-loop
 returns-2 c = spelled-all _ _ _ _ (c .before .loop .inv) (search needs)

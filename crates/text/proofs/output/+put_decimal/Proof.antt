@@ -7,63 +7,63 @@ use borrow.Fn.Kinds.{In}
 use borrow.Fn.PlainCycle.{Measures, is, falls, and}
 use Rattle.text.proofs.output.put_decimal.Reads as put-decimal
 use Rattle.text.proofs.output.put_decimal.Kinds as put-decimal-kinds
-use Rattle.text.proofs.output.+put_decimal.Lts-put_decimal as put-decimal-lts
+use Rattle.text.proofs.output.+put_decimal.Lts-put_decimal as lts
 use Rattle.text.proofs.output.digit_byte.Reads as digit-byte-reads
 use Rattle.text.proofs.output.put_byte.Reads as put-byte-reads
 use Rattle.text.proofs.output.+put_decimal.{statement}
 use Rattle.text.proofs.output.+put_decimal.Tie.{close}
 
-abbrev μ-put-decimal : Measures 1 put-decimal-kinds.ps ℕ
-μ-put-decimal κs a = a .1 .1 .0
+abbrev μ : Measures 1 put-decimal-kinds.ps ℕ
+μ κs a = a .1 .1 .0
 
-abbrev put-decimal-at : ℕ → In 1 put-decimal-kinds.ps
-put-decimal-at t =
-    and 1 put-decimal-kinds.ps (is 1 put-decimal-kinds.ps μ-put-decimal t) put-decimal.Pre
+abbrev given : ℕ → In 1 put-decimal-kinds.ps
+given t =
+    and 1 put-decimal-kinds.ps (is 1 put-decimal-kinds.ps μ t) put-decimal.Pre
 
-abbrev put-decimal-below : ℕ → In 1 put-decimal-kinds.ps
-put-decimal-below t =
-    and 1 put-decimal-kinds.ps (falls 1 put-decimal-kinds.ps _<_ μ-put-decimal t) put-decimal.Pre
+abbrev asked : ℕ → In 1 put-decimal-kinds.ps
+asked t =
+    and 1 put-decimal-kinds.ps (falls 1 put-decimal-kinds.ps _<_ μ t) put-decimal.Pre
 
 -- what the calls ask and give
-abbrev calls : ℕ → put-decimal-lts.Claims
+abbrev calls : ℕ → lts.Claims
 calls t = (
   digit-byte-reads.Asked,
   digit-byte-reads.Learnt,
   put-byte-reads.Asked,
   put-byte-reads.Learnt,
-  put-decimal-below t,
+  asked t,
   put-decimal.Post,
 )
 
-put-decimal-cast-digit-byte : (t : ℕ) → put-decimal-lts.Need-cast-digit-byte (calls t) (put-decimal-at t) put-decimal.Post
-put-decimal-cast-digit-byte t c = search needs
+cast-digit-byte : (t : ℕ) → lts.Need-cast-digit-byte (calls t) (given t) put-decimal.Post
+cast-digit-byte t c = search needs
 
-put-decimal-digit-byte-requires : (t : ℕ) → put-decimal-lts.Need-digit-byte-requires (calls t) (put-decimal-at t) put-decimal.Post
-put-decimal-digit-byte-requires t c κs = search needs
+digit-byte-requires : (t : ℕ) → lts.Need-digit-byte-requires (calls t) (given t) put-decimal.Post
+digit-byte-requires t c κs = search needs
 
-put-decimal-put-byte-requires : (t : ℕ) → put-decimal-lts.Need-put-byte-requires (calls t) (put-decimal-at t) put-decimal.Post
-put-decimal-put-byte-requires t c κs = search needs
+put-byte-requires : (t : ℕ) → lts.Need-put-byte-requires (calls t) (given t) put-decimal.Post
+put-byte-requires t c κs = search needs
 
-put-decimal-same-length : (t : ℕ) → put-decimal-lts.Need-same-length (calls t) (put-decimal-at t) put-decimal.Post
-put-decimal-same-length t c = search needs
+same-length : (t : ℕ) → lts.Need-same-length (calls t) (given t) put-decimal.Post
+same-length t c = search needs
 
-put-decimal-returns : (t : ℕ) → put-decimal-lts.Need-returns (calls t) (put-decimal-at t) put-decimal.Post
-put-decimal-returns t c =
+returns : (t : ℕ) → lts.Need-returns (calls t) (given t) put-decimal.Post
+returns t c =
     let last = c .before .before in
     let small = last .before .before in
     put-as _ _ (decimal-one _ _ (small .before .digit-byte .ensures) (small .if1 .taken)) (last .put-byte .ensures)
 
-put-decimal-put-decimal-requires : (t : ℕ) → put-decimal-lts.Need-put-decimal-requires (calls t) (put-decimal-at t) put-decimal.Post
-put-decimal-put-decimal-requires t c κs = search needs
+put-decimal-requires : (t : ℕ) → lts.Need-put-decimal-requires (calls t) (given t) put-decimal.Post
+put-decimal-requires t c κs = search needs
 
-put-decimal-put-byte-requires-2 : (t : ℕ) → put-decimal-lts.Need-put-byte-requires-2 (calls t) (put-decimal-at t) put-decimal.Post
-put-decimal-put-byte-requires-2 t c κs = search needs
+put-byte-requires-2 : (t : ℕ) → lts.Need-put-byte-requires-2 (calls t) (given t) put-decimal.Post
+put-byte-requires-2 t c κs = search needs
 
-put-decimal-same-length-2 : (t : ℕ) → put-decimal-lts.Need-same-length-2 (calls t) (put-decimal-at t) put-decimal.Post
-put-decimal-same-length-2 t c = search needs
+same-length-2 : (t : ℕ) → lts.Need-same-length-2 (calls t) (given t) put-decimal.Post
+same-length-2 t c = search needs
 
-put-decimal-returns-2 : (t : ℕ) → put-decimal-lts.Need-returns-2 (calls t) (put-decimal-at t) put-decimal.Post
-put-decimal-returns-2 t c =
+returns-2 : (t : ℕ) → lts.Need-returns-2 (calls t) (given t) put-decimal.Post
+returns-2 t c =
     let last = c .before .before in
     let front = last .before .before .before .before in
     let large = front .before .before in
@@ -73,16 +73,16 @@ put-decimal-returns-2 t c =
     (last .put-byte2 .ensures)
 
 pub +put-decimal-spec : {M : Type 1} → statement M
-+put-decimal-spec = close μ-put-decimal λ t. put-decimal-lts.spec
++put-decimal-spec = close μ λ t. lts.spec
     (calls t)
-    (put-decimal-at t)
+    (given t)
     put-decimal.Post
-    (put-decimal-cast-digit-byte t)
-    (put-decimal-digit-byte-requires t)
-    (put-decimal-put-byte-requires t)
-    (put-decimal-same-length t)
-    (put-decimal-returns t)
-    (put-decimal-put-decimal-requires t)
-    (put-decimal-put-byte-requires-2 t)
-    (put-decimal-same-length-2 t)
-    (put-decimal-returns-2 t)
+    (cast-digit-byte t)
+    (digit-byte-requires t)
+    (put-byte-requires t)
+    (same-length t)
+    (returns t)
+    (put-decimal-requires t)
+    (put-byte-requires-2 t)
+    (same-length-2 t)
+    (returns-2 t)

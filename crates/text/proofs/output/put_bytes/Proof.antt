@@ -42,8 +42,9 @@ same-length c = put-length _ _ (c .before .loop .inv .1)
 
 returns : tie.Need-returns Inv-loop μ-loop
 returns c =
-    let done : length (c .before .before .before .before .before .args .text .now) ≤ c .before .loop .i = search needs in
-    put-all _ _ _ _ done (c .before .loop .inv .1)
+    let end = c .before in
+    let done : length (end .before .before .before .before .args .text .now) ≤ end .loop .i = search needs in
+    put-all _ _ _ _ done (end .loop .inv .1)
 
 pub put-bytes-spec : {M : Type 1} → statement M
 put-bytes-spec =

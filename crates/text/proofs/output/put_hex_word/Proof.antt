@@ -21,7 +21,10 @@ same-length : tie.Need-same-length
 same-length c = search needs
 
 returns : tie.Need-returns
-returns c = put-then _ _ _ _ _ (hex-word _) (c .before .before .before .before .before .before .put-hex-byte .ensures) (c .before .before .put-hex-byte2 .ensures)
+returns c =
+    let second = c .before .before in
+    let first = second .before .before .before .before in
+    put-then _ _ _ _ _ (hex-word _) (first .put-hex-byte .ensures) (second .put-hex-byte2 .ensures)
 
 pub put-hex-word-spec : {M : Type 1} → statement M
 put-hex-word-spec =
