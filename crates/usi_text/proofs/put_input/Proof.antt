@@ -39,8 +39,8 @@ returns c =
     let sda = stretch .before .before .before .before .before in
     let scl = sda .before .before .before .before .before in
     let seen = scl .before .before .before .before .before in
-    let levels = put-next _ _ (put-next _ _ (seen .put-flag .ensures) (scl .put-flag2 .ensures)) (sda .put-flag3 .ensures) in
-    put-next _ _ levels (stretch .put-flag4 .ensures)
+    let two = put-next _ _ (seen .put-flag .ensures) (scl .put-flag2 .ensures) in
+    put-next _ _ (put-next _ _ two (sda .put-flag3 .ensures)) (stretch .put-flag4 .ensures)
 
 pub put-input-spec : {M : Type 1} → statement M
 put-input-spec =

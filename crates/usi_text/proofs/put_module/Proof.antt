@@ -27,8 +27,8 @@ returns c =
     let input = lines .before .before .before .before in
     let output = input .before .before .before .before in
     let registers = output .before .before .before .before in
-    let hidden = put-next _ _ (put-next _ _ (registers .put-registers .ensures) (output .put-output .ensures)) (input .put-input .ensures) in
-    put-next _ _ hidden (lines .put-lines .ensures)
+    let outputs = put-next _ _ (registers .put-registers .ensures) (output .put-output .ensures) in
+    put-next _ _ (put-next _ _ outputs (input .put-input .ensures)) (lines .put-lines .ensures)
 
 pub put-module-spec : {M : Type 1} → statement M
 put-module-spec =
