@@ -41,7 +41,7 @@ eventsAfter (Events count framed pending value) levels buffer = events levels ++
 eventsAfter (Refused number place) levels buffer = buffer
 
 -- 01's numbers of a reply; in a refused one all others are 0
-pub record Numbers : Type 0 where
+pub record DecodedNumbers : Type 0 where
   pub refusal : ℕ
   pub place : ℕ
   pub count : ℕ
@@ -49,8 +49,8 @@ pub record Numbers : Type 0 where
   pub pending : ℕ
   pub value : ℕ
 
-abbrev pub numbers : Decoded → Numbers
-numbers (Events count framed pending value) =
+abbrev pub decodedNumbers : Decoded → DecodedNumbers
+decodedNumbers (Events count framed pending value) =
     record {
       refusal = 0;
       place = 0;
@@ -59,5 +59,5 @@ numbers (Events count framed pending value) =
       pending = pending;
       value = value;
     }
-numbers (Refused number place) =
+decodedNumbers (Refused number place) =
     record { refusal = number; place = place; count = 0; framed = 0; pending = 0; value = 0 }

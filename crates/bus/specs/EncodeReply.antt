@@ -30,10 +30,10 @@ levelsAfter (Drawn count) events buffer = drawing events ++ drop count buffer
 levelsAfter (Refused number) events buffer = buffer
 
 -- 01's numbers of a reply; in a refused one the count is 0
-pub record Numbers : Type 0 where
+pub record EncodedNumbers : Type 0 where
   pub refusal : ℕ
   pub count : ℕ
 
-abbrev pub numbers : Encoded → Numbers
-numbers (Drawn count) = record { refusal = 0; count = count }
-numbers (Refused number) = record { refusal = number; count = 0 }
+abbrev pub encodedNumbers : Encoded → EncodedNumbers
+encodedNumbers (Drawn count) = record { refusal = 0; count = count }
+encodedNumbers (Refused number) = record { refusal = number; count = 0 }

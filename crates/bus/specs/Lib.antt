@@ -2,6 +2,7 @@ pub mod Limits
 pub mod Levels
 pub mod Events
 pub mod Decode
+pub mod Listing
 pub mod DecodeReply
 pub mod Complete
 pub mod Encode

@@ -1,0 +1,1 @@
+// The events of all samples: counted first, then written.

@@ -1,0 +1,1 @@
+// The first bad level and the first bad stamp of a trace.
