@@ -1,13 +1,14 @@
 -- What decode answers, refusals in 01's order, and what the lent slice holds after it.
 use Prim.Native.Nat.{ℕ, suc}
 use mathlib.Core.Bool.{Bool, cond, not}
-use mathlib.Core.List.{List, [], _∷_, _++_}
+use mathlib.Core.List.{List, [], _∷_}
 use mir.Val.{boolByte}
 use lib.Dec.{eqb, ltb}
-use lib.ListN.{length, drop}
+use lib.ListN.{length}
 use Rattle.bus.specs.declared.Decoded.{Decoded}
 use Rattle.bus.specs.declared.Decoded.the-variants.{Events, Refused}
 use Rattle.bus.specs.Limits.{maxSamples}
+use Rattle.bus.specs.Buffer.{filled}
 use Rattle.bus.specs.Decode.{events, final}
 
 -- the place of the first level above 3, or the length where there is none (refusal 4)
@@ -37,7 +38,7 @@ decoded stamps levels room =
 
 -- the lent slice after it: the events, and the rest as it was; at a refusal all as it was
 abbrev pub eventsAfter : Decoded → List ℕ → List ℕ → List ℕ
-eventsAfter (Events count framed pending value) levels buffer = events levels ++ drop (length (events levels)) buffer
+eventsAfter (Events count framed pending value) levels buffer = filled (events levels) buffer
 eventsAfter (Refused number place) levels buffer = buffer
 
 -- 01's numbers of a reply; in a refused one all others are 0

@@ -1,4 +1,5 @@
 pub mod Limits
+pub mod Buffer
 pub mod Levels
 pub mod Events
 pub mod Decode
