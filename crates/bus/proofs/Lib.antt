@@ -2,4 +2,6 @@ pub mod Picks
 pub mod Sound
 pub mod Filled
 pub mod Passes
+pub mod Scans
+pub mod Decodes
 pub mod Worked
