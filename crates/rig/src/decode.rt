@@ -1,0 +1,395 @@
+// rig decode: a trace, one sample a line, and its events with the stamps at which they were complete.
+use crate::event;
+use crate::input;
+use crate::input::Line;
+use crate::input::Source;
+use crate::output;
+use crate::output::ROOM;
+use crate::output::least;
+use crate::output::print;
+use crate::output::put_count;
+use crate::refusals;
+use crate::store;
+use bus::Decoded;
+use check::same;
+use text::Number;
+use text::after_word;
+use text::first_word;
+use text::put_bytes;
+use text::put_decimal;
+use text::put_hex_byte;
+
+// One sample more than the library takes, so that it sees a trace that is too long.
+const SAMPLES: usize = 4097;
+
+// No trace that the library takes lists more events: each sample but the first lists one at most, or two with nine bits
+// before them.
+pub(crate) const EVENTS: usize = 4096;
+
+struct Reading {
+    source: Source,
+    stamps: usize,
+    levels: usize,
+    // the first line with a stamp and no level
+    unpaired: u64,
+    more: bool,
+    // an error has been printed
+    broken: bool,
+}
+
+// What a line says.
+enum Sample {
+    Nothing,
+    Both(u32, u8),
+    Stamp(u32),
+    Malformed,
+    LargeStamp,
+    LargeLevel,
+}
+
+const LARGEST_STAMP: u64 = 4294967295;
+
+const LARGEST_LEVEL: u64 = 255;
+
+// The number that a word says, and one above every limit where it says none.
+pub(crate) fn value(number: Number) -> u64 {
+    match number {
+        Number::Value(v) => v,
+        Number::TooLarge => u64::MAX,
+        Number::Bad => u64::MAX,
+    }
+}
+
+pub(crate) fn is_number(number: Number) -> bool {
+    match number {
+        Number::Value(_) => true,
+        Number::TooLarge => true,
+        Number::Bad => false,
+    }
+}
+
+fn stamped(stamp: u64) -> Sample {
+    if stamp > LARGEST_STAMP {
+        return Sample::LargeStamp;
+    }
+    Sample::Stamp(stamp as u32)
+}
+
+fn paired(stamp: u64, level: u64) -> Sample {
+    if stamp > LARGEST_STAMP {
+        return Sample::LargeStamp;
+    }
+    if level > LARGEST_LEVEL {
+        return Sample::LargeLevel;
+    }
+    Sample::Both(stamp as u32, level as u8)
+}
+
+fn sample(line: &[u8]) -> Sample {
+    let word = first_word(line);
+    let rest = after_word(line);
+    if (word.len() == 0) | same(word, b"ok") {
+        return Sample::Nothing;
+    }
+    let stamp = text::decimal(word);
+    let second = first_word(rest);
+    let level = text::decimal(second);
+    let extra = first_word(after_word(rest)).len() > 0;
+    if !is_number(stamp) | extra {
+        return Sample::Malformed;
+    }
+    if second.len() == 0 {
+        return stamped(value(stamp));
+    }
+    if !is_number(level) {
+        return Sample::Malformed;
+    }
+    paired(value(stamp), value(level))
+}
+
+impl Reading {
+    fn new(source: Source) -> Reading {
+        Reading {
+            source,
+            stamps: 0,
+            levels: 0,
+            unpaired: 0,
+            more: true,
+            broken: false,
+        }
+    }
+
+    fn with_source(mut self, source: Source) -> Reading {
+        self.source = source;
+        self
+    }
+
+    fn with_counts(mut self, stamps: usize, levels: usize) -> Reading {
+        self.stamps = stamps;
+        self.levels = levels;
+        self.more = stamps < SAMPLES;
+        self
+    }
+
+    fn with_unpaired(mut self) -> Reading {
+        if self.unpaired == 0 {
+            self.unpaired = self.source.line;
+        }
+        self
+    }
+
+    fn ended(mut self) -> Reading {
+        self.more = false;
+        self
+    }
+
+    fn fault(mut self, words: &[u8]) -> Reading {
+        output::fault(self.source.line, words);
+        self.more = false;
+        self.broken = true;
+        self
+    }
+
+    fn failed(mut self, found: Line) -> Reading {
+        let from = self.source;
+        input::complain(found, from);
+        self.more = false;
+        self.broken = true;
+        self
+    }
+}
+
+// Stores what a line says.
+fn stored(
+    reading: Reading,
+    said: Sample,
+    stamps: &mut [u32],
+    levels: &mut [u8],
+    lines: &mut [u64],
+) -> Reading {
+    match said {
+        Sample::Nothing => reading,
+        Sample::Both(stamp, level) => {
+            store::line(lines, reading.stamps, reading.source.line);
+            let count = store::stamp(stamps, reading.stamps, stamp);
+            reading.with_counts(count, store::byte(levels, reading.levels, level))
+        }
+        Sample::Stamp(stamp) => {
+            store::line(lines, reading.stamps, reading.source.line);
+            let count = store::stamp(stamps, reading.stamps, stamp);
+            reading.with_counts(count, reading.levels).with_unpaired()
+        }
+        Sample::Malformed => reading.fault(b"expected STAMP LEVEL, two decimal numbers"),
+        Sample::LargeStamp => reading.fault(b"the stamp is above 4294967295"),
+        Sample::LargeLevel => reading.fault(b"the level is above 255"),
+    }
+}
+
+fn turn(
+    piece: &mut [u8],
+    line: &mut [u8],
+    reading: Reading,
+    stamps: &mut [u32],
+    levels: &mut [u8],
+    lines: &mut [u64],
+) -> Reading {
+    let from = reading.source;
+    let taken = input::next_line(piece, line, from);
+    let found = taken.line;
+    let after = taken.source;
+    let next = reading.with_source(after);
+    match found {
+        Line::Text(n) => stored(next, sample(input::content(line, n)), stamps, levels, lines),
+        Line::End => next.ended(),
+        Line::TooLong => next.failed(found),
+        Line::NoText => next.failed(found),
+        Line::Failed => next.failed(found),
+    }
+}
+
+fn read_all(
+    piece: &mut [u8],
+    line: &mut [u8],
+    source: Source,
+    stamps: &mut [u32],
+    levels: &mut [u8],
+    lines: &mut [u64],
+) -> Reading {
+    let mut reading = Reading::new(source);
+    let mut turns = u64::MAX;
+    while turns > 0 {
+        if !reading.more {
+            return reading;
+        }
+        reading = turn(piece, line, reading, stamps, levels, lines);
+        turns -= 1;
+    }
+    reading
+}
+
+// Whether the byte at a position is an address: the event before it is a START.
+fn is_address(events: &[u16], at: usize) -> bool {
+    if at == 0 {
+        return false;
+    }
+    let before = at - 1;
+    if before < events.len() {
+        let event = events[before];
+        return (event == event::START) | (event == event::REPEATED_START);
+    }
+    false
+}
+
+fn show_event(events: &[u16], at: usize, stamp: u32) {
+    let mut out = [0u8; ROOM];
+    if at < events.len() {
+        let past_stamp = put_decimal(&mut out, 0, stamp as u64);
+        let past_colon = put_bytes(&mut out, past_stamp, b": ");
+        let end = event::put_event(&mut out, past_colon, events[at], is_address(events, at));
+        print(&mut out, end);
+    }
+}
+
+// The events from one position to another, all complete at one stamp.
+fn show_events(events: &[u16], from: usize, to: usize, stamp: u32) {
+    let mut at = from;
+    while at < to {
+        show_event(events, at, stamp);
+        at += 1;
+    }
+}
+
+// How many events a trace lists.
+fn count_events(stamps: &[u32], levels: &[u8]) -> usize {
+    let mut events = [0u16; EVENTS];
+    match bus::decode(stamps, levels, &mut events) {
+        Decoded::Events {
+            count,
+            framed: _,
+            pending: _,
+            value: _,
+        } => count,
+        Decoded::Refused {
+            number: _,
+            place: _,
+        } => 0,
+    }
+}
+
+// Shows the events that the sample at a position completes: those that the trace lists up to it and not before. Answers
+// how many are shown by then.
+fn show_sample(stamps: &[u32], levels: &[u8], at: usize, events: &[u16], shown: usize) -> usize {
+    if at < stamps.len() {
+        if at < levels.len() {
+            let end = at + 1;
+            let count = count_events(&stamps[..end], &levels[..end]);
+            show_events(events, shown, count, stamps[at]);
+            return count;
+        }
+    }
+    shown
+}
+
+fn show_all(stamps: &[u32], levels: &[u8], events: &[u16]) {
+    let mut shown: usize = 0;
+    let mut at = 0;
+    while at < stamps.len() {
+        shown = show_sample(stamps, levels, at, events, shown);
+        at += 1;
+    }
+}
+
+fn put_pending(out: &mut [u8], at: usize, pending: u8, value: u8) -> usize {
+    let past_count = put_count(out, at, pending as u64, b"bit");
+    let past_words = put_bytes(out, past_count, b" pending");
+    if pending == 0 {
+        return past_words;
+    }
+    let past_label = put_bytes(out, past_words, b", value ");
+    let past_value = put_hex_byte(out, past_label, value);
+    put_bytes(out, past_value, b"h")
+}
+
+fn put_frame(out: &mut [u8], at: usize, framed: bool) -> usize {
+    if framed {
+        return put_bytes(out, at, b", frame open, ");
+    }
+    put_bytes(out, at, b", no frame open, ")
+}
+
+fn summary(samples: usize, count: usize, framed: bool, pending: u8, value: u8) {
+    let mut out = [0u8; ROOM];
+    let past_ok = put_bytes(&mut out, 0, b"ok ");
+    let past_events = put_count(&mut out, past_ok, count as u64, b"event");
+    let past_in = put_bytes(&mut out, past_events, b" in ");
+    let past_samples = put_count(&mut out, past_in, samples as u64, b"sample");
+    let past_frame = put_frame(&mut out, past_samples, framed);
+    let end = put_pending(&mut out, past_frame, pending, value);
+    print(&mut out, end);
+}
+
+fn refuse_unpaired(line: u64) {
+    let mut out = [0u8; ROOM];
+    let past_refusal = refusals::put_refusal(&mut out, 0, 5);
+    let past_label = put_bytes(&mut out, past_refusal, b"; line ");
+    let past_line = put_decimal(&mut out, past_label, line);
+    let end = put_bytes(&mut out, past_line, b" has no level");
+    print(&mut out, end);
+}
+
+fn refuse(number: u8, place: usize, lines: &[u64], unpaired: u64) {
+    match number {
+        4 | 7 => refusals::refuse_at(number, place, store::line_at(lines, place)),
+        5 => refuse_unpaired(unpaired),
+        _ => refusals::refuse(number),
+    }
+}
+
+// Hands a trace to the library, and shows what it answers.
+fn answer(stamps: &[u32], levels: &[u8], lines: &[u64], unpaired: u64, room: usize) {
+    let mut events = [0u16; EVENTS];
+    let lent = least(room, EVENTS);
+    match bus::decode(stamps, levels, &mut events[..lent]) {
+        Decoded::Refused { number, place } => refuse(number, place, lines, unpaired),
+        Decoded::Events {
+            count,
+            framed,
+            pending,
+            value,
+        } => {
+            show_all(stamps, levels, &events);
+            summary(levels.len(), count, framed, pending, value);
+        }
+    }
+}
+
+fn answer_part(stamps: &[u32], levels: &[u8], lines: &[u64], reading: Reading, room: usize) {
+    let stamp_count = least(reading.stamps, stamps.len());
+    let level_count = least(reading.levels, levels.len());
+    answer(
+        &stamps[..stamp_count],
+        &levels[..level_count],
+        lines,
+        reading.unpaired,
+        room,
+    );
+}
+
+pub(crate) fn run(source: Source, room: usize) {
+    let mut piece = io::buffer();
+    let mut line = [0u8; input::ROOM];
+    let mut stamps = [0u32; SAMPLES];
+    let mut levels = [0u8; SAMPLES];
+    let mut lines = [0u64; SAMPLES];
+    let reading = read_all(
+        &mut piece,
+        &mut line,
+        source,
+        &mut stamps,
+        &mut levels,
+        &mut lines,
+    );
+    if !reading.broken {
+        answer_part(&stamps, &levels, &lines, reading, room);
+    }
+}
