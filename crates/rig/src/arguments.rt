@@ -2,6 +2,7 @@
 use crate::decode::is_number;
 use crate::decode::value;
 use crate::output::ROOM;
+use crate::output::least_number;
 use crate::output::print;
 use crate::output::put_word;
 use crate::output::trouble;
@@ -24,10 +25,6 @@ pub(crate) struct Arguments {
 }
 
 const ALL_ROOM: usize = 65536;
-
-fn least_number(a: u64, b: u64) -> u64 {
-    if a < b { a } else { b }
-}
 
 fn unexpected(word: &[u8]) {
     let mut out = [0u8; ROOM];

@@ -5,9 +5,9 @@ use crate::input::Line;
 use crate::input::Source;
 use crate::output;
 use crate::output::ROOM;
-use crate::output::least;
 use crate::output::print;
 use crate::output::put_count;
+use crate::parts;
 use crate::refusals;
 use crate::store;
 use bus::Decoded;
@@ -85,7 +85,7 @@ fn paired(stamp: u64, level: u64) -> Sample {
     Sample::Both(stamp as u32, level as u8)
 }
 
-fn sample(line: &[u8]) -> Sample {
+fn parse(line: &[u8]) -> Sample {
     let word = first_word(line);
     let rest = after_word(line);
     if (word.len() == 0) | same(word, b"ok") {
@@ -185,6 +185,29 @@ fn stored(
     }
 }
 
+fn followed(
+    reading: Reading,
+    line: &[u8],
+    found: Line,
+    stamps: &mut [u32],
+    levels: &mut [u8],
+    lines: &mut [u64],
+) -> Reading {
+    match found {
+        Line::Text(n) => stored(
+            reading,
+            parse(input::content(line, n)),
+            stamps,
+            levels,
+            lines,
+        ),
+        Line::End => reading.ended(),
+        Line::TooLong => reading.failed(found),
+        Line::NoText => reading.failed(found),
+        Line::Failed => reading.failed(found),
+    }
+}
+
 fn turn(
     piece: &mut [u8],
     line: &mut [u8],
@@ -197,14 +220,14 @@ fn turn(
     let taken = input::next_line(piece, line, from);
     let found = taken.line;
     let after = taken.source;
-    let next = reading.with_source(after);
-    match found {
-        Line::Text(n) => stored(next, sample(input::content(line, n)), stamps, levels, lines),
-        Line::End => next.ended(),
-        Line::TooLong => next.failed(found),
-        Line::NoText => next.failed(found),
-        Line::Failed => next.failed(found),
-    }
+    followed(
+        reading.with_source(after),
+        line,
+        found,
+        stamps,
+        levels,
+        lines,
+    )
 }
 
 fn read_all(
@@ -259,10 +282,12 @@ fn show_events(events: &[u16], from: usize, to: usize, stamp: u32) {
     }
 }
 
-// How many events a trace lists.
-fn count_events(stamps: &[u32], levels: &[u8]) -> usize {
+// How many events the first samples of a trace list.
+fn count_events(stamps: &[u32], levels: &[u8], samples: usize) -> usize {
     let mut events = [0u16; EVENTS];
-    match bus::decode(stamps, levels, &mut events) {
+    let stamp_count = parts::stamps(samples, stamps);
+    let level_count = parts::bytes(samples, levels);
+    match bus::decode(&stamps[..stamp_count], &levels[..level_count], &mut events) {
         Decoded::Events {
             count,
             framed: _,
@@ -281,8 +306,7 @@ fn count_events(stamps: &[u32], levels: &[u8]) -> usize {
 fn show_sample(stamps: &[u32], levels: &[u8], at: usize, events: &[u16], shown: usize) -> usize {
     if at < stamps.len() {
         if at < levels.len() {
-            let end = at + 1;
-            let count = count_events(&stamps[..end], &levels[..end]);
+            let count = count_events(stamps, levels, at + 1);
             show_events(events, shown, count, stamps[at]);
             return count;
         }
@@ -346,9 +370,15 @@ fn refuse(number: u8, place: usize, lines: &[u64], unpaired: u64) {
 }
 
 // Hands a trace to the library, and shows what it answers.
-fn answer(stamps: &[u32], levels: &[u8], lines: &[u64], unpaired: u64, room: usize) {
-    let mut events = [0u16; EVENTS];
-    let lent = least(room, EVENTS);
+fn answer(
+    stamps: &[u32],
+    levels: &[u8],
+    lines: &[u64],
+    unpaired: u64,
+    events: &mut [u16],
+    room: usize,
+) {
+    let lent = parts::events(room, events);
     match bus::decode(stamps, levels, &mut events[..lent]) {
         Decoded::Refused { number, place } => refuse(number, place, lines, unpaired),
         Decoded::Events {
@@ -357,20 +387,22 @@ fn answer(stamps: &[u32], levels: &[u8], lines: &[u64], unpaired: u64, room: usi
             pending,
             value,
         } => {
-            show_all(stamps, levels, &events);
+            show_all(stamps, levels, events);
             summary(levels.len(), count, framed, pending, value);
         }
     }
 }
 
 fn answer_part(stamps: &[u32], levels: &[u8], lines: &[u64], reading: Reading, room: usize) {
-    let stamp_count = least(reading.stamps, stamps.len());
-    let level_count = least(reading.levels, levels.len());
+    let mut events = [0u16; EVENTS];
+    let stamp_count = parts::stamps(reading.stamps, stamps);
+    let level_count = parts::bytes(reading.levels, levels);
     answer(
         &stamps[..stamp_count],
         &levels[..level_count],
         lines,
         reading.unpaired,
+        &mut events,
         room,
     );
 }

@@ -8,9 +8,10 @@ use crate::input::Line;
 use crate::input::Source;
 use crate::output;
 use crate::output::ROOM;
-use crate::output::least;
+use crate::output::least_number;
 use crate::output::print;
 use crate::output::put_count;
+use crate::parts;
 use crate::refusals;
 use crate::store;
 use bus::Encoded;
@@ -41,10 +42,6 @@ struct Listing {
     more: bool,
     // an error has been printed
     broken: bool,
-}
-
-fn least_number(a: u64, b: u64) -> u64 {
-    if a < b { a } else { b }
 }
 
 impl Listing {
@@ -188,19 +185,22 @@ fn ends_in_colon(word: &[u8]) -> bool {
     word[n - 1] == b':'
 }
 
+fn followed(listing: Listing, line: &[u8], found: Line, events: &mut [u16]) -> Listing {
+    match found {
+        Line::Text(n) => listing.with_line(events, input::content(line, n)),
+        Line::End => listing.ended(),
+        Line::TooLong => listing.failed(found),
+        Line::NoText => listing.failed(found),
+        Line::Failed => listing.failed(found),
+    }
+}
+
 fn turn(piece: &mut [u8], line: &mut [u8], listing: Listing, events: &mut [u16]) -> Listing {
     let from = listing.source;
     let taken = input::next_line(piece, line, from);
     let found = taken.line;
     let after = taken.source;
-    let next = listing.with_source(after);
-    match found {
-        Line::Text(n) => next.with_line(events, input::content(line, n)),
-        Line::End => next.ended(),
-        Line::TooLong => next.failed(found),
-        Line::NoText => next.failed(found),
-        Line::Failed => next.failed(found),
-    }
+    followed(listing.with_source(after), line, found, events)
 }
 
 fn read_all(piece: &mut [u8], line: &mut [u8], source: Source, events: &mut [u16]) -> Listing {
@@ -227,8 +227,10 @@ fn show_sample(stamp: u32, level: u8) {
 fn show_all(stamps: &[u32], levels: &[u8], count: usize) {
     let mut i = 0;
     while i < count {
-        if (i < stamps.len()) & (i < levels.len()) {
-            show_sample(stamps[i], levels[i]);
+        if i < stamps.len() {
+            if i < levels.len() {
+                show_sample(stamps[i], levels[i]);
+            }
         }
         i += 1;
     }
@@ -242,24 +244,43 @@ fn summary(count: usize) {
 }
 
 // Hands an event list to the library, and shows the trace that it draws.
-fn answer(events: &[u16], listing: Listing, room: usize) {
+fn answer(
+    events: &[u16],
+    start: u32,
+    gap: u32,
+    stamps: &mut [u32],
+    levels: &mut [u8],
+    room: usize,
+) {
+    let stamp_room = parts::stamps(room, stamps);
+    let level_room = parts::bytes(room, levels);
+    match bus::encode(
+        events,
+        start,
+        gap,
+        &mut stamps[..stamp_room],
+        &mut levels[..level_room],
+    ) {
+        Encoded::Refused(number) => refusals::refuse(number),
+        Encoded::Drawn(count) => {
+            show_all(stamps, levels, count);
+            summary(count);
+        }
+    }
+}
+
+fn answer_part(events: &[u16], listing: Listing, room: usize) {
     let mut stamps = [0u32; SAMPLES];
     let mut levels = [0u8; SAMPLES];
-    let count = least(listing.count, events.len());
-    let lent = least(room, SAMPLES);
-    match bus::encode(
+    let count = parts::events(listing.count, events);
+    answer(
         &events[..count],
         listing.start,
         listing.gap,
-        &mut stamps[..lent],
-        &mut levels[..lent],
-    ) {
-        Encoded::Refused(number) => refusals::refuse(number),
-        Encoded::Drawn(n) => {
-            show_all(&stamps, &levels, n);
-            summary(n);
-        }
-    }
+        &mut stamps,
+        &mut levels,
+        room,
+    );
 }
 
 pub(crate) fn run(source: Source, room: usize) {
@@ -268,6 +289,6 @@ pub(crate) fn run(source: Source, room: usize) {
     let mut events = [0u16; EVENTS];
     let listing = read_all(&mut piece, &mut line, source, &mut events);
     if !listing.broken {
-        answer(&events, listing, room);
+        answer_part(&events, listing, room);
     }
 }

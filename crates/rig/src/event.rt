@@ -62,7 +62,7 @@ pub(crate) enum Byte {
 }
 
 // A byte of one or two hexadecimal digits.
-pub(crate) fn byte(word: &[u8]) -> Byte {
+pub(crate) fn hex_byte(word: &[u8]) -> Byte {
     if word.len() > 2 {
         return Byte::Malformed;
     }
@@ -126,7 +126,7 @@ fn transfer(line: &[u8]) -> Said {
     if !follows_byte(first_word(rest)) {
         return Said::Numbers;
     }
-    match byte(first_word(line)) {
+    match hex_byte(first_word(line)) {
         Byte::Value(value) => directed(rest, value),
         Byte::Malformed => Said::Malformed,
     }

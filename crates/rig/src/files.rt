@@ -9,6 +9,10 @@ use libc::STDIN_FILENO;
 use text::put_bytes;
 use text::put_decimal;
 
+fn counted(errno: i32) -> u64 {
+    if errno > 0 { errno as u64 } else { 0 }
+}
+
 fn put_reason(out: &mut [u8], at: usize, errno: i32) -> usize {
     if errno == libc::ENOENT {
         return put_bytes(out, at, b"no such file");
@@ -23,10 +27,7 @@ fn put_reason(out: &mut [u8], at: usize, errno: i32) -> usize {
         return put_bytes(out, at, b"the name is too long");
     }
     let next = put_bytes(out, at, b"error number ");
-    if errno < 0 {
-        return next;
-    }
-    put_decimal(out, next, errno as u64)
+    put_decimal(out, next, counted(errno))
 }
 
 // The file's name, as the command line has it.
@@ -59,17 +60,17 @@ pub(crate) enum Opened {
 // Opens the file that an argument names; argument 0 and the name `-` are standard input.
 pub(crate) fn open(argument: usize) -> Opened {
     if argument == 0 {
-        return Opened::Source(input::source(STDIN_FILENO, 0));
+        return Opened::Source(input::begin(STDIN_FILENO, 0));
     }
     let mut name = io::buffer();
     let n = os::arg(argument, &mut name);
     if same(&name[..n], b"-") {
-        return Opened::Source(input::source(STDIN_FILENO, 0));
+        return Opened::Source(input::begin(STDIN_FILENO, 0));
     }
     let fd = os::open_read(&name[..n]);
     if fd < 0 {
         complain(b"cannot open ", argument, os::errno());
         return Opened::Failed;
     }
-    Opened::Source(input::source(fd, argument))
+    Opened::Source(input::begin(fd, argument))
 }

@@ -1,9 +1,8 @@
 // Lines of a file or of standard input, however many, read piece by piece.
-ghost use Prim.Native.Nat.{_≤_};
-ghost use lib.ListN.{length};
 use crate::files;
 use crate::output::fault;
 use crate::output::is_control;
+use crate::parts;
 
 // The longest line, and room for it with one byte more, which shows that a line is longer.
 pub(crate) const LONGEST: usize = 4096;
@@ -50,7 +49,7 @@ enum Next {
     End(Source),
 }
 
-pub(crate) fn source(fd: i32, argument: usize) -> Source {
+pub(crate) fn begin(fd: i32, argument: usize) -> Source {
     Source {
         fd,
         argument,
@@ -119,7 +118,8 @@ fn judged(line: &[u8], n: usize) -> Line {
     if n >= line.len() {
         return Line::TooLong;
     }
-    if !is_text(&line[..n]) {
+    let part = parts::bytes(n, line);
+    if !is_text(&line[..part]) {
         return Line::NoText;
     }
     Line::Text(n)
@@ -190,9 +190,8 @@ pub(crate) fn complain(found: Line, from: Source) {
     }
 }
 
-fn comment_at(line: &[u8]) -> usize
-    ensures { λ r. ⌜ r ≤ length (now (line .entry)) ⌝ }
-{
+// Where a comment begins, or the length of a line that has none.
+fn comment_at(line: &[u8]) -> usize {
     let mut i = 0;
     while i < line.len() {
         if line[i] == b'#' {
@@ -205,10 +204,8 @@ fn comment_at(line: &[u8]) -> usize
 
 // The first n bytes of a line, up to a comment.
 pub(crate) fn content(line: &[u8], n: usize) -> &[u8] {
-    if n <= line.len() {
-        let whole = &line[..n];
-        let end = comment_at(whole);
-        return &whole[..end];
-    }
-    &line[..0]
+    let part = parts::bytes(n, line);
+    let whole = &line[..part];
+    let end = parts::bytes(comment_at(whole), whole);
+    &whole[..end]
 }

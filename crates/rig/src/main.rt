@@ -9,6 +9,7 @@ mod files; // files.rt: files by name
 mod help; // help.rt: how to use it
 mod input; // input.rt: lines of input
 mod output; // output.rt: lines of output
+mod parts; // parts.rt: how much of a slice to lend
 mod refusals; // refusals.rt: refusals in words
 mod session; // session.rt: a module driven by commands
 mod store; // store.rt: numbers kept in a lent slice
@@ -26,7 +27,7 @@ enum Task {
     Unknown,
 }
 
-fn task(word: &[u8]) -> Task {
+fn named(word: &[u8]) -> Task {
     if same(word, b"decode") {
         return Task::Decode;
     }
@@ -73,7 +74,7 @@ fn run(task: Task) {
 fn main() {
     let mut space = io::buffer();
     let n = os::arg(1, &mut space);
-    let task = task(&space[..n]);
+    let task = named(&space[..n]);
     match task {
         Task::Unknown => help::unknown(),
         Task::Help => help::run(),

@@ -15,6 +15,12 @@ pub(crate) fn least(a: usize, b: usize) -> usize
     if a < b { a } else { b }
 }
 
+pub(crate) fn least_number(a: u64, b: u64) -> u64
+    ensures { λ r. ⌜ (r ≤ a) × (r ≤ b) ⌝ }
+{
+    if a < b { a } else { b }
+}
+
 // Ends the line at a position and writes it out.
 pub(crate) fn print(out: &mut [u8], at: usize) {
     let end = put_byte(out, at, b'\n');

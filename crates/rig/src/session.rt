@@ -236,26 +236,30 @@ fn count_faults(faults: u64, commands: u64, line: u64) {
     print(&mut out, end);
 }
 
-// Takes a line and answers it.
+// Answers what taking a line found.
+fn answered(session: Session, line: &[u8], found: Line) -> Session {
+    match found {
+        Line::Text(n) => session.run(command::parse(input::content(line, n))),
+        Line::TooLong => session.fault(b"longer than 4096 bytes"),
+        Line::NoText => session.fault(b"a byte that is no text"),
+        Line::End => {
+            session.summary();
+            session.ended()
+        }
+        Line::Failed => {
+            let from = session.source;
+            input::complain(found, from);
+            session.ended()
+        }
+    }
+}
+
 fn turn(piece: &mut [u8], line: &mut [u8], session: Session) -> Session {
     let from = session.source;
     let taken = input::next_line(piece, line, from);
     let found = taken.line;
     let after = taken.source;
-    let next = session.with_source(after);
-    match found {
-        Line::Text(n) => next.run(command::parse(input::content(line, n))),
-        Line::TooLong => next.fault(b"longer than 4096 bytes"),
-        Line::NoText => next.fault(b"a byte that is no text"),
-        Line::End => {
-            next.summary();
-            next.ended()
-        }
-        Line::Failed => {
-            input::complain(found, after);
-            next.ended()
-        }
-    }
+    answered(session.with_source(after), line, found)
 }
 
 fn run_all(piece: &mut [u8], line: &mut [u8], source: Source) {
