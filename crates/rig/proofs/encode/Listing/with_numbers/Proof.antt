@@ -1,9 +1,8 @@
 -- `rig::encode::Listing::with_numbers` is safe and ends: each turn leaves a shorter line.
-use mathlib.Core.Path.{_≡_, ap}
-use native.Mathlib.Omega.{arith}
+use mathlib.Core.Path.{_≡_}
 use lib.ListN.{length}
-use Rattle.text.proofs.Runs.{after-word-shorter}
 use borrow.Author.Needs.{needs}
+use Rattle.rig.proofs.Words.{past-word}
 use Rattle.rig.proofs.encode.Listing.with_numbers.Statement.{statement}
 use Rattle.rig.proofs.encode.Listing.with_numbers.Tie as tie
 
@@ -37,8 +36,7 @@ after-word-requires c κs = search needs
 loop-less : tie.Need-loop-less Inv-loop μ-loop
 loop-less c =
     let full = c .before .before .before .before .before .before .before in
-    let rest = full .before .before .loop .rest .now in
-    omega (arith, ap length (c .after-word .ensures), after-word-shorter rest (omega (arith, ap length (full .before .first-word .ensures))))
+    past-word _ _ _ (full .before .first-word .ensures) (c .after-word .ensures) (full .if1 .taken)
 
 loop-again : tie.Need-loop-again Inv-loop μ-loop
 loop-again c = search needs
