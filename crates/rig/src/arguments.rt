@@ -1,8 +1,8 @@
 // The words of the command line after the command.
-use crate::decode::is_number;
-use crate::decode::value;
+use crate::numbers::is_number;
+use crate::numbers::least_number;
+use crate::numbers::value;
 use crate::output::ROOM;
-use crate::output::least_number;
 use crate::output::print;
 use crate::output::put_word;
 use crate::output::trouble;

@@ -1,14 +1,14 @@
 // rig encode: an event list in words or numbers, drawn as a trace that rig decode reads.
-use crate::decode::is_number;
-use crate::decode::value;
 use crate::event;
 use crate::event::Said;
 use crate::input;
 use crate::input::Line;
 use crate::input::Source;
+use crate::numbers::is_number;
+use crate::numbers::least_number;
+use crate::numbers::value;
 use crate::output;
 use crate::output::ROOM;
-use crate::output::least_number;
 use crate::output::print;
 use crate::output::put_count;
 use crate::parts;

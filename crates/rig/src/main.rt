@@ -1,6 +1,7 @@
-// rig: rehearses loads of I2C boards, reads and draws bus traces, and steps a USI module. The last line of output says how
-// it went: `ok`, `refused` with a number, or `error`.
+// rig: rehearses loads of I2C boards, reads and draws bus traces, and steps a USI module.
+// The last line of output says how it went: `ok`, `refused` with a number, or `error`.
 mod arguments; // arguments.rt: the words of the command line
+mod boards; // boards.rt: who won and who lost
 mod clash; // clash.rt: loads rehearsed
 mod command; // command.rt: the commands of a session
 mod decode; // decode.rt: a trace and its events
@@ -10,12 +11,14 @@ mod files; // files.rt: files by name
 mod help; // help.rt: how to use it
 mod input; // input.rt: lines of input
 mod load; // load.rt: a load
+mod numbers; // numbers.rt: numbers that a text says
 mod outcome; // outcome.rt: how a rehearsal went
 mod output; // output.rt: lines of output
 mod parts; // parts.rt: how much of a slice to lend
 mod refusals; // refusals.rt: refusals in words
 mod session; // session.rt: a module driven by commands
 mod store; // store.rt: numbers kept in a lent slice
+mod trace; // trace.rt: a trace as lines
 mod waveform; // waveform.rt: the lines of the bus as text
 
 use arguments::Arguments;

@@ -1,5 +1,4 @@
 // Lines of output: gathered in a buffer and written out whole.
-ghost use Prim.Native.Nat.{_≤_};
 use libc::STDERR_FILENO;
 use libc::STDOUT_FILENO;
 use text::put_byte;
@@ -8,18 +7,6 @@ use text::put_decimal;
 
 // Room for the longest line: a file's name and what went wrong with it.
 pub(crate) const ROOM: usize = 4608;
-
-pub(crate) fn least(a: usize, b: usize) -> usize
-    ensures { λ r. ⌜ (r ≤ a) × (r ≤ b) ⌝ }
-{
-    if a < b { a } else { b }
-}
-
-pub(crate) fn least_number(a: u64, b: u64) -> u64
-    ensures { λ r. ⌜ (r ≤ a) × (r ≤ b) ⌝ }
-{
-    if a < b { a } else { b }
-}
 
 // Ends the line at a position and writes it out.
 pub(crate) fn print(out: &mut [u8], at: usize) {

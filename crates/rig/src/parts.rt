@@ -1,6 +1,6 @@
 // How many elements of a slice to lend: n, or all where there are fewer.
 ghost use Rattle.io.specs.Counts.{Counts};
-use crate::output::least;
+use crate::numbers::least;
 
 pub(crate) fn bytes(n: usize, slice: &[u8]) -> usize
     ensures { λ r. ⌜ Counts r (now (slice .entry)) ⌝ }

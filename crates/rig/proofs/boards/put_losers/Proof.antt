@@ -1,10 +1,10 @@
--- `rig::outcome::put_losers` is safe and ends.
+-- `rig::boards::put_losers` is safe and ends.
 use mathlib.Core.Path.{_≡_}
 use Prim.Native.Nat.{_-_}
 use lib.ListN.{length}
 use borrow.Author.Needs.{needs}
-use Rattle.rig.proofs.outcome.put_losers.Statement.{statement}
-use Rattle.rig.proofs.outcome.put_losers.Tie as tie
+use Rattle.rig.proofs.boards.put_losers.Statement.{statement}
+use Rattle.rig.proofs.boards.put_losers.Tie as tie
 
 abbrev Inv-loop : tie.InvT-loop
 Inv-loop out₀ at boards contending positions next₀ i₀ t10 out next i = length out ≡ length out₀

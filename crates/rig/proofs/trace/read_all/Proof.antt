@@ -1,9 +1,9 @@
--- `rig::decode::read_all` is safe and ends: the turns that are left fall.
+-- `rig::trace::read_all` is safe and ends: the turns that are left fall.
 use mathlib.Core.Path.{_≡_}
 use lib.ListN.{length}
 use borrow.Author.Needs.{needs}
-use Rattle.rig.proofs.decode.read_all.Statement.{statement}
-use Rattle.rig.proofs.decode.read_all.Tie as tie
+use Rattle.rig.proofs.trace.read_all.Statement.{statement}
+use Rattle.rig.proofs.trace.read_all.Tie as tie
 
 abbrev Inv-loop : tie.InvT-loop
 Inv-loop piece₀ line₀ stamps₀ levels₀ lines₀ reading₀ turns₀ piece line stamps levels lines reading turns =

@@ -1,8 +1,8 @@
--- `rig::outcome::show_losers` is safe and ends.
+-- `rig::boards::show_losers` is safe and ends.
 use Prim.Native.Nat.{_-_}
 use borrow.Author.Needs.{needs}
-use Rattle.rig.proofs.outcome.show_losers.Statement.{statement}
-use Rattle.rig.proofs.outcome.show_losers.Tie as tie
+use Rattle.rig.proofs.boards.show_losers.Statement.{statement}
+use Rattle.rig.proofs.boards.show_losers.Tie as tie
 
 abbrev Inv-loop : tie.InvT-loop
 Inv-loop boards contending positions lost₀ i₀ lost i = Unit {0}

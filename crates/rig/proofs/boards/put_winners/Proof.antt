@@ -1,10 +1,10 @@
--- `rig::outcome::put_winners` is safe and ends.
+-- `rig::boards::put_winners` is safe and ends.
 use mathlib.Core.Path.{_≡_}
 use Prim.Native.Nat.{_-_}
 use lib.ListN.{length}
 use borrow.Author.Needs.{needs}
-use Rattle.rig.proofs.outcome.put_winners.Statement.{statement}
-use Rattle.rig.proofs.outcome.put_winners.Tie as tie
+use Rattle.rig.proofs.boards.put_winners.Statement.{statement}
+use Rattle.rig.proofs.boards.put_winners.Tie as tie
 
 abbrev Inv-loop : tie.InvT-loop
 Inv-loop out₀ at label boards contending next₀ i₀ out next i = length out ≡ length out₀

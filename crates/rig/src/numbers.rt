@@ -1,0 +1,32 @@
+// Numbers that a text says, and the lesser of two.
+ghost use Prim.Native.Nat.{_≤_};
+use text::Number;
+
+// The number that a word says, and one above every limit where it says none.
+pub(crate) fn value(number: Number) -> u64 {
+    match number {
+        Number::Value(v) => v,
+        Number::TooLarge => u64::MAX,
+        Number::Bad => u64::MAX,
+    }
+}
+
+pub(crate) fn is_number(number: Number) -> bool {
+    match number {
+        Number::Value(_) => true,
+        Number::TooLarge => true,
+        Number::Bad => false,
+    }
+}
+
+pub(crate) fn least(a: usize, b: usize) -> usize
+    ensures { λ r. ⌜ (r ≤ a) × (r ≤ b) ⌝ }
+{
+    if a < b { a } else { b }
+}
+
+pub(crate) fn least_number(a: u64, b: u64) -> u64
+    ensures { λ r. ⌜ (r ≤ a) × (r ≤ b) ⌝ }
+{
+    if a < b { a } else { b }
+}
