@@ -1,0 +1,4 @@
+pub mod Frames
+pub mod Bits
+pub mod Reading
+pub mod ReadBack
