@@ -2,3 +2,4 @@ pub mod Frames
 pub mod Bits
 pub mod Reading
 pub mod ReadBack
+pub mod Length
