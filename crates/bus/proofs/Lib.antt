@@ -1,1 +1,7 @@
+pub mod Picks
+pub mod Sound
+pub mod Filled
+pub mod Passes
+pub mod Scans
+pub mod Decodes
 pub mod Worked

@@ -63,11 +63,16 @@ next decoder level =
 unfoldable pub cut : Decoder → List ℕ
 cut decoder = cond (eqb (decoder .pending) 0) [] (partialEvent ∷ [])
 
--- what one sample lists: 512 at START, or 513 in an open frame; 514 at STOP in an open frame; nine bits' event
+-- START lists 512, or 513 in an open frame
+abbrev pub startOf : Bool → ℕ
+startOf false = startEvent
+startOf true = repeatedStartEvent
+
+-- what one sample lists: a START's event; 514 at STOP in an open frame; the event that nine bits make
 unfoldable pub lists : Decoder → ℕ → List ℕ
 lists decoder level =
     cond (starts (decoder .last) level)
-    (cut decoder ++ cond (decoder .framed) repeatedStartEvent startEvent ∷ [])
+    (cut decoder ++ startOf (decoder .framed) ∷ [])
     (cond (stops (decoder .last) level && decoder .framed)
     (cut decoder ++ stopEvent ∷ [])
     (cond (takes decoder level && ninth decoder) (byteEvent (decoder .value) (bit decoder) ∷ []) []))

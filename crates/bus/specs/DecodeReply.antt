@@ -1,13 +1,14 @@
 -- What decode answers, refusals in 01's order, and what the lent slice holds after it.
 use Prim.Native.Nat.{ℕ, suc}
 use mathlib.Core.Bool.{Bool, cond, not}
-use mathlib.Core.List.{List, [], _∷_, _++_}
+use mathlib.Core.List.{List, [], _∷_}
 use mir.Val.{boolByte}
 use lib.Dec.{eqb, ltb}
-use lib.ListN.{length, drop}
+use lib.ListN.{length}
 use Rattle.bus.specs.declared.Decoded.{Decoded}
 use Rattle.bus.specs.declared.Decoded.the-variants.{Events, Refused}
 use Rattle.bus.specs.Limits.{maxSamples}
+use Rattle.bus.specs.Buffer.{filled}
 use Rattle.bus.specs.Decode.{events, final}
 
 -- the place of the first level above 3, or the length where there is none (refusal 4)
@@ -37,11 +38,11 @@ decoded stamps levels room =
 
 -- the lent slice after it: the events, and the rest as it was; at a refusal all as it was
 abbrev pub eventsAfter : Decoded → List ℕ → List ℕ → List ℕ
-eventsAfter (Events count framed pending value) levels buffer = events levels ++ drop (length (events levels)) buffer
+eventsAfter (Events count framed pending value) levels buffer = filled (events levels) buffer
 eventsAfter (Refused number place) levels buffer = buffer
 
 -- 01's numbers of a reply; in a refused one all others are 0
-pub record Numbers : Type 0 where
+pub record DecodedNumbers : Type 0 where
   pub refusal : ℕ
   pub place : ℕ
   pub count : ℕ
@@ -49,8 +50,8 @@ pub record Numbers : Type 0 where
   pub pending : ℕ
   pub value : ℕ
 
-abbrev pub numbers : Decoded → Numbers
-numbers (Events count framed pending value) =
+abbrev pub decodedNumbers : Decoded → DecodedNumbers
+decodedNumbers (Events count framed pending value) =
     record {
       refusal = 0;
       place = 0;
@@ -59,5 +60,5 @@ numbers (Events count framed pending value) =
       pending = pending;
       value = value;
     }
-numbers (Refused number place) =
+decodedNumbers (Refused number place) =
     record { refusal = number; place = place; count = 0; framed = 0; pending = 0; value = 0 }

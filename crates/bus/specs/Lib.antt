@@ -1,7 +1,9 @@
 pub mod Limits
+pub mod Buffer
 pub mod Levels
 pub mod Events
 pub mod Decode
+pub mod Listing
 pub mod DecodeReply
 pub mod Complete
 pub mod Encode
