@@ -3,3 +3,5 @@ pub mod Bits
 pub mod Reading
 pub mod ReadBack
 pub mod Length
+pub mod Sample
+pub mod Bounds
