@@ -25,7 +25,7 @@ unfolding advance
 broken-stays [] = refl
 broken-stays (event ∷ events) = broken-stays events
 
-never : {A : Type 0} (events : List ℕ) → completeFrom Broken events ≡ true → A
+pub never : {A : Type 0} (events : List ℕ) → completeFrom Broken events ≡ true → A
 never events complete = absurd (false≢true (sym (broken-stays events) ∙ complete))
 
 -- the event is the one of that number

@@ -28,7 +28,7 @@ parts list =
     4 * howMany (λ event. eqb event startEvent) list + 18 * howMany isByte list
     + 3 * howMany (λ event. eqb event repeatedStartEvent) list
 
-byte-length : (event : ℕ) → isByte event ≡ true → length (drawEvent event) ≡ 18
+pub byte-length : (event : ℕ) → isByte event ≡ true → length (drawEvent event) ≡ 18
 unfolding drawEvent byteBits
 byte-length event byte = rw byte
 

@@ -5,3 +5,4 @@ pub mod ReadBack
 pub mod Length
 pub mod Sample
 pub mod Bounds
+pub mod Credit

@@ -18,7 +18,7 @@ pub record Falls (decoder : Decoder) (level : ℕ) : Type 0 where
   pub unmarked : decoder .marked ≡ false
 
 -- the decoder after a bit that is not the ninth, and after the ninth
-abbrev bitTaken : Decoder → ℕ → Decoder
+abbrev pub bitTaken : Decoder → ℕ → Decoder
 bitTaken decoder level =
     record {
       last = level;
@@ -28,7 +28,7 @@ bitTaken decoder level =
       value = 2 * decoder .value + boolByte (bit decoder);
     }
 
-abbrev byteTaken : ℕ → Decoder
+abbrev pub byteTaken : ℕ → Decoder
 byteTaken level = record { last = level; framed = true; marked = false; pending = 0; value = 0 }
 
 -- a sample lists these events and leaves this decoder
@@ -43,7 +43,7 @@ pub data Sampled (decoder : Decoder) (level : ℕ) : List ℕ → Decoder → Ty
       → Sampled decoder level (byteEvent (decoder .value) (bit decoder) ∷ []) (byteTaken level)
   remembered : Sampled decoder level [] (seen decoder level)
 
-both-true : (a b : Bool) → a && b ≡ true → (a ≡ true) × (b ≡ true)
+pub both-true : (a b : Bool) → a && b ≡ true → (a ≡ true) × (b ≡ true)
 both-true true b both = (refl, both)
 both-true false b both = absurd (false≢true both)
 
