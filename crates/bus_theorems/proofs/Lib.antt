@@ -6,3 +6,5 @@ pub mod Length
 pub mod Sample
 pub mod Bounds
 pub mod Credit
+pub mod Redraw
+pub mod Replies
