@@ -7,4 +7,5 @@ pub mod Sample
 pub mod Bounds
 pub mod Credit
 pub mod Redraw
+pub mod Trace
 pub mod Replies
