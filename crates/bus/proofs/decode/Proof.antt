@@ -3,54 +3,37 @@ use mathlib.Core.Path.{refl}
 use borrow.Author.Needs.{needs}
 use Rattle.bus.proofs.decode.Statement.{statement}
 use Rattle.bus.proofs.decode.Tie as tie
-use Rattle.bus.proofs.decode.Reads as reads
-use Rattle.bus.proofs.decode.Lts as lts
-use Rattle.bus.proofs.listing.count_events.Reads as count-events-reads
-use Rattle.bus.proofs.listing.write_events.Reads as write-events-reads
-use Rattle.bus.proofs.trace.bad_level.Reads as bad-level-reads
-use Rattle.bus.proofs.trace.bad_stamp.Reads as bad-stamp-reads
 
--- src/lib.rt:64:9
 returns : tie.Need-returns
 returns c = (search replies, refl)
 
--- src/lib.rt:67:9
 returns-2 : tie.Need-returns-2
 returns-2 c = (search replies, refl)
 
--- src/lib.rt:69:9
 bad-level-requires : tie.Need-bad-level-requires
 bad-level-requires c κs = search needs
 
--- src/lib.rt:71:9
 returns-3 : tie.Need-returns-3
 returns-3 c = (search replies, refl)
 
--- src/lib.rt:73:9
 bad-stamp-requires : tie.Need-bad-stamp-requires
 bad-stamp-requires c κs = search needs
 
--- src/lib.rt:75:9
 returns-4 : tie.Need-returns-4
 returns-4 c = (search replies, refl)
 
--- src/lib.rt:77:9
 count-events-requires : tie.Need-count-events-requires
 count-events-requires c κs = search needs
 
--- src/lib.rt:79:9
 returns-5 : tie.Need-returns-5
 returns-5 c = (search replies, refl)
 
--- src/lib.rt:81:9
 write-events-requires : tie.Need-write-events-requires
 write-events-requires c κs = search needs
 
--- src/lib.rt:60:1
 same-length : tie.Need-same-length
 same-length c = search needs
 
--- src/lib.rt:60:1
 returns-6 : tie.Need-returns-6
 returns-6 c = (search replies, c .before .before .write-events .ensures .1)
 

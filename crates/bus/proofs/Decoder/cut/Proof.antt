@@ -2,15 +2,11 @@ use borrow.Author.Tests.{eq-eqb, ne-eqb}
 use Rattle.bus.specs.Decode.{cut}
 use Rattle.bus.proofs.Decoder.cut.Statement.{statement}
 use Rattle.bus.proofs.Decoder.cut.Tie as tie
-use Rattle.bus.proofs.Decoder.cut.Reads as reads
-use Rattle.bus.proofs.Decoder.cut.Lts as lts
 
--- src/step.rt:86:13
 returns : tie.Need-returns
 unfolding cut
 returns c = rw (eq-eqb _ _ (c .if1 .taken))
 
--- src/step.rt:82:5
 returns-2 : tie.Need-returns-2
 unfolding cut
 returns-2 c = rw (ne-eqb _ _ (c .if1 .left))

@@ -2,62 +2,42 @@ use Rattle.bus.specs.Decode.{lists}
 use borrow.Author.Needs.{needs}
 use Rattle.bus.proofs.Decoder.lists.Statement.{statement}
 use Rattle.bus.proofs.Decoder.lists.Tie as tie
-use Rattle.bus.proofs.Decoder.lists.Reads as reads
-use Rattle.bus.proofs.Decoder.lists.Lts as lts
-use Rattle.bus.proofs.Decoder.cut.Reads as cut-reads
-use Rattle.bus.proofs.Decoder.takes.Reads as takes-reads
-use Rattle.bus.proofs.level.sda.Reads as sda-reads
-use Rattle.bus.proofs.level.starts.Reads as starts-reads
-use Rattle.bus.proofs.level.stops.Reads as stops-reads
-use Rattle.bus.proofs.step.byte_event.Reads as byte-event-reads
-use Rattle.bus.proofs.step.start_event.Reads as start-event-reads
 
--- src/step.rt:116:12
 starts-requires : tie.Need-starts-requires
 starts-requires c κs = search needs
 
--- src/step.rt:117:29
 start-event-requires : tie.Need-start-event-requires
 start-event-requires c κs = search needs
 
--- src/step.rt:117:13
 cut-requires : tie.Need-cut-requires
 cut-requires c κs = search needs
 
--- src/step.rt:117:13
 returns : tie.Need-returns
 unfolding lists
 returns c =
     rw (← c .before .before .before .starts .ensures, c .before .before .if1 .taken, ← c .before .start-event .ensures) (c .cut .ensures)
 
--- src/step.rt:119:12
 stops-requires : tie.Need-stops-requires
 stops-requires c κs = search needs
 
--- src/step.rt:120:13
 cut-requires-2 : tie.Need-cut-requires-2
 cut-requires-2 c κs = search needs
 
--- src/step.rt:120:13
 returns-2 : tie.Need-returns-2
 unfolding lists
 returns-2 c =
     rw (← c .before .before .before .before .before .starts .ensures, c .before .before .before .before .if1 .left, ← c .before .before .before .stops .ensures, c .before .if2 .taken)
     (c .cut2 .ensures)
 
--- src/step.rt:122:12
 takes-requires : tie.Need-takes-requires
 takes-requires c κs = search needs
 
--- src/step.rt:123:55
 sda-requires : tie.Need-sda-requires
 sda-requires c κs = search needs
 
--- src/step.rt:123:32
 byte-event-requires : tie.Need-byte-event-requires
 byte-event-requires c κs = search needs
 
--- src/step.rt:123:13
 returns-3 : tie.Need-returns-3
 unfolding lists
 returns-3 c =
@@ -66,7 +46,6 @@ returns-3 c =
     (rw (tested .before .before .before .if2 .left, ← tested .before .before .takes .ensures, tested .if3 .taken)
     (rw (c .byte-event .ensures, c .before .sda .ensures)))
 
--- src/step.rt:113:5
 returns-4 : tie.Need-returns-4
 unfolding lists
 returns-4 c =

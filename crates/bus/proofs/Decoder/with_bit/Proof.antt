@@ -5,24 +5,17 @@ use Rattle.bus.specs.Decode.{withBit}
 use borrow.Author.Needs.{needs}
 use Rattle.bus.proofs.Decoder.with_bit.Statement.{statement}
 use Rattle.bus.proofs.Decoder.with_bit.Tie as tie
-use Rattle.bus.proofs.Decoder.with_bit.Reads as reads
-use Rattle.bus.proofs.Decoder.with_bit.Lts as lts
-use Rattle.bus.proofs.level.sda.Reads as sda-reads
 
--- src/step.rt:38:13
 returns : tie.Need-returns
 unfolding withBit
 returns c = rw (eq-eqb _ _ (c .if1 .taken))
 
--- src/step.rt:40:19
 sda-requires : tie.Need-sda-requires
 sda-requires c κs = search needs
 
--- src/step.rt:40:19
 cast-bit : tie.Need-cast-bit
 cast-bit c = search needs
 
--- src/step.rt:45:22
 add-t5 : tie.Need-add-t5
 add-t5 c = search needs
 

@@ -2,38 +2,28 @@ use native.Mathlib.Omega.{arith}
 use borrow.Author.Needs.{needs}
 use Rattle.bus.proofs.listing.counted.Statement.{statement}
 use Rattle.bus.proofs.listing.counted.Tie as tie
-use Rattle.bus.proofs.listing.counted.Reads as reads
-use Rattle.bus.proofs.listing.counted.Lts as lts
 
--- src/listing.rt:19:28
 enum-told : tie.Need-enum-told
 enum-told c = search needs
 
--- src/listing.rt:20:27
 enum-told-2 : tie.Need-enum-told-2
 enum-told-2 c = search needs
 
--- src/listing.rt:20:27
 add-result : tie.Need-add-result
 add-result c = search needs
 
--- src/listing.rt:21:30
 enum-told-3 : tie.Need-enum-told-3
 enum-told-3 c = search needs
 
--- src/listing.rt:21:30
 add-result-2 : tie.Need-add-result-2
 add-result-2 c = search needs
 
--- src/listing.rt:14:1
 returns : tie.Need-returns
 returns c = rw (c .enum-told .given .1) (omega arith)
 
--- src/listing.rt:14:1
 returns-2 : tie.Need-returns-2
 returns-2 c = rw (c .enum-told2 .given .1)
 
--- src/listing.rt:14:1
 returns-3 : tie.Need-returns-3
 returns-3 c = rw (c .enum-told3 .given .1)
 

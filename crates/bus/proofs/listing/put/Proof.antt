@@ -5,74 +5,55 @@ use native.Mathlib.Omega.{arith}
 use borrow.Author.Needs.{needs}
 use Rattle.bus.proofs.listing.put.Statement.{statement}
 use Rattle.bus.proofs.listing.put.Tie as tie
-use Rattle.bus.proofs.listing.put.Reads as reads
-use Rattle.bus.proofs.listing.put.Lts as lts
 
--- src/listing.rt:31:28
 enum-told : tie.Need-enum-told
 enum-told c = search needs
 
--- src/listing.rt:32:21
 enum-known-step : tie.Need-enum-known-step
 enum-known-step c = search needs
 
--- src/listing.rt:33:13
 mul-events : tie.Need-mul-events
 mul-events c = search needs
 
--- src/listing.rt:33:13
 slice-write-events : tie.Need-slice-write-events
 slice-write-events c = omega (arith, rw (c .before .step .given .1) at (c .before .before .before .pre))
 
--- src/listing.rt:34:13
 add-result : tie.Need-add-result
 add-result c = search needs
 
--- src/listing.rt:36:21
 enum-known-step-2 : tie.Need-enum-known-step-2
 enum-known-step-2 c = search needs
 
--- src/listing.rt:37:13
 mul-events-2 : tie.Need-mul-events-2
 mul-events-2 c = search needs
 
--- src/listing.rt:37:13
 slice-write-events-2 : tie.Need-slice-write-events-2
 slice-write-events-2 c = omega (arith, rw (c .before .step2 .given .1) at (c .before .before .before .pre))
 
--- src/listing.rt:38:20
 add-events : tie.Need-add-events
 add-events c = search needs
 
--- src/listing.rt:38:13
 mul-events-3 : tie.Need-mul-events-3
 mul-events-3 c = search needs
 
--- src/listing.rt:38:13
 slice-write-events-3 : tie.Need-slice-write-events-3
 slice-write-events-3 c = rw length-set (omega (arith, rw (c .before .step2 .given .1) at (c .before .before .before .pre)))
 
--- src/listing.rt:39:13
 add-result-2 : tie.Need-add-result-2
 add-result-2 c = search needs
 
--- src/listing.rt:26:1
 returns : tie.Need-returns
 returns c = rw (c .enum-told .given .1) (omega arith, refl)
 
--- src/listing.rt:26:1
 same-length : tie.Need-same-length
 same-length c = search needs
 
--- src/listing.rt:26:1
 returns-2 : tie.Need-returns-2
 returns-2 c = rw (c .before .step .given .1) (refl, refl)
 
--- src/listing.rt:26:1
 same-length-2 : tie.Need-same-length-2
 same-length-2 c = search needs
 
--- src/listing.rt:26:1
 returns-3 : tie.Need-returns-3
 returns-3 c = rw (c .before .step2 .given .1) (refl, rw add-one)
 
