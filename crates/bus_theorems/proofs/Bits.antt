@@ -2,8 +2,8 @@
 use Prim.Native.Nat.{ℕ, zero, suc, _+_, _*_, _/_, _%_, _^_, _<_}
 use native.Mathlib.Nat.{add-assoc, mod-lt, pow-suc, mul-comm, mul-assoc, mul-left-comm, add-mul}
 use native.Mathlib.Omega.{arith}
-use mathlib.Core.Path.{_≡_, refl, sym, _∙_, ap}
-use mathlib.Core.Bool.{Bool, true, false}
+use mathlib.Core.Path.{_≡_, refl, _∙_}
+use mathlib.Core.Bool.{Bool}
 use mathlib.Core.List.{List, [], _∷_}
 use mir.Val.{boolByte}
 use lib.Dec.{eqb}
@@ -30,13 +30,22 @@ is-digit (suc (suc digit)) small = absurd (omega arith)
 bit-digit : (position number : ℕ) → boolByte (bitAt position number) ≡ number / 2 ^ position % 2
 bit-digit position number = is-digit (number / 2 ^ position % 2) (mod-lt (number / 2 ^ position) (omega arith))
 
-number-of-bits : (width value number : ℕ) → numberFrom value (bitsBelow width number) ≡ value * 2 ^ width + number % 2 ^ width
+-- after a value they make the value shifted up by the width, plus the number's lowest digits
+number-of-bits : (width value number : ℕ)
+    → numberFrom value (bitsBelow width number) ≡ value * 2 ^ width + number % 2 ^ width
 number-of-bits zero value number = omega arith
 number-of-bits (suc width) value number =
     let power : 2 ^ suc width ≡ 2 * 2 ^ width = pow-suc 2 width ∙ mul-comm (2 ^ width) 2 in
     number-of-bits width (2 * value + boolByte (bitAt width number)) number
-    ∙ rw (power, bit-digit width number, mod-mul number {m = 2} {c = 2 ^ width} (omega arith) (pow-pos width),
-      add-mul, mul-assoc 2 value, mul-left-comm value 2, add-assoc)
+    ∙ rw (
+      power,
+      bit-digit width number,
+      mod-mul number {m = 2} {c = 2 ^ width} (omega arith) (pow-pos width),
+      add-mul,
+      mul-assoc 2 value,
+      mul-left-comm value 2,
+      add-assoc,
+    )
 
 -- an event below 512 is read back from its bits
 pub event-of-bits : (event : ℕ) → event < 512 → byteEvent (numberFrom 0 (byteBits event)) (bitAt 8 event) ≡ event

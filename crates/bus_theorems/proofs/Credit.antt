@@ -1,10 +1,10 @@
--- Why a drawing takes no more samples than the record that its events were read from: each sample adds at most one to a credit,
--- and what a sample lists costs no more to draw than the credit that it uses up. In a frame the credit is two samples for each bit
--- that is pending, one for the low phase of the next bit and one for its high phase.
-use Prim.Native.Nat.{ℕ, zero, suc, _+_, _*_, _≤_, _<_}
+-- Why a drawing takes no more samples than the record that its events were read from: a sample adds at most one to
+-- a credit, and what it lists takes no more samples to draw than the credit that it uses up. In a frame the credit is
+-- two samples for each bit that is pending, one for the low phase of the next bit and one for its high phase.
+use Prim.Native.Nat.{ℕ, _+_, _*_, _≤_}
 use native.Mathlib.Omega.{arith}
-use mathlib.Core.Path.{_≡_, refl, sym, _∙_, ap}
-use mathlib.Core.Bool.{Bool, true, false, cond, _&&_, false≢true}
+use mathlib.Core.Path.{_≡_, refl, sym, _∙_}
+use mathlib.Core.Bool.{Bool, true, false, cond, false≢true}
 use mathlib.Core.List.{List, [], _∷_, _++_}
 use mir.Val.{boolByte}
 use lib.Dec.{eqb}
@@ -14,8 +14,8 @@ use Rattle.bus.specs.declared.Decoder.{Decoder}
 use Rattle.bus.specs.declared.Position.{Position}
 use Rattle.bus.specs.declared.Position.the-variants.{Between, Opened, Within, Broken}
 use Rattle.bus.specs.Levels.{scl}
-use Rattle.bus.specs.Events.{isByte, byteEvent, partialEvent, startEvent, repeatedStartEvent, stopEvent}
-use Rattle.bus.specs.Decode.{bit, ninth, conditioned, seen, cut, startOf}
+use Rattle.bus.specs.Events.{isByte, partialEvent, stopEvent}
+use Rattle.bus.specs.Decode.{ninth, conditioned, seen, cut, startOf}
 use Rattle.bus.specs.Complete.{advance, completeFrom}
 use Rattle.bus.specs.Encode.{drawEvent, drawEvents}
 use Rattle.bus.specs.Listing.{Sound}
@@ -23,7 +23,8 @@ use Rattle.bus.proofs.Sound.{at-most-one}
 use Rattle.bus_theorems.proofs.Frames.{never}
 use Rattle.bus_theorems.proofs.Length.{byte-length}
 use Rattle.bus_theorems.proofs.Bounds.{byte-below-512}
-use Rattle.bus_theorems.proofs.Sample.{Falls, Sampled, started, stopped, ignored, bit-taken, byte-taken, remembered, both-true, bitTaken, byteTaken}
+use Rattle.bus_theorems.proofs.Sample.{Sampled, started, stopped, ignored, bit-taken, byte-taken, remembered}
+use Rattle.bus_theorems.proofs.Sample.{Falls, both-true, bitTaken, byteTaken}
 
 -- samples that were seen and that no listed event has used up
 abbrev pub credit : Decoder → ℕ
@@ -67,7 +68,12 @@ start-paid : (position : Position) (decoder : Decoder) (level : ℕ) (rest : Lis
     → Paid decoder (startOf (decoder .framed) ∷ []) (conditioned true level) rest
 unfolding advance drawEvent
 start-paid Between decoder level rest high unframed whole =
-    record { position = Opened; stands = (refl, λ marked. refl); goes-on = rw unframed at whole; cost = rw unframed (omega arith) }
+    record {
+      position = Opened;
+      stands = (refl, λ marked. refl);
+      goes-on = rw unframed at whole;
+      cost = rw unframed (omega arith);
+    }
 start-paid Opened decoder level rest high (framed, _) whole = never rest (rw framed at whole)
 start-paid Within decoder level rest high (framed, unmarked) whole =
     record {
@@ -111,7 +117,12 @@ bit-paid Opened decoder level rest fall _ whole =
       cost = omega (arith, bit-cost decoder level fall);
     }
 bit-paid Within decoder level rest fall _ whole =
-    record { position = Within; stands = (refl, refl); goes-on = whole; cost = omega (arith, bit-cost decoder level fall) }
+    record {
+      position = Within;
+      stands = (refl, refl);
+      goes-on = whole;
+      cost = omega (arith, bit-cost decoder level fall);
+    }
 bit-paid Broken decoder level rest fall impossible whole = absurd impossible
 
 -- the samples of nine bits are those of the byte's drawing
@@ -123,10 +134,12 @@ byte-cost decoder level event fall nine byte =
     (omega (arith, length-append (drawEvent event) [], byte-length event byte))
 
 byte-paid : (position : Position) (decoder : Decoder) (level event : ℕ) (rest : List ℕ) → Falls decoder level
-    → ninth decoder ≡ true → isByte event ≡ true → Stands position decoder → completeFrom position (event ∷ rest) ≡ true
+    → ninth decoder ≡ true → isByte event ≡ true
+    → Stands position decoder → completeFrom position (event ∷ rest) ≡ true
     → Paid decoder (event ∷ []) (byteTaken level) rest
 unfolding advance
-byte-paid Between decoder level event rest fall nine byte unframed whole = absurd (false≢true (sym unframed ∙ fall .in-frame))
+byte-paid Between decoder level event rest fall nine byte unframed whole =
+    absurd (false≢true (sym unframed ∙ fall .in-frame))
 byte-paid Opened decoder level event rest fall nine byte _ whole =
     record {
       position = Within;
@@ -176,9 +189,9 @@ seen-paid Within decoder level rest (framed, unmarked) whole =
     }
 seen-paid Broken decoder level rest impossible whole = absurd impossible
 
-pub sample-paid : (position : Position) {decoder : Decoder} {level : ℕ} {list : List ℕ} {after : Decoder} (rest : List ℕ)
-    → Sampled decoder level list after → Sound decoder → Stands position decoder → completeFrom position (list ++ rest) ≡ true
-    → Paid decoder list after rest
+pub sample-paid : (position : Position) {decoder : Decoder} {level : ℕ} {list : List ℕ} {after : Decoder}
+    (rest : List ℕ) → Sampled decoder level list after → Sound decoder
+    → Stands position decoder → completeFrom position (list ++ rest) ≡ true → Paid decoder list after rest
 sample-paid position {decoder} {level} rest (started high) sound stands whole =
     let uncut : cut decoder ≡ [] = none-cut position decoder (startOf (decoder .framed)) rest whole in
     rw uncut (start-paid position decoder level rest high stands (rw uncut at whole))
@@ -191,4 +204,5 @@ sample-paid position {decoder} {level} rest (bit-taken fall eighth) sound stands
     bit-paid position decoder level rest fall stands whole
 sample-paid position {decoder} {level} rest (byte-taken fall nine) sound stands whole =
     byte-paid position decoder level _ rest fall nine (lt-ltb _ 512 (byte-below-512 decoder sound nine)) stands whole
-sample-paid position {decoder} {level} rest remembered sound stands whole = seen-paid position decoder level rest stands whole
+sample-paid position {decoder} {level} rest remembered sound stands whole =
+    seen-paid position decoder level rest stands whole

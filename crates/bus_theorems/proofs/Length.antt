@@ -1,10 +1,10 @@
--- The count 1 + 4f + 18n + 3r is the length of the drawing: START and STOP take one and three samples, and every frame has both.
+-- The count 1 + 4f + 18n + 3r is the length of the drawing: a START takes one sample, a STOP three, and each frame
+-- has both.
 use Prim.Native.Nat.{ℕ, _+_, _*_, _<_}
 use native.Mathlib.Omega.{arith}
-use mathlib.Core.Path.{_≡_, refl, sym, _∙_, ap}
-use mathlib.Core.Bool.{Bool, true, false}
-use mathlib.Core.List.{List, [], _∷_, _++_}
-use mir.Val.{boolByte}
+use mathlib.Core.Path.{_≡_, refl}
+use mathlib.Core.Bool.{true}
+use mathlib.Core.List.{List, _∷_}
 use lib.Dec.{eqb}
 use lib.ListN.{length, length-append}
 use borrow.Author.Tests.{ltb-true, ne-eqb}
@@ -39,9 +39,12 @@ byte-parts event list byte =
     rw (byte, ne-eqb event 512 (λ e. omega arith), ne-eqb event 513 (λ e. omega arith)) (omega arith)
 
 byte-adds : (event extra : ℕ) (list : List ℕ) → isByte event ≡ true
-    → length (drawEvents list) ≡ extra + parts list → length (drawEvents (event ∷ list)) ≡ extra + parts (event ∷ list)
+    → length (drawEvents list) ≡ extra + parts list
+    → length (drawEvents (event ∷ list)) ≡ extra + parts (event ∷ list)
 byte-adds event extra list byte rest =
-    omega (arith, length-append (drawEvent event) (drawEvents list), byte-length event byte, byte-parts event list byte)
+    let whole : length (drawEvents (event ∷ list)) ≡ length (drawEvent event) + length (drawEvents list) =
+    length-append (drawEvent event) (drawEvents list) in
+    omega (arith, byte-length event byte, byte-parts event list byte)
 
 drawn-length : {position : Position} {list : List ℕ} → Completes position list
     → length (drawEvents list) ≡ closing position + parts list

@@ -8,4 +8,5 @@ pub mod Bounds
 pub mod Credit
 pub mod Redraw
 pub mod Trace
+pub mod Accepted
 pub mod Replies

@@ -1,7 +1,5 @@
--- Reading in parts: what a decoder lists of some levels and where that leaves it, put end to end; then the parts of a drawing.
-use Prim.Native.Nat.{ℕ, zero, suc, _+_, _*_, _≤_, _<_}
-use native.Mathlib.Numerals.{add-one}
-use native.Mathlib.Nat.{add-suc, suc-add}
+-- Reading in parts: what a decoder lists of some levels and where that leaves it, put end to end; then a drawn bit.
+use Prim.Native.Nat.{ℕ, suc, _+_, _*_, _<_}
 use native.Mathlib.Omega.{arith}
 use mathlib.Core.Path.{_≡_, refl, sym, _∙_, ap}
 use mathlib.Core.Bool.{Bool, true, false}
@@ -12,7 +10,7 @@ use lib.ListN.{length}
 use borrow.Author.Tests.{ne-eqb}
 use Rattle.bus.specs.declared.Decoder.{Decoder}
 use Rattle.bus.specs.Levels.{starts, stops, falls}
-use Rattle.bus.specs.Events.{byteEvent, startEvent, repeatedStartEvent, stopEvent}
+use Rattle.bus.specs.Events.{byteEvent}
 use Rattle.bus.specs.Decode.{takes, withBit, next, cut, lists, after, listed}
 use Rattle.bus.specs.Encode.{drawBit, drawBits}
 use Rattle.bus_theorems.proofs.Bits.{numberFrom}
@@ -36,7 +34,8 @@ after-append decoder (level ∷ levels) others = after-append (next decoder leve
 
 -- one part after another
 pub then-reads : {first second third : Decoder} {levels others events more : List ℕ}
-    → Reads first levels events second → Reads second others more third → Reads first (levels ++ others) (events ++ more) third
+    → Reads first levels events second → Reads second others more third
+    → Reads first (levels ++ others) (events ++ more) third
 then-reads {first} {levels} {others} one two =
     record {
       lists-them = listed-append first levels others ∙ rw (one .ends-at, one .lists-them, two .lists-them);
@@ -63,13 +62,13 @@ first-bit true = record { lists-them = refl; ends-at = refl }
 first-bit false = record { lists-them = refl; ends-at = refl }
 
 -- a bit after a byte: the byte's ninth bit is taken
-pub bit-after-byte : (ninth bit : Bool) (value : ℕ)
+pub bit-after-byte : (ninth : Bool) (value : ℕ) (bit : Bool)
     → Reads (showing ninth 8 value) (drawBit bit) (byteEvent value ninth ∷ []) (showing bit 0 0)
 unfolding starts stops falls takes withBit next cut lists
-bit-after-byte true true value = record { lists-them = refl; ends-at = refl }
-bit-after-byte true false value = record { lists-them = refl; ends-at = refl }
-bit-after-byte false true value = record { lists-them = refl; ends-at = refl }
-bit-after-byte false false value = record { lists-them = refl; ends-at = refl }
+bit-after-byte true value true = record { lists-them = refl; ends-at = refl }
+bit-after-byte true value false = record { lists-them = refl; ends-at = refl }
+bit-after-byte false value true = record { lists-them = refl; ends-at = refl }
+bit-after-byte false value false = record { lists-them = refl; ends-at = refl }
 
 -- a bit within a byte: the bit before joins the value
 pub bit-within : (before bit : Bool) (pending value : ℕ) → eqb pending 8 ≡ false
@@ -80,14 +79,16 @@ bit-within true false pending value few = record { lists-them = rw few; ends-at 
 bit-within false true pending value few = record { lists-them = rw few; ends-at = rw few }
 bit-within false false pending value few = record { lists-them = rw few; ends-at = rw few }
 
+below-eight : (pending : ℕ) → pending < 8 → eqb pending 8 ≡ false
+below-eight pending few = ne-eqb pending 8 (λ e. omega arith)
 
 -- bits within a byte, up to the one that shows at the end
 pub bits-within : (bits : List Bool) (before last : Bool) (pending value : ℕ) → pending + length bits < 8
     → Reads (showing before pending value) (drawBits (bits ++ last ∷ [])) []
-      (showing last (pending + suc (length bits)) (numberFrom value (before ∷ bits)))
-bits-within [] before last pending value few = bit-within before last pending value (ne-eqb pending 8 (λ e. omega arith))
+    (showing last (pending + suc (length bits)) (numberFrom value (before ∷ bits)))
+bits-within [] before last pending value few = bit-within before last pending value (below-eight pending (omega arith))
 bits-within (bit ∷ bits) before last pending value few =
     let one-more : pending + suc (suc (length bits)) ≡ pending + 1 + suc (length bits) = omega arith in
     rw one-more
-    (then-reads (bit-within before bit pending value (ne-eqb pending 8 (λ e. omega arith)))
+    (then-reads (bit-within before bit pending value (below-eight pending (omega arith)))
     (bits-within bits bit last (pending + 1) (2 * value + boolByte before) (omega arith)))

@@ -1,8 +1,8 @@
--- A complete list that decode gives takes no more samples to draw than the record had, so encode never refuses it with 6.
-use Prim.Native.Nat.{ℕ, suc, _+_, _≤_}
+-- A complete list that decode gives takes no more samples to draw than the record had, so 6 never applies to it.
+use Prim.Native.Nat.{ℕ, _+_, _≤_}
 use native.Mathlib.Omega.{arith}
 use mathlib.Core.Path.{_≡_, refl, sym, _∙_, ap}
-use mathlib.Core.Bool.{Bool, true, false}
+use mathlib.Core.Bool.{true, false}
 use mathlib.Core.List.{List, [], _∷_, _++_, append-assoc}
 use lib.ListN.{length, length-append}
 use Rattle.bus.specs.declared.Decoder.{Decoder}
@@ -25,19 +25,23 @@ draw-append (event ∷ list) more =
     ap (λ (levels : List ℕ). drawEvent event ++ levels) (draw-append list more)
     ∙ sym (append-assoc (drawEvent event) (drawEvents list) (drawEvents more))
 
-draw-length : (list more : List ℕ) → length (drawEvents (list ++ more)) ≡ length (drawEvents list) + length (drawEvents more)
+draw-length : (list more : List ℕ)
+    → length (drawEvents (list ++ more)) ≡ length (drawEvents list) + length (drawEvents more)
 draw-length list more = rw draw-append (length-append (drawEvents list) (drawEvents more))
 
 -- from any decoder: the samples to come and its credit pay for what is still listed
 listed-paid : (levels : List ℕ) (position : Position) (decoder : Decoder) → Sound decoder → Stands position decoder
-    → completeFrom position (listed decoder levels) ≡ true → length (drawEvents (listed decoder levels)) ≤ length levels + credit decoder
+    → completeFrom position (listed decoder levels) ≡ true
+    → length (drawEvents (listed decoder levels)) ≤ length levels + credit decoder
 listed-paid [] position decoder sound stands whole = omega arith
 listed-paid (level ∷ levels) position decoder sound stands whole =
-    let paid : Paid decoder (lists decoder level) (next decoder level) (listed (next decoder level) levels)
-          = sample-paid position (listed (next decoder level) levels) (sampled decoder level) sound stands whole in
-    let rest : length (drawEvents (listed (next decoder level) levels)) ≤ length levels + credit (next decoder level)
-          = listed-paid levels (paid .position) (next decoder level) (next-sound decoder level sound) (paid .stands) (paid .goes-on) in
-    omega (arith, draw-length (lists decoder level) (listed (next decoder level) levels), paid .cost)
+    let after : Decoder = next decoder level in
+    let later : List ℕ = listed after levels in
+    let paid : Paid decoder (lists decoder level) after later =
+    sample-paid position later (sampled decoder level) sound stands whole in
+    let rest : length (drawEvents later) ≤ length levels + credit after =
+    listed-paid levels (paid .position) after (next-sound decoder level sound) (paid .stands) (paid .goes-on) in
+    omega (arith, draw-length (lists decoder level) later, paid .cost)
 
 -- the first sample is only remembered
 abbrev waiting : ℕ → Decoder
@@ -56,8 +60,9 @@ pub redraw-within : (level : ℕ) (levels : List ℕ) → complete (events (leve
     → sampleCount (events (level ∷ levels)) ≤ length (level ∷ levels)
 redraw-within level levels whole =
     let later : events (level ∷ levels) ≡ listed (waiting level) levels = rw (lists-none level, waits level) in
-    let rest : length (drawEvents (events (level ∷ levels))) ≤ length levels + 0 =
-        rw later (listed-paid levels Between (waiting level) (rw waits at (next-sound idle level idle-sound)) refl (rw later at whole)) in
+    let sound : Sound (waiting level) = rw waits at (next-sound idle level idle-sound) in
+    let paid : length (drawEvents (events (level ∷ levels))) ≤ length levels + 0 =
+    rw later (listed-paid levels Between (waiting level) sound refl (rw later at whole)) in
     omega (arith, drawing-length (events (level ∷ levels)) whole)
 
 -- an empty record gives the empty list, whose drawing is the one level 3

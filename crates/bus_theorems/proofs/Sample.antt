@@ -47,13 +47,17 @@ pub both-true : (a b : Bool) → a && b ≡ true → (a ≡ true) × (b ≡ true
 both-true true b both = (refl, both)
 both-true false b both = absurd (false≢true both)
 
+-- SCL is the first of four tests
+first-true : (a b c d : Bool) → a && b && c && d ≡ true → a ≡ true
+first-true a b c d test = both-true a b (both-true (a && b) c (both-true (a && b && c) d test .0) .0) .0
+
 starts-high : (before level : ℕ) → starts before level ≡ true → scl before ≡ true
 unfolding starts
-starts-high before level test = both-true (scl before) (scl level) (both-true _ (sda before) (both-true _ (not (sda level)) test .0) .0) .0
+starts-high before level = first-true (scl before) (scl level) (sda before) (not (sda level))
 
 stops-high : (before level : ℕ) → stops before level ≡ true → scl before ≡ true
 unfolding stops
-stops-high before level test = both-true (scl before) (scl level) (both-true _ (not (sda before)) (both-true _ (sda level) test .0) .0) .0
+stops-high before level = first-true (scl before) (scl level) (not (sda before)) (sda level)
 
 takes-falls : (decoder : Decoder) (level : ℕ) → takes decoder level ≡ true → Falls decoder level
 unfolding takes falls
@@ -74,16 +78,16 @@ sampled decoder level =
     by-tests (starts (decoder .last) level) refl (stops (decoder .last) level) refl (decoder .framed) refl
     (takes decoder level) refl (ninth decoder) refl
   where
-    by-tests : (start : Bool) → starts (decoder .last) level ≡ start → (stop : Bool) → stops (decoder .last) level ≡ stop
-        → (framed : Bool) → decoder .framed ≡ framed → (taken : Bool) → takes decoder level ≡ taken
-        → (nine : Bool) → ninth decoder ≡ nine
+    by-tests : (start : Bool) → starts (decoder .last) level ≡ start
+        → (stop : Bool) → stops (decoder .last) level ≡ stop → (framed : Bool) → decoder .framed ≡ framed
+        → (taken : Bool) → takes decoder level ≡ taken → (nine : Bool) → ninth decoder ≡ nine
         → Sampled decoder level
-          (cond start (cut decoder ++ startOf (decoder .framed) ∷ [])
-          (cond (stop && framed) (cut decoder ++ stopEvent ∷ [])
-          (cond (taken && nine) (byteEvent (decoder .value) (bit decoder) ∷ []) [])))
-          (cond start (conditioned true level)
-          (cond stop (conditioned false level)
-          (cond taken (cond nine (byteTaken level) (bitTaken decoder level)) (seen decoder level))))
+        (cond start (cut decoder ++ startOf (decoder .framed) ∷ [])
+        (cond (stop && framed) (cut decoder ++ stopEvent ∷ [])
+        (cond (taken && nine) (byteEvent (decoder .value) (bit decoder) ∷ []) [])))
+        (cond start (conditioned true level)
+        (cond stop (conditioned false level)
+        (cond taken (cond nine (byteTaken level) (bitTaken decoder level)) (seen decoder level))))
     by-tests true start stop _ framed _ taken _ nine _ = started (starts-high (decoder .last) level start)
     by-tests false _ true stop true framed taken _ nine _ = stopped (stops-high (decoder .last) level stop) framed
     by-tests false _ true _ false unframed false _ nine _ = ignored unframed

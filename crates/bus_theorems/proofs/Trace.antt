@@ -1,4 +1,4 @@
--- A drawing is a trace that decode takes: no level is above 3, the stamps rise, and there are as many as the count says.
+-- A drawing is a trace that decode takes: no level is above 3, and the stamps rise.
 use Prim.Native.Nat.{ℕ, zero, suc, _+_, _<_}
 use native.Mathlib.Omega.{arith}
 use mathlib.Core.Path.{_≡_, refl, ap}

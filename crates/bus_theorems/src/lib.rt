@@ -1,10 +1,9 @@
-// Theorems over the definitions of crate bus.
-ghost use mathlib.Core.Path.{_≡_};
-ghost use Prim.Native.Nat.{_+_, _*_};
+// What holds of decode and encode together: the theorems in proofs/ over crate bus's definitions.
+ghost use Rattle.bus_theorems.specs.Counts.{Samples};
 
-// How many samples the drawing of a complete event list takes, by its counts.
-pub fn sample_count(frames: u16, bytes: u16, restarts: u16) -> u32
-    ensures { λ r. ⌜ r ≡ 1 + 4 * frames + 18 * bytes + 3 * restarts ⌝ }
+// How many samples encode draws, and so how much room it needs, by the frames, bytes and repeated STARTs of a list.
+pub fn sample_count(frames: u16, bytes: u16, repeats: u16) -> u32
+    ensures { λ r. ⌜ Samples frames bytes repeats r ⌝ }
 {
-    1 + 4 * (frames as u32) + 18 * (bytes as u32) + 3 * (restarts as u32)
+    1 + 4 * (frames as u32) + 18 * (bytes as u32) + 3 * (repeats as u32)
 }
