@@ -2,7 +2,7 @@
 -- The decoder is a byte behind: a byte's ninth bit is taken, and the byte listed, at the first sample of what follows.
 use Prim.Native.Nat.{ℕ}
 use native.Mathlib.Omega.{arith}
-use mathlib.Core.Path.{_≡_, refl, ap}
+use mathlib.Core.Path.{_≡_, refl, sym, _∙_, ap}
 use mathlib.Core.Bool.{Bool, true, false}
 use mathlib.Core.List.{List, [], _∷_, _++_, append-nil}
 use borrow.Author.Tests.{ltb-true}
@@ -106,3 +106,8 @@ none-pending list whole = rw (reads-drawing list whole .reads .ends-at)
 
 pub value-zero : (list : List ℕ) → complete list ≡ true → final (drawing list) .value ≡ 0
 value-zero list whole = rw (reads-drawing list whole .reads .ends-at)
+
+-- so no two complete lists have one drawing
+pub drawing-injective : (list other : List ℕ) → complete list ≡ true → complete other ≡ true
+    → drawing list ≡ drawing other → list ≡ other
+drawing-injective list other whole all same = sym (events-back list whole) ∙ ap events same ∙ events-back other all
