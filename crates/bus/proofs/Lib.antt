@@ -5,4 +5,7 @@ pub mod Writing
 pub mod Passes
 pub mod Scans
 pub mod Decodes
+pub mod EventLists
+pub mod Drawn
+pub mod Stamps
 pub mod Worked

@@ -1,9 +1,9 @@
 -- A list that a loop counts, or writes to a buffer, piece by piece: what holds at the loop's head, and what a piece does to it.
 use mathlib.Core.Path.{_≡_, refl, sym, ap, _∙_}
-use mathlib.Core.List.{List, [], _++_, append-assoc, append-nil}
-use Prim.Native.Nat.{ℕ, _+_, _≤_}
+use mathlib.Core.List.{List, [], _∷_, _++_, append-assoc, append-nil}
+use Prim.Native.Nat.{ℕ, _+_, _≤_, _<_}
 use native.Mathlib.Omega.{arith}
-use lib.ListN.{length, length-append}
+use lib.ListN.{length, set, length-append}
 use lib.Seq.{sets}
 use Rattle.bus.specs.Buffer.{filled}
 use Rattle.bus.proofs.Filled.{length-filled, filled-more}
@@ -48,6 +48,11 @@ pub record Writing (whole rest buffer₀ buffer : List ℕ) (count : ℕ) : Type
 pub writing-none : (whole buffer : List ℕ) → Writing whole whole buffer buffer 0
 unfolding progress-none
 writing-none whole buffer = record { progress = progress-none whole; front = refl }
+
+-- the first element was stored before the loop
+pub writing-first : (v : ℕ) (rest buffer : List ℕ) → 0 < length buffer → Writing (v ∷ rest) rest (set buffer 0 v) (set buffer 0 v) 1
+writing-first v rest [] h = absurd (omega arith)
+writing-first v rest (x ∷ buffer) h = record { progress = record { done = v ∷ []; long = refl; parts = refl }; front = refl }
 
 module _
     (whole rest buffer₀ buffer : List ℕ)

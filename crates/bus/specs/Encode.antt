@@ -6,13 +6,17 @@ use mir.Val.{boolByte}
 use lib.Dec.{eqb}
 use Rattle.bus.specs.Events.{isByte, startEvent, repeatedStartEvent, stopEvent}
 
--- bit k of a number, and a byte's eight bits, most significant first
+-- bit k of a number, and its bits below n, most significant first
 abbrev pub bitAt : ℕ → ℕ → Bool
 bitAt k number = eqb (number / 2 ^ k % 2) 1
 
+abbrev pub bitsBelow : ℕ → ℕ → List Bool
+bitsBelow zero number = []
+bitsBelow (suc k) number = bitAt k number ∷ bitsBelow k number
+
+-- a byte's eight bits, most significant first
 unfoldable pub byteBits : ℕ → List Bool
-byteBits byte =
-    bitAt 7 byte ∷ bitAt 6 byte ∷ bitAt 5 byte ∷ bitAt 4 byte ∷ bitAt 3 byte ∷ bitAt 2 byte ∷ bitAt 1 byte ∷ bitAt 0 byte ∷ []
+byteBits byte = bitsBelow 8 byte
 
 -- the nine bits of a byte's event
 abbrev pub eventBits : ℕ → List Bool
@@ -47,11 +51,21 @@ abbrev pub howMany : (ℕ → Bool) → List ℕ → ℕ
 howMany kind [] = 0
 howMany kind (event ∷ events) = boolByte (kind event) + howMany kind events
 
+abbrev pub isStart : ℕ → Bool
+isStart event = eqb event startEvent
+
+abbrev pub isRepeatedStart : ℕ → Bool
+isRepeatedStart event = eqb event repeatedStartEvent
+
 -- a list with f frames, n bytes and r repeated STARTs takes 1 + 4f + 18n + 3r samples
 abbrev pub sampleCount : List ℕ → ℕ
 sampleCount events =
-    1 + 4 * howMany (λ event. eqb event startEvent) events + 18 * howMany isByte events
-    + 3 * howMany (λ event. eqb event repeatedStartEvent) events
+    1 + 4 * howMany isStart events + 18 * howMany isByte events + 3 * howMany isRepeatedStart events
+
+-- one event's part in that
+unfoldable pub eventSamples : ℕ → ℕ
+eventSamples event =
+    4 * boolByte (isStart event) + 18 * boolByte (isByte event) + 3 * boolByte (isRepeatedStart event)
 
 -- stamps start at a number and rise by a gap
 abbrev pub stampsFrom : ℕ → ℕ → ℕ → List ℕ

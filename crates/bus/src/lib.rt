@@ -7,9 +7,17 @@ mod level; // level.rt: the lines in a level byte
 mod step; // step.rt: the decoder, stepped by one sample
 mod listing; // listing.rt: the events of all samples, counted and written
 mod trace; // trace.rt: the first bad level and the first bad stamp
+mod frames; // frames.rt: whether an event list is complete, and how many samples it takes
+mod draw; // draw.rt: the levels and stamps of an event list
 
 // A trace has at most this many samples.
 const MAX_SAMPLES: usize = 4096;
+
+// The largest gap between two stamps.
+const MAX_GAP: u32 = 1000;
+
+// The largest stamp.
+const MAX_STAMP: u64 = 4294967295;
 
 // Where an event list stands: between frames, after a START (a byte must follow), after a byte, or no complete list any more.
 pub enum Position {
