@@ -10,17 +10,12 @@ use lib.Dec.{eqb}
 use lib.Arith.{mod-mul}
 use lib.Pow.{pow-pos}
 use Rattle.bus.specs.Events.{byteEvent}
-use Rattle.bus.specs.Encode.{bitAt, byteBits}
+use Rattle.bus.specs.Encode.{bitAt, bitsBelow, byteBits}
 
 -- the number that bits make, first bit highest, after a value
 abbrev pub numberFrom : ℕ → List Bool → ℕ
 numberFrom value [] = value
 numberFrom value (bit ∷ bits) = numberFrom (2 * value + boolByte bit) bits
-
--- the lowest bits of a number, the highest of them first
-abbrev pub bitsBelow : ℕ → ℕ → List Bool
-bitsBelow zero number = []
-bitsBelow (suc width) number = bitAt width number ∷ bitsBelow width number
 
 is-digit : (digit : ℕ) → digit < 2 → boolByte (eqb digit 1) ≡ digit
 is-digit zero small = refl
@@ -30,7 +25,7 @@ is-digit (suc (suc digit)) small = absurd (omega arith)
 bit-digit : (position number : ℕ) → boolByte (bitAt position number) ≡ number / 2 ^ position % 2
 bit-digit position number = is-digit (number / 2 ^ position % 2) (mod-lt (number / 2 ^ position) (omega arith))
 
--- after a value they make the value shifted up by the width, plus the number's lowest digits
+-- after a value, a number's lowest bits make the value shifted up by the width, plus the number's lowest digits
 number-of-bits : (width value number : ℕ)
     → numberFrom value (bitsBelow width number) ≡ value * 2 ^ width + number % 2 ^ width
 number-of-bits zero value number = omega arith

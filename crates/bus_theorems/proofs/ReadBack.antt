@@ -13,9 +13,9 @@ use Rattle.bus.specs.Levels.{starts, stops, falls}
 use Rattle.bus.specs.Events.{isByte, byteEvent, startEvent, repeatedStartEvent, stopEvent}
 use Rattle.bus.specs.Decode.{idle, takes, withBit, next, cut, lists, events, final}
 use Rattle.bus.specs.Complete.{complete}
-use Rattle.bus.specs.Encode.{bitAt, byteBits, drawBit, drawEvent, drawEvents, drawing}
+use Rattle.bus.specs.Encode.{bitAt, bitsBelow, byteBits, drawBit, drawEvent, drawEvents, drawing}
 use Rattle.bus_theorems.proofs.Frames.{Completes, ended, start, first, more, again, stop, completes}
-use Rattle.bus_theorems.proofs.Bits.{numberFrom, bitsBelow, event-of-bits}
+use Rattle.bus_theorems.proofs.Bits.{numberFrom, event-of-bits}
 use Rattle.bus_theorems.proofs.Reading.{Reads, then-reads, between, opened, showing}
 use Rattle.bus_theorems.proofs.Reading.{first-bit, bit-after-byte, bits-within}
 

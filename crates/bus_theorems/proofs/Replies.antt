@@ -15,8 +15,9 @@ use Rattle.bus.specs.DecodeReply.{badLevel, badStamp, decoded, eventsAfter}
 use Rattle.bus.specs.Complete.{complete}
 use Rattle.bus.specs.Encode.{drawing, sampleCount, stampsFrom, lastStamp}
 use Rattle.bus.specs.EncodeReply.{encoded, stampsAfter, levelsAfter}
+use Rattle.bus.proofs.Stamps.{length-stamps}
 use Rattle.bus_theorems.proofs.Length.{drawing-length}
-use Rattle.bus_theorems.proofs.Trace.{no-bad-level, no-bad-stamp, stamps-length}
+use Rattle.bus_theorems.proofs.Trace.{no-bad-level, no-bad-stamp}
 use Rattle.bus_theorems.proofs.ReadBack.{events-back, frame-closed, none-pending, value-zero}
 use Rattle.bus_theorems.proofs.Redraw.{redraw-limit}
 use Rattle.bus_theorems.proofs.Accepted.{Accepted, accepted, Taken, taken}
@@ -43,7 +44,7 @@ pub drawn-reads-back : (list : List ℕ) (start gap stampRoom levelRoom count ro
 drawn-reads-back list start gap stampRoom levelRoom count room reply fits =
     let found : Accepted list gap count = accepted list start gap stampRoom levelRoom count reply in
     let whole : complete list ≡ true = found .whole in
-    let stamps : length (stampsFrom start gap count) ≡ count = stamps-length count start gap in
+    let stamps : length (stampsFrom start gap count) ≡ count = length-stamps start gap count in
     let samples : length (drawing list) ≡ sampleCount list = drawing-length list whole in
     let back : events (drawing list) ≡ list = events-back list whole in
     takes-trace (stampsFrom start gap count) (drawing list) room
@@ -60,7 +61,7 @@ pub drawn-slices-read-back : (list stamps levels : List ℕ) (start gap count ro
 drawn-slices-read-back list stamps levels start gap count room reply fits =
     let found : Accepted list gap count = accepted list start gap (length stamps) (length levels) count reply in
     rw (
-      take-at (stampsFrom start gap count) _ count (stamps-length count start gap),
+      take-at (stampsFrom start gap count) _ count (length-stamps start gap count),
       take-at (drawing list) _ count (drawing-length list (found .whole) ∙ found .counted),
     )
     (drawn-reads-back list start gap (length stamps) (length levels) count room reply fits)

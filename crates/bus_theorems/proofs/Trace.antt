@@ -57,7 +57,3 @@ no-bad-after (suc count) start gap positive =
 pub no-bad-stamp : (count start gap : ℕ) → 0 < gap → badStamp (stampsFrom start gap count) ≡ count
 no-bad-stamp zero start gap positive = refl
 no-bad-stamp (suc count) start gap positive = ap suc (no-bad-after count start gap positive)
-
-pub stamps-length : (count start gap : ℕ) → length (stampsFrom start gap count) ≡ count
-stamps-length zero start gap = refl
-stamps-length (suc count) start gap = ap suc (stamps-length count (start + gap) gap)
