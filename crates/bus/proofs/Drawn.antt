@@ -37,7 +37,7 @@ pub drawn-more : (bits : List Bool) (levels₀ levels next : List ℕ) (at k : �
 drawn-more bits levels₀ levels next at k b drawn stored bit h =
     let long : length (drawBits (take k bits)) ≡ 2 * k = rw (two-each, length-take-le k bits (omega arith)) in
     let more : drawBits (take (k + 1) bits) ≡ drawBits (take k bits) ++ drawBit b =
-        rw (add-one k, take-suc bits k false h, bit) (draw-append (take k bits) (b ∷ [])) in
+    rw (add-one k, take-suc bits k false h, bit) (draw-append (take k bits) (b ∷ [])) in
     stored ∙ rw (drawn, more, ← long) (sets-append (drawBits (take k bits)) (drawBit b) levels₀ at)
 
 length-bits : (n number : ℕ) → length (bitsBelow n number) ≡ n

@@ -18,7 +18,7 @@ filled-more front more buffer n e h =
     let long : length (filled front buffer) ≡ length buffer = length-filled front buffer (omega arith) in
     let fits : n + length more ≤ length (filled front buffer) = omega arith in
     let rest : drop (n + length more) (filled front buffer) ≡ drop (length (front ++ more)) buffer =
-        rw (← e, length-append) (drop-append-add front (drop (length front) buffer) (length more) ∙ drop-drop (length more) (length front) buffer) in
+    rw (← e, length-append) (drop-append-add front (drop (length front) buffer) (length more) ∙ drop-drop (length more) (length front) buffer) in
     sets-eq more (filled front buffer) n fits ∙ rw (take-at front (drop (length front) buffer) n e, rest)
 
 -- what stood under the front's first element does not count

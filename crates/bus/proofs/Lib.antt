@@ -8,4 +8,6 @@ pub mod Decodes
 pub mod EventLists
 pub mod Drawn
 pub mod Stamps
+pub mod Samples
+pub mod Encodes
 pub mod Worked

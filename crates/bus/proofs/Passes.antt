@@ -32,7 +32,7 @@ at-most-two (Two first second) = omega arith
 module _ (levels : List ℕ) (decoder : Decoder) (i : ℕ) where
   module _ (step : Listed) (e : listOf step ≡ lists decoder (getD levels i 0)) (h : i < length levels) where
     pub passed-more : {count : ℕ} → Passed levels decoder count i
-      → Passed levels (next decoder (getD levels i 0)) (count + length (listOf step)) (i + 1)
+        → Passed levels (next decoder (getD levels i 0)) (count + length (listOf step)) (i + 1)
     passed-more passed =
         record {
           within = omega arith;

@@ -44,7 +44,7 @@ module _ (stamps : List ℕ) (i : ℕ) (good : StampsGood stamps i) where
   stamp-more fine h =
       let back : i + 1 - 1 ≡ i = omega arith in
       good ∙ ap (λ (l : List ℕ). i + badAfter (getD stamps (i - 1) 0) l) (drop-cons stamps i 0 h)
-          ∙ rw (lt-ltb _ _ fine, back, add-one) (omega arith)
+      ∙ rw (lt-ltb _ _ fine, back, add-one) (omega arith)
 
   pub stamp-end : length stamps ≤ i → i ≡ badStamp stamps
   stamp-end h = rw (good, drop-of-length-le stamps h) (omega arith)

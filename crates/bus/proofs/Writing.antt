@@ -60,26 +60,26 @@ module _
     (enough : length whole ≤ length buffer₀)
     (writing : Writing whole rest buffer₀ buffer count)
   where
-  pub writing-long : length buffer ≡ length buffer₀
-  writing-long =
-      let more : length whole ≡ length (writing .progress .done ++ rest) = ap length (writing .progress .parts) in
-      let fits : length (writing .progress .done) ≤ length buffer₀ = omega (arith, more, length-append (writing .progress .done) rest) in
-      ap length (writing .front) ∙ length-filled (writing .progress .done) buffer₀ fits
+    pub writing-long : length buffer ≡ length buffer₀
+    writing-long =
+        let more : length whole ≡ length (writing .progress .done ++ rest) = ap length (writing .progress .parts) in
+        let fits : length (writing .progress .done) ≤ length buffer₀ = omega (arith, more, length-append (writing .progress .done) rest) in
+        ap length (writing .front) ∙ length-filled (writing .progress .done) buffer₀ fits
 
-  module _ (piece next : List ℕ) (split : rest ≡ piece ++ next) where
-    pub writing-room : count + length piece ≤ length buffer
-    writing-room = omega (arith, writing-long, progress-room whole rest piece next count split (writing .progress))
+    module _ (piece next : List ℕ) (split : rest ≡ piece ++ next) where
+      pub writing-room : count + length piece ≤ length buffer
+      writing-room = omega (arith, writing-long, progress-room whole rest piece next count split (writing .progress))
 
-    pub writing-more : Writing whole next buffer₀ (sets buffer count piece) (count + length piece)
-    unfolding progress-more
-    writing-more =
-        let fits : count + length piece ≤ length buffer₀ = omega (arith, writing-long, writing-room) in
-        record {
-          progress = progress-more whole rest piece next count split (writing .progress);
-          front = ap (λ (l : List ℕ). sets l count piece) (writing .front)
-              ∙ filled-more (writing .progress .done) piece buffer₀ count (writing .progress .long) fits;
-        }
+      pub writing-more : Writing whole next buffer₀ (sets buffer count piece) (count + length piece)
+      unfolding progress-more
+      writing-more =
+          let fits : count + length piece ≤ length buffer₀ = omega (arith, writing-long, writing-room) in
+          record {
+            progress = progress-more whole rest piece next count split (writing .progress);
+            front = ap (λ (l : List ℕ). sets l count piece) (writing .front)
+                ∙ filled-more (writing .progress .done) piece buffer₀ count (writing .progress .long) fits;
+          }
 
-  pub writing-done : rest ≡ [] → buffer ≡ filled whole buffer₀
-  writing-done empty =
-      writing .front ∙ ap (λ (l : List ℕ). filled l buffer₀) (sym (progress-whole whole rest count empty (writing .progress)))
+    pub writing-done : rest ≡ [] → buffer ≡ filled whole buffer₀
+    writing-done empty =
+        writing .front ∙ ap (λ (l : List ℕ). filled l buffer₀) (sym (progress-whole whole rest count empty (writing .progress)))

@@ -2,6 +2,7 @@
 ghost use mathlib.Core.Path.{_≡_};
 ghost use lib.ListN.{length};
 ghost use Rattle.bus.specs.DecodeReply.{decoded, eventsAfter};
+ghost use Rattle.bus.specs.EncodeReply.{encoded, stampsAfter, levelsAfter};
 
 mod level; // level.rt: the lines in a level byte
 mod step; // step.rt: the decoder, stepped by one sample
@@ -69,22 +70,37 @@ pub fn decode(stamps: &[u32], levels: &[u8], events: &mut [u16]) -> Decoded
     ensures { λ r. ⌜ (r ≡ decoded (now (stamps .entry)) (now (levels .entry)) (length (now (events .entry)))) × (now (events .exit) ≡ eventsAfter r (now (levels .entry)) (now (events .entry))) ⌝ }
 {
     if stamps.len() != levels.len() {
-        return Decoded::Refused { number: 5, place: 0 };
+        return Decoded::Refused {
+            number: 5,
+            place: 0,
+        };
     }
     if levels.len() > MAX_SAMPLES {
-        return Decoded::Refused { number: 6, place: 0 };
+        return Decoded::Refused {
+            number: 6,
+            place: 0,
+        };
     }
     let level = trace::bad_level(levels);
     if level < levels.len() {
-        return Decoded::Refused { number: 4, place: level };
+        return Decoded::Refused {
+            number: 4,
+            place: level,
+        };
     }
     let stamp = trace::bad_stamp(stamps);
     if stamp < stamps.len() {
-        return Decoded::Refused { number: 7, place: stamp };
+        return Decoded::Refused {
+            number: 7,
+            place: stamp,
+        };
     }
     let count = listing::count_events(levels);
     if events.len() < count {
-        return Decoded::Refused { number: 8, place: 0 };
+        return Decoded::Refused {
+            number: 8,
+            place: 0,
+        };
     }
     let decoder = listing::write_events(levels, events);
     Decoded::Events {
@@ -93,4 +109,36 @@ pub fn decode(stamps: &[u32], levels: &[u8], events: &mut [u16]) -> Decoded
         pending: decoder.pending,
         value: decoder.value,
     }
+}
+
+// The trace of an event list, 01's wire writer: all is tested first, so that a refusal leaves both slices as they were.
+pub fn encode(
+    events: &[u16],
+    start: u32,
+    gap: u32,
+    stamps: &mut [u32],
+    levels: &mut [u8],
+) -> Encoded
+    ensures { λ r. ⌜ (r ≡ encoded (now (events .entry)) start gap (length (now (stamps .entry))) (length (now (levels .entry)))) × (now (stamps .exit) ≡ stampsAfter r start gap (now (stamps .entry))) × (now (levels .exit) ≡ levelsAfter r (now (events .entry)) (now (levels .entry))) ⌝ }
+{
+    if !frames::complete(events) {
+        return Encoded::Refused(9);
+    }
+    if (gap == 0) | (gap > MAX_GAP) {
+        return Encoded::Refused(10);
+    }
+    let count = frames::count_samples(events);
+    if count > MAX_SAMPLES {
+        return Encoded::Refused(6);
+    }
+    let last = (start as u64) + (gap as u64) * ((count - 1) as u64);
+    if last > MAX_STAMP {
+        return Encoded::Refused(11);
+    }
+    if (stamps.len() < count) | (levels.len() < count) {
+        return Encoded::Refused(8);
+    }
+    draw::write_levels(events, levels);
+    draw::write_stamps(start, gap, count, stamps);
+    Encoded::Drawn(count)
 }

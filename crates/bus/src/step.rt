@@ -6,7 +6,11 @@ ghost use Rattle.bus.specs.Decode as decode;
 ghost use Rattle.bus.specs.Listing.{Sound, listOf};
 use super::Decoder;
 use super::Listed;
-use super::level::{falls, scl, sda, starts, stops};
+use super::level::falls;
+use super::level::scl;
+use super::level::sda;
+use super::level::starts;
+use super::level::stops;
 
 // The event of nine bits.
 fn byte_event(value: u8, ninth: bool) -> u16
@@ -33,7 +37,13 @@ impl Decoder {
     pub(crate) fn idle() -> Decoder
         ensures { λ r. ⌜ r ≡ decode.idle ⌝ }
     {
-        Decoder { last: 0, framed: false, marked: false, pending: 0, value: 0 }
+        Decoder {
+            last: 0,
+            framed: false,
+            marked: false,
+            pending: 0,
+            value: 0,
+        }
     }
 
     // Whether a sample takes a bit.
@@ -47,7 +57,13 @@ impl Decoder {
     fn conditioned(framed: bool, level: u8) -> Decoder
         ensures { λ r. ⌜ r ≡ decode.conditioned framed level ⌝ }
     {
-        Decoder { last: level, framed, marked: true, pending: 0, value: 0 }
+        Decoder {
+            last: level,
+            framed,
+            marked: true,
+            pending: 0,
+            value: 0,
+        }
     }
 
     // With the bit that a sample takes.
@@ -56,7 +72,13 @@ impl Decoder {
         ensures { λ r. ⌜ r ≡ decode.withBit self level ⌝ }
     {
         if self.pending == 8 {
-            return Decoder { last: level, framed: true, marked: false, pending: 0, value: 0 };
+            return Decoder {
+                last: level,
+                framed: true,
+                marked: false,
+                pending: 0,
+                value: 0,
+            };
         }
         let bit = sda(self.last) as u8;
         Decoder {

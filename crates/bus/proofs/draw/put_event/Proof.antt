@@ -5,7 +5,7 @@ use Rattle.bus.specs.Events.{byteEvent}
 use mathlib.Core.List.{[], _∷_, _++_}
 use mathlib.Core.Bool.{true, false}
 use mathlib.Core.Path.{_≡_, refl}
-use Prim.Native.Nat.{_-_, _<_}
+use Prim.Native.Nat.{_-_}
 use native.Mathlib.Omega.{arith}
 use borrow.Author.Needs.{needs}
 use Rattle.bus.proofs.draw.put_event.Statement.{statement}
@@ -35,7 +35,7 @@ put-byte-requires c κs =
     let event = c .before .before .before .before .args .event in
     let same : byteEvent event false ≡ event = omega arith in
     let drawn : drawEvent event ≡ drawBits (byteBits event ++ false ∷ []) =
-        rw same at (draw-byte event false (omega arith)) in
+    rw same at (draw-byte event false (omega arith)) in
     omega (arith, rw drawn at (c .before .before .before .before .pre))
 
 add-result-2 : tie.Need-add-result-2
@@ -50,7 +50,7 @@ put-byte-requires-2 c κs =
     let event = c .before .before .before .before .before .args .event in
     let same : byteEvent (event - 256) true ≡ event = omega arith in
     let drawn : drawEvent event ≡ drawBits (byteBits (event - 256) ++ true ∷ []) =
-        rw same at (draw-byte (event - 256) true (omega arith)) in
+    rw same at (draw-byte (event - 256) true (omega arith)) in
     omega (arith, rw drawn at (c .before .before .before .before .before .pre))
 
 add-result-3 : tie.Need-add-result-3
@@ -90,7 +90,7 @@ returns-5 c =
     let event = c .before .before .before .before .before .before .before .args .event in
     let same : byteEvent event false ≡ event = omega arith in
     let drawn : drawEvent event ≡ drawBits (byteBits event ++ false ∷ []) =
-        rw same at (draw-byte event false (omega arith)) in
+    rw same at (draw-byte event false (omega arith)) in
     rw drawn (refl, c .before .before .put-byte .ensures)
 
 same-length-5 : tie.Need-same-length-5
@@ -102,7 +102,7 @@ returns-6 c =
     let event = c .before .before .before .before .before .before .before .before .args .event in
     let same : byteEvent (event - 256) true ≡ event = omega arith in
     let drawn : drawEvent event ≡ drawBits (byteBits (event - 256) ++ true ∷ []) =
-        rw same at (draw-byte (event - 256) true (omega arith)) in
+    rw same at (draw-byte (event - 256) true (omega arith)) in
     rw drawn (refl, c .before .before .put-byte2 .ensures)
 
 returns-7 : tie.Need-returns-7

@@ -6,7 +6,7 @@ use Rattle.bus.proofs.EventLists.{draw-more, draw-end}
 use Rattle.bus.proofs.Writing.{Writing, writing-first, writing-long, writing-room, writing-more, writing-done}
 use Rattle.bus.proofs.Filled.{filled-first}
 use mathlib.Core.List.{List}
-use mathlib.Core.Path.{_≡_, _∙_}
+use mathlib.Core.Path.{_∙_}
 use Prim.Native.Nat.{ℕ, _≤_, _<_, _-_}
 use borrow.Author.Needs.{needs}
 use native.Mathlib.Omega.{arith}
@@ -62,7 +62,7 @@ loop-again c =
     let more : head .i < length events = omega arith in (
       omega arith,
       rw (stored .0, stored .1)
-      (writing-more _ _ _ _ _ (enough (drawing events) levels (start .pre)) (head .inv .1) (drawEvent (getD events (head .i) 0)) _ (draw-more events (head .i) more)),
+          (writing-more _ _ _ _ _ (enough (drawing events) levels (start .pre)) (head .inv .1) (drawEvent (getD events (head .i) 0)) _ (draw-more events (head .i) more)),
     )
 
 same-length : tie.Need-same-length Inv-loop μ-loop
@@ -80,7 +80,7 @@ returns c =
     let levels = start .args .levels .now in
     let done : length events ≤ head .i = omega arith in
     writing-done _ _ _ _ _ (enough (drawing events) levels (start .pre)) (head .inv .1) (draw-end events (head .i) done)
-        ∙ filled-first 3 3 (drawEvents events) levels
+    ∙ filled-first 3 3 (drawEvents events) levels
 
 pub write-levels-spec : {M : Type 1} → statement M
 write-levels-spec =

@@ -2,7 +2,7 @@
 use mathlib.Core.List.{[], _∷_}
 -- `write_stamps` puts the first stamps at the slice's start, and its rest stays.
 use Rattle.bus.proofs.Stamps.{length-stamps, stamp-fits, stamps-more, stamps-end}
-use Rattle.bus.proofs.Writing.{Writing, writing-none, writing-long, writing-room, writing-more, writing-done}
+use Rattle.bus.proofs.Writing.{Writing, writing-none, writing-long, writing-more, writing-done}
 use Rattle.bus.specs.Encode.{stampsFrom}
 use lib.ListN.{length}
 use mathlib.Core.Path.{_≡_}
@@ -49,7 +49,7 @@ slice-write-stamps c =
     let start = c .before .before in
     let args = start .args in
     let room : length (stampsFrom (args .start) (args .gap) (args .count)) ≤ length (args .stamps .now) =
-        rw (length-stamps (args .start) (args .gap) (args .count)) (start .pre .2) in
+    rw (length-stamps (args .start) (args .gap) (args .count)) (start .pre .2) in
     omega (arith, writing-long _ _ _ _ _ room (c .before .loop .inv), start .pre .2)
 
 add-i : tie.Need-add-i Inv-loop μ-loop
@@ -63,7 +63,7 @@ loop-again c =
     let start = c .before .before in
     let args = start .args in
     let room : length (stampsFrom (args .start) (args .gap) (args .count)) ≤ length (args .stamps .now) =
-        rw (length-stamps (args .start) (args .gap) (args .count)) (start .pre .2) in
+    rw (length-stamps (args .start) (args .gap) (args .count)) (start .pre .2) in
     let more : c .before .loop .i < args .count = omega arith in
     writing-more _ _ _ _ _ room (c .before .loop .inv) ((args .start + args .gap * c .before .loop .i) ∷ []) _ (stamps-more (args .start) (args .gap) (args .count) _ more)
 
@@ -72,7 +72,7 @@ same-length c =
     let start = c .before .before in
     let args = start .args in
     let room : length (stampsFrom (args .start) (args .gap) (args .count)) ≤ length (args .stamps .now) =
-        rw (length-stamps (args .start) (args .gap) (args .count)) (start .pre .2) in
+    rw (length-stamps (args .start) (args .gap) (args .count)) (start .pre .2) in
     writing-long _ _ _ _ _ room (c .before .loop .inv)
 
 returns : tie.Need-returns Inv-loop μ-loop
@@ -80,7 +80,7 @@ returns c =
     let start = c .before .before in
     let args = start .args in
     let room : length (stampsFrom (args .start) (args .gap) (args .count)) ≤ length (args .stamps .now) =
-        rw (length-stamps (args .start) (args .gap) (args .count)) (start .pre .2) in
+    rw (length-stamps (args .start) (args .gap) (args .count)) (start .pre .2) in
     let done : args .count ≤ c .before .loop .i = omega arith in
     writing-done _ _ _ _ _ room (c .before .loop .inv) (stamps-end (args .start) (args .gap) (args .count) _ done)
 

@@ -1,7 +1,7 @@
 -- `advance` follows the list's grammar by position and by the event's value.
 use Rattle.bus.specs.Complete.{advance}
 use native.Mathlib.Omega.{arith}
-use borrow.Author.Tests.{eq-eqb, ne-eqb, lt-ltb, le-ltb}
+use borrow.Author.Tests.{ne-eqb, lt-ltb, le-ltb}
 use borrow.Author.Needs.{needs}
 use Rattle.bus.proofs.frames.advance.Statement.{statement}
 use Rattle.bus.proofs.frames.advance.Tie as tie

@@ -1,7 +1,7 @@
 -- `event_samples` goes by the event's value.
 use Rattle.bus.specs.Encode.{eventSamples}
 use native.Mathlib.Omega.{arith}
-use borrow.Author.Tests.{eq-eqb, ne-eqb, lt-ltb, le-ltb}
+use borrow.Author.Tests.{ne-eqb, lt-ltb, le-ltb}
 use Rattle.bus.proofs.frames.event_samples.Statement.{statement}
 use Rattle.bus.proofs.frames.event_samples.Tie as tie
 
