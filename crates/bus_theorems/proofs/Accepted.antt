@@ -71,8 +71,8 @@ module _ (count : ℕ) (framed : Bool) (pending value : ℕ) where
       let unequal : Bool = not (eqb (length stamps) (length levels)) in
       let (_, then-six) = passes unequal _ _ _ (events-differ 5 0) reply in
       let (six, then-four) = passes (ltb maxSamples (length levels)) _ _ _ (events-differ 6 0) then-six in
-      let place : ℕ = badLevel levels in
-      let (_, then-seven) = passes (ltb place (length levels)) _ _ _ (events-differ 4 place) then-four in
+      let first : ℕ = badLevel levels in
+      let (_, then-seven) = passes (ltb first (length levels)) _ _ _ (events-differ 4 first) then-four in
       let later : ℕ = badStamp stamps in
       let (_, then-eight) = passes (ltb later (length stamps)) _ _ _ (events-differ 7 later) then-seven in
       let (_, read) = passes (ltb room (length (events levels))) _ _ _ (events-differ 8 0) then-eight in

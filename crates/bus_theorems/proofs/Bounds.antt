@@ -21,19 +21,19 @@ greatest = 515
 
 -- each number of the list is at most that
 abbrev Bounded : List ℕ → Type 0
-Bounded list = (place : ℕ) → getD list place 0 ≤ greatest
+Bounded list = (index : ℕ) → getD list index 0 ≤ greatest
 
 none : Bounded []
-none place = omega arith
+none index = omega arith
 
 one : (number : ℕ) → number ≤ greatest → Bounded (number ∷ [])
 one number small zero = small
-one number small (suc place) = omega arith
+one number small (suc index) = omega arith
 
 append : (front rest : List ℕ) → Bounded front → Bounded rest → Bounded (front ++ rest)
-append [] rest ahead behind place = behind place
+append [] rest ahead behind index = behind index
 append (number ∷ front) rest ahead behind zero = ahead zero
-append (number ∷ front) rest ahead behind (suc place) = append front rest (λ k. ahead (suc k)) behind place
+append (number ∷ front) rest ahead behind (suc index) = append front rest (λ k. ahead (suc k)) behind index
 
 -- nine bits make a byte's event
 pub byte-below-512 : (decoder : Decoder) → Sound decoder → ninth decoder ≡ true
@@ -72,7 +72,7 @@ listed-bounded decoder sound (level ∷ levels) =
     (listed-bounded (next decoder level) (next-sound decoder level sound) levels)
 
 -- decode lists no number above 515
-pub events-bounded : (levels : List ℕ) (place : ℕ) → getD (events levels) place 0 ≤ greatest
+pub events-bounded : (levels : List ℕ) (index : ℕ) → getD (events levels) index 0 ≤ greatest
 events-bounded = listed-bounded idle idle-sound
 
 -- where a START or STOP lists two events, bits were pending, and the sample that took one had listed nothing

@@ -1,4 +1,4 @@
--- Why a drawing takes no more samples than the record that its events were read from: a sample adds at most one to
+-- Why a drawing takes no more samples than the trace that its events were read from: a sample adds at most one to
 -- a credit, and what it lists takes no more samples to draw than the credit that it uses up. In a frame the credit is
 -- two samples for each bit that is pending, one for the low phase of the next bit and one for its high phase.
 use Prim.Native.Nat.{ℕ, _+_, _*_, _≤_}

@@ -1,4 +1,4 @@
--- A complete list that decode gives takes no more samples to draw than the record had, so 6 never applies to it.
+-- A complete list that decode gives takes no more samples to draw than the trace had, so 6 never applies to it.
 use Prim.Native.Nat.{ℕ, _+_, _≤_}
 use native.Mathlib.Omega.{arith}
 use mathlib.Core.Path.{_≡_, refl, sym, _∙_, ap}
@@ -55,7 +55,7 @@ lists-none : (level : ℕ) → lists idle level ≡ []
 unfolding starts stops falls takes lists
 lists-none level = refl
 
--- a record of at least one sample
+-- a trace of at least one sample
 pub redraw-within : (level : ℕ) (levels : List ℕ) → complete (events (level ∷ levels)) ≡ true
     → sampleCount (events (level ∷ levels)) ≤ length (level ∷ levels)
 redraw-within level levels whole =
@@ -65,7 +65,7 @@ redraw-within level levels whole =
     rw later (listed-paid levels Between (waiting level) sound refl (rw later at whole)) in
     omega (arith, drawing-length (events (level ∷ levels)) whole)
 
--- an empty record gives the empty list, whose drawing is the one level 3
+-- an empty trace gives the empty list, whose drawing is the one level 3
 pub redraw-none : sampleCount (events []) ≡ 1
 redraw-none = refl
 

@@ -22,7 +22,7 @@ use Rattle.bus_theorems.proofs.ReadBack.{events-back, frame-closed, non
 use Rattle.bus_theorems.proofs.Redraw.{redraw-limit}
 use Rattle.bus_theorems.proofs.Accepted.{Accepted, accepted, Taken, taken}
 
--- decode answers with the events of each trace that it takes
+-- decode replies with the events of each trace that it takes
 takes-trace : (stamps levels : List ℕ) (room : ℕ) → length stamps ≡ length levels → length levels ≤ maxSamples
     → badLevel levels ≡ length levels → badStamp stamps ≡ length stamps → length (events levels) ≤ room
     → decoded stamps levels room
