@@ -5,6 +5,9 @@ ghost use Prim.Native.Nat.{_+_, _*_, _^_, _<_};
 ghost use Rattle.usi.specs.Module.{powerUp};
 ghost use Rattle.usi.specs.Step.{readByte, readWord, writeByte, writeWord, sample as sampleRule, tick as tickRule};
 ghost use Rattle.export.specs.Packed.{unpacked as unpackedNumber, registers as registersOf, hidden as hiddenOf, packed as packedModule, packedStep, packedRead, lines};
+
+mod trace; // trace.rt: decode and encode
+
 use usi::Read;
 use usi::Step;
 use usi::Usi;
