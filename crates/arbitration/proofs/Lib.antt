@@ -3,3 +3,7 @@ pub mod Lists
 pub mod Counting
 pub mod Turn
 pub mod Wire
+pub mod Bits
+pub mod Registers
+pub mod Roles
+pub mod Byte
