@@ -18,8 +18,8 @@ use Rattle.arbitration.proofs.Lists.{Everyone, Someone, everyone-so, so
 use Rattle.arbitration.proofs.Lists.{map-alike, any-none, any-one}
 use Rattle.arbitration.proofs.Bits.{gathered, AtMost, at-most-length, same}
 use Rattle.arbitration.proofs.Wire.{busOf, turn-is}
-use Rattle.arbitration.proofs.Roles.{Role, drives, lost, gone, usiOf, masterOf, clocks, pulls, turnOf, Sending}
-use Rattle.arbitration.proofs.Roles.{role-turn, role-judged}
+use Rattle.arbitration.proofs.Roles.{Role, drives, lost, gone, usiOf, masterOf, contends, clocks, pulls}
+use Rattle.arbitration.proofs.Roles.{turnOf, Sending, role-turn, role-judged}
 
 -- the two samples of a turn are what is drawn for its bit
 drawn : (bit : Bool) → levelOf false bit ∷ levelOf true bit ∷ [] ≡ drawBit bit
@@ -130,7 +130,7 @@ abbrev pub lineAfter : Line → List Bool → Line
 lineAfter line [] = line
 lineAfter line (bit ∷ bits) = lineAfter (shows bit) bits
 
-abbrev inByte : ℕ → List Bool → Line → List Role → ℕ → List ℕ → List ℕ → Bus
+abbrev pub inByte : ℕ → List Bool → Line → List Role → ℕ → List ℕ → List ℕ → Bus
 inByte n taken line roles byte levels carried =
     busOf (map (masterOf n taken (line .sda)) roles) (line .pull) (line .level) byte levels carried
 
@@ -164,3 +164,14 @@ turns (bit ∷ bits) taken eight at roles line byte levels carried all some =
   where
     longer : length bits + length (taken ++ bit ∷ []) ≡ 8
     longer = ap (λ k. length bits + k) (length-append taken (bit ∷ [])) ∙ omega arith
+
+-- after the turns every bit is sent, and the winner drives still
+pub within-turns : (at : ℕ) (bits : List Bool) (role : Role) → Within bits role → Sending 0 (turnsOf at bits role)
+within-turns at [] role h = within-sends [] role h
+within-turns at (bit ∷ bits) role h = within-turns (suc at) bits (turnOf at bit role) (within-turn at bit bits role h)
+
+pub leads-turns : (at : ℕ) (bits : List Bool) (role : Role) → Leads bits role → contends (turnsOf at bits role) ≡ true
+leads-turns at [] (drives rest latch enable) h = refl
+leads-turns at [] (lost rest latch position) h = absurd h
+leads-turns at [] (gone register latch position) h = absurd h
+leads-turns at (bit ∷ bits) role h = leads-turns (suc at) bits (turnOf at bit role) (leads-turn at bit bits role h)

@@ -7,3 +7,5 @@ pub mod Bits
 pub mod Registers
 pub mod Roles
 pub mod Byte
+pub mod Standing
+pub mod Pause
