@@ -22,7 +22,7 @@ use Rattle.arbitration.proofs.Roles.{Role, drives, lost, gone, usiOf, m
 use Rattle.arbitration.proofs.Roles.{turnOf, Sending, role-turn, role-judged}
 
 -- the two samples of a turn are what is drawn for its bit
-drawn : (bit : Bool) → levelOf false bit ∷ levelOf true bit ∷ [] ≡ drawBit bit
+pub drawn : (bit : Bool) → levelOf false bit ∷ levelOf true bit ∷ [] ≡ drawBit bit
 drawn true = refl
 drawn false = refl
 

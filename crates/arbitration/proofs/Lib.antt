@@ -9,3 +9,4 @@ pub mod Roles
 pub mod Byte
 pub mod Standing
 pub mod Pause
+pub mod Round
