@@ -10,3 +10,4 @@ pub mod Byte
 pub mod Standing
 pub mod Pause
 pub mod Round
+pub mod Ends

@@ -54,9 +54,13 @@ abbrev pub positionOf : Standing → ℕ
 positionOf stays = 0
 positionOf (out register latch position) = position
 
+-- a master as it stands, with its module
+abbrev pub standingAs : (Standing → Usi) → Standing → Master
+standingAs usi standing =
+    record { usi = usi standing; contending = isIn standing; lost = false; position = positionOf standing }
+
 abbrev pub masterAt : Pause → Standing → Master
-masterAt pause standing =
-    record { usi = usiAt pause standing; contending = isIn standing; lost = false; position = positionOf standing }
+masterAt pause standing = standingAs (usiAt pause) standing
 
 -- a byte is loaded: who is in drives its bits
 pub loads : (pause : Pause) (own : ℕ) (standing : Standing) → own < 256

@@ -7,9 +7,9 @@ use Rattle.usi.specs.declared.Usi.{Usi}
 use Rattle.usi.specs.Module.{pullsScl, pullsSda}
 use Rattle.arbitration.specs.declared.Master.{Master}
 use Rattle.arbitration.specs.declared.Operation.the-variants.{Tick, Sample}
-use Rattle.arbitration.specs.Masters.{withUsi, applied}
+use Rattle.arbitration.specs.Masters.{withUsi, applied, written}
 use Rattle.arbitration.specs.Outcome.{any}
-use Rattle.arbitration.specs.Run.{Bus, levelOf, wire, every, sampledAt, sampled, noted, recorded, pulled, bitTurn}
+use Rattle.arbitration.specs.Run.{Bus, levelOf, wire, every, writes, sampledAt, sampled, noted, recorded, pulled, bitTurn}
 use Rattle.arbitration.proofs.Lists.{Everyone, everyone-so, map-alike, any-alike, any-none, any-map}
 use Rattle.arbitration.proofs.Turn.{ticks, samples, lowered, raised, turned, Turns}
 
@@ -19,7 +19,7 @@ busOf masters pull level byte levels carried =
 
 -- masters whose modules have come to a state
 module _ {A : Type 0} (master : A → Master) (l : List A) where
-  abbrev stage : (A → Usi) → List Master
+  abbrev pub stage : (A → Usi) → List Master
   stage usi = map (λ a. withUsi (usi a) (master a)) l
 
   module _ (usi : A → Usi) (pull : Bool) (level byte : ℕ) (levels carried : List ℕ) where
@@ -46,7 +46,7 @@ module _ {A : Type 0} (master : A → Master) (l : List A) where
           ∙ ap (λ masters. busOf masters pull (levelOf scl sda) byte levels carried)
             (map-map (applied (Sample (levelOf scl sda))) (λ a. withUsi (usi a) (master a)) l)
 
-      record-all : recorded (busOf (stage usi) pull level byte levels carried)
+      pub record-all : recorded (busOf (stage usi) pull level byte levels carried)
           ≡ busOf (stage (λ a. samples scl sda (usi a))) pull (levelOf scl sda) byte (levels ++ levelOf scl sda ∷ []) carried
       unfolding recorded
       record-all = ap noted sample-all
@@ -81,3 +81,17 @@ module _ {A : Type 0} (master : A → Master) (l : List A) where
     where
       before : Bool
       before = not (old || any (λ a. pullsSda (ticks (master a .usi))) l)
+
+-- registers written one after the other by each master
+abbrev pub writesOf : List (ℕ × ℕ) → Master → Master
+writesOf [] master = master
+writesOf (write ∷ more) master = writesOf more (written (write .0) (write .1) master)
+
+pub writes-all : {A : Type 0} (list : List (ℕ × ℕ)) (master : A → Master) (l : List A) (pull : Bool) (level byte : ℕ)
+    (levels carried : List ℕ)
+    → writes list (busOf (map master l) pull level byte levels carried)
+      ≡ busOf (map (λ a. writesOf list (master a)) l) pull level byte levels carried
+writes-all [] master l pull level byte levels carried = refl
+writes-all (write ∷ more) master l pull level byte levels carried =
+    ap (λ masters. writes more (busOf masters pull level byte levels carried)) (map-map (written (write .0) (write .1)) master l)
+    ∙ writes-all more (λ a. written (write .0) (write .1) (master a)) l pull level byte levels carried
