@@ -11,3 +11,5 @@ pub mod Standing
 pub mod Pause
 pub mod Round
 pub mod Ends
+pub mod Against
+pub mod Drawing
