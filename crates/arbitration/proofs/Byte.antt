@@ -9,6 +9,7 @@ use mir.Val.{boolByte}
 use lib.ListN.{length, length-append}
 use Rattle.bus.specs.Levels.{sda}
 use Rattle.bus.specs.Encode.{drawBit, drawBits}
+use Rattle.bus_theorems.proofs.Bits.{numberFrom}
 use Rattle.arbitration.specs.declared.Master.{Master}
 use Rattle.arbitration.specs.declared.Operation.the-variants.{Judge}
 use Rattle.arbitration.specs.Masters.{withUsi, judged}
@@ -16,7 +17,7 @@ use Rattle.arbitration.specs.Outcome.{any, unequalBit}
 use Rattle.arbitration.specs.Run.{Bus, levelOf, every, taken as bitTaken, dataTurn, dataTurns}
 use Rattle.arbitration.proofs.Lists.{Everyone, Someone, everyone-so, someone-so, everyone-map, someone-map}
 use Rattle.arbitration.proofs.Lists.{map-alike, any-none, any-one}
-use Rattle.arbitration.proofs.Bits.{gathered, AtMost, at-most-length, same}
+use Rattle.arbitration.proofs.Bits.{AtMost, at-most-length}
 use Rattle.arbitration.proofs.Wire.{busOf, turn-is}
 use Rattle.arbitration.proofs.Roles.{Role, drives, lost, gone, usiOf, masterOf, contends, clocks, pulls}
 use Rattle.arbitration.proofs.Roles.{turnOf, Sending, role-turn, role-judged}
@@ -96,7 +97,7 @@ within-turn : (at : ℕ) (bit : Bool) (bits : List Bool) (role : Role) → Withi
 within-turn at bit bits (drives [] latch enable) h = absurd h
 within-turn at true bits (drives (true ∷ rest) latch enable) h = h
 within-turn at true bits (drives (false ∷ rest) latch enable) h = absurd h
-within-turn at false bits (drives (true ∷ rest) latch enable) h = sym h
+within-turn at false bits (drives (true ∷ rest) latch enable) h = h
 within-turn at false bits (drives (false ∷ rest) latch enable) h = h
 within-turn at bit bits (lost [] latch position) h = absurd (omega arith)
 within-turn at bit bits (lost (sent ∷ rest) latch position) h = omega arith
@@ -141,7 +142,7 @@ map-same (a ∷ l) = ap (λ k. a ∷ k) (map-same l)
 pub turns : (bits taken : List Bool) → length bits + length taken ≡ 8 → (at : ℕ) (roles : List Role) (line : Line) (byte : ℕ)
     (levels carried : List ℕ) → Everyone (Within bits) roles → Someone (Leads bits) roles
     → dataTurns (length bits) at (inByte (length bits) taken line roles byte levels carried)
-      ≡ inByte 0 (taken ++ bits) (lineAfter line bits) (map (turnsOf at bits) roles) (gathered byte bits)
+      ≡ inByte 0 (taken ++ bits) (lineAfter line bits) (map (turnsOf at bits) roles) (numberFrom byte bits)
           (levels ++ drawBits bits) carried
 turns [] taken eight at roles line byte levels carried all some =
     ap₂ (λ bits masters. inByte 0 bits line masters byte levels carried) (sym (append-nil taken)) (sym (map-same roles))
@@ -155,11 +156,11 @@ turns (bit ∷ bits) taken eight at roles line byte levels carried all some =
         (levels ++ drawBit bit) carried
         (everyone-map (turnOf at bit) (everyone-so (within-turn at bit bits) all))
         (someone-map (turnOf at bit) (someone-so (leads-turn at bit bits) some))
-    ∙ ap₂ (λ got masters. inByte 0 got (lineAfter (shows bit) bits) masters (gathered (2 * byte + boolByte bit) bits)
+    ∙ ap₂ (λ got masters. inByte 0 got (lineAfter (shows bit) bits) masters (numberFrom (2 * byte + boolByte bit) bits)
         (levels ++ drawBit bit ++ drawBits bits) carried)
       (append-assoc taken (bit ∷ []) bits) (map-map (turnsOf (suc at) bits) (turnOf at bit) roles)
     ∙ ap (λ recording. inByte 0 (taken ++ bit ∷ bits) (lineAfter (shows bit) bits) (map (turnsOf at (bit ∷ bits)) roles)
-        (gathered (2 * byte + boolByte bit) bits) recording carried)
+        (numberFrom (2 * byte + boolByte bit) bits) recording carried)
       (append-assoc levels (drawBit bit) (drawBits bits))
   where
     longer : length bits + length (taken ++ bit ∷ []) ≡ 8

@@ -82,7 +82,7 @@ module _ (n : ℕ) (taken : List Bool) (eight : suc n + length taken ≡ 8) (sda
 
   shift : (sent : Bool) (rest : List Bool) → length rest ≡ n
       → rules.shifted (number (sent ∷ rest ++ taken)) bit ≡ number (rest ++ (taken ++ bit ∷ []))
-  shift sent rest size = shift-is sent (rest ++ taken) bit (seven rest size) ∙ ap number (append-assoc rest taken (bit ∷ []))
+  shift sent rest size = shift-is sent (rest ++ taken) (seven rest size) bit ∙ ap number (append-assoc rest taken (bit ∷ []))
 
   small : suc n < 32
   small = omega arith

@@ -14,7 +14,7 @@ use Rattle.arbitration.specs.Outcome.{any}
 use Rattle.arbitration.specs.Run.{levelOf, bitTurn, dataTurns, loaded, opened, closed, byteTurn}
 use Rattle.arbitration.proofs.Lists.{Everyone, Someone, everyone, everyone-so, everyone-both, everyone-map, someone-so}
 use Rattle.arbitration.proofs.Lists.{someone-map, map-alike, any-none, any-one, zipWith-map}
-use Rattle.arbitration.proofs.Bits.{number, gathered, number-bits, at-most-bits}
+use Rattle.arbitration.proofs.Bits.{number, number-bits, at-most-bits}
 use Rattle.arbitration.proofs.Wire.{busOf, turn-is}
 use Rattle.arbitration.proofs.Roles.{Role, contends, masterOf, Sending}
 use Rattle.arbitration.proofs.Byte.{Within, Leads, turnsOf, Line, shows, lineAfter, inByte, turns, within-turns, leads-turns, drawn}

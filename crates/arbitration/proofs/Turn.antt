@@ -9,7 +9,7 @@ use Rattle.usi.specs.declared.Usi.{Usi}
 use Rattle.usi.specs.declared.Step.{Step}
 use Rattle.usi.specs.declared.Step.the-variants.{Next, Refused}
 use Rattle.usi.specs.Module.{fits, pullsScl, pullsSda, withPhase}
-use Rattle.usi.specs.Step.{moduleOf, latched, followed, bitTaken, risen, fallen, recorded, edged, sampled, sample, ticked, tick}
+use Rattle.usi.specs.Step.{moduleOf, latched, followed, bitTaken, risen, fallen, stretched, recorded, edged, sampled, sample, ticked, tick}
 use Rattle.arbitration.specs.Run.{levelOf}
 
 -- a module that has seen the lines and stretches nothing
@@ -118,7 +118,7 @@ module _ (control flags count register : ℕ) (clocking : Clocking control flags
   unfolding conditionFlags conditionCount risen fallen edged
   fall latch enable sda before =
       sample-fits false before _ (clocking .fitting)
-      ∙ ap (λ moves. followed (recorded false before (cond moves (latched low) low))) (clocking .moves)
+      ∙ ap (λ moves. followed (recorded false before (stretched false (cond moves (latched low) low)))) (clocking .moves)
       ∙ held _ (clocking .opaque)
     where
       low : Usi
@@ -147,7 +147,7 @@ module _ (control flags count register : ℕ) (clocking : Clocking control flags
   unfolding conditionFlags conditionCount risen fallen edged
   rise latch enable sda bit =
       sample-fits true bit _ (clocking .fitting)
-      ∙ ap (λ takes. followed (recorded true bit (fallen true (cond takes (bitTaken bit high) high)))) (clocking .counting)
+      ∙ ap (λ takes. followed (recorded true bit (stretched true (fallen true (cond takes (bitTaken bit high) high))))) (clocking .counting)
       ∙ held _ (clocking .opaque-after (rules.loses control enable latch bit))
     where
       high : Usi
