@@ -13,3 +13,5 @@ pub mod Round
 pub mod Ends
 pub mod Against
 pub mod Drawing
+pub mod Carry
+pub mod Loop
