@@ -137,15 +137,15 @@ torn (message ∷ messages) acknowledges applies =
     winner = least (message ∷ messages)
 
 -- P10: messages 90 and 90 00, acknowledges 0 0: refusal 16. P11: acknowledges 1 0: none
-pub p10 : unsettled ((0x90 ∷ []) ∷ (0x90 ∷ 0x00 ∷ []) ∷ []) (0 ∷ 0 ∷ []) ≡ true
+pub p10-unsettled : unsettled ((0x90 ∷ []) ∷ (0x90 ∷ 0x00 ∷ []) ∷ []) (0 ∷ 0 ∷ []) ≡ true
 unfolding unsettled
-p10 = refl
+p10-unsettled = refl
 
-pub p11 : unsettled ((0x90 ∷ []) ∷ (0x90 ∷ 0x00 ∷ []) ∷ []) (1 ∷ 0 ∷ []) ≡ false
+pub p11-settled : unsettled ((0x90 ∷ []) ∷ (0x90 ∷ 0x00 ∷ []) ∷ []) (1 ∷ 0 ∷ []) ≡ false
 unfolding unsettled
-p11 = refl
+p11-settled = refl
 
 -- P12: messages 90, 90 00, 50, acknowledges 0 0: none, though one begins another
-pub p12 : unsettled ((0x90 ∷ []) ∷ (0x90 ∷ 0x00 ∷ []) ∷ (0x50 ∷ []) ∷ []) (0 ∷ 0 ∷ []) ≡ false
+pub p12-settled : unsettled ((0x90 ∷ []) ∷ (0x90 ∷ 0x00 ∷ []) ∷ (0x50 ∷ []) ∷ []) (0 ∷ 0 ∷ []) ≡ false
 unfolding unsettled
-p12 = refl
+p12-settled = refl
