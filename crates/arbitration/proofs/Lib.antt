@@ -1,5 +1,9 @@
 pub mod Worked
 pub mod Lists
+pub mod LeastMessage
+pub mod Carried
+pub mod Unsettled
+pub mod Fates
 pub mod Counting
 pub mod Turn
 pub mod Wire
