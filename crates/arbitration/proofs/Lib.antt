@@ -19,3 +19,4 @@ pub mod Against
 pub mod Drawing
 pub mod Carry
 pub mod Loop
+pub mod Demand

@@ -1,0 +1,79 @@
+-- Demand 3: what a run by 01's steps shows is what follows from the messages and the acknowledges alone.
+use Prim.Native.Nat.{ℕ, zero, suc, _≤_, _<_}
+use native.Mathlib.Omega.{arith}
+use mathlib.Core.Path.{_≡_, refl, ap, ap₂, sym, subst, _∙_}
+use mathlib.Core.Bool.{Bool, true, false}
+use mathlib.Core.List.{List, [], _∷_, _++_, map, map-map}
+use lib.ListN.{length, take, drop, take-append-drop}
+use Rattle.bus.specs.Encode.{drawEvents, drawing}
+use Rattle.arbitration.specs.declared.Master.{Master}
+use Rattle.arbitration.specs.Outcome.{Outcome, atMost, least, carriedCount, carriedOf, byteEvents, frame, lossFrom, fate, outcome}
+use Rattle.arbitration.specs.Run.{Bus, bytesTurn, prepared, started, stopped, run, fateOf, observed}
+use Rattle.arbitration.proofs.Lists.{Everyone, nobody, also, Someone, everyone, everyone-so, someone-so, map-alike}
+use Rattle.arbitration.proofs.Wire.{busOf}
+use Rattle.arbitration.proofs.Pause.{afterStart, isIn, standingAs, masterAt}
+use Rattle.arbitration.proofs.Standing.{stays}
+use Rattle.arbitration.proofs.Ends.{start-is, finalUsi, stop-is}
+use Rattle.arbitration.proofs.Against.{against, owner-in}
+use Rattle.arbitration.proofs.LeastMessage.{least-at-most, least-among, least-too}
+use Rattle.arbitration.proofs.Carry.{Bytes, Contest}
+use Rattle.arbitration.proofs.Loop.{Carried, carries}
+use Rattle.arbitration.proofs.Carried.{frame-drawn}
+use Rattle.arbitration.proofs.Fates.{final-fate}
+
+-- a message that can be sent: bytes, at least one, and an acknowledge for each
+pub record Sendable (acknowledges message : List ℕ) : Type 0 where
+  pub bytes : Bytes message
+  pub some : 0 < length message
+  pub answered : length message ≤ length acknowledges
+
+-- one or more messages that can be sent, and acknowledges that are 0 or 1
+pub record Arbitration (messages : List (List ℕ)) (acknowledges : List ℕ) : Type 0 where
+  pub someone : 0 < length messages
+  pub sendable : Everyone (Sendable acknowledges) messages
+  pub bits : Everyone (λ acknowledge. acknowledge ≤ 1) acknowledges
+
+-- the bus at the end: the modules whole, the levels, the carried bytes
+pub record Ended (bus : Bus) (messages : List (List ℕ)) (carried acknowledges : List ℕ) : Type 0 where
+  pub masters : bus .masters ≡ map (λ message. standingAs finalUsi (against 0 carried message)) messages
+  pub levels : bus .levels ≡ drawing (frame carried acknowledges)
+  pub bytes : bus .carried ≡ carried
+
+-- the owner of the least message is in at the end
+winner-in : (messages : List (List ℕ)) (winner : List ℕ) (k : ℕ) → Someone (λ message. message ≡ winner) messages
+    → Someone (λ message. isIn (against 0 (take k winner) message) ≡ true) messages
+winner-in messages winner k some =
+    someone-so
+    (λ message same.
+      ap (λ m. isIn (against 0 (take k winner) m)) (same ∙ sym (take-append-drop k winner))
+      ∙ owner-in 0 (take k winner) (drop k winner))
+    some
+
+run-ends : (messages : List (List ℕ)) (acknowledges winner : List ℕ) → Contest messages winner → Sendable acknowledges winner
+    → Everyone (λ acknowledge. acknowledge ≤ 1) acknowledges
+    → Ended (run messages acknowledges) messages (take (carriedCount winner acknowledges) winner) acknowledges
+unfolding run
+run-ends messages acknowledges [] contest sendable bits = absurd (omega (arith, sendable .some))
+run-ends messages acknowledges (byte ∷ more) contest sendable bits =
+    record {
+      masters = ap (λ (bus : Bus). bus .masters) whole;
+      levels = ap (λ (bus : Bus). bus .levels) whole ∙ sym (frame-drawn carried acknowledges);
+      bytes = ap (λ (bus : Bus). bus .carried) whole;
+    }
+  where
+    carried : List ℕ
+    carried = take (carriedCount (byte ∷ more) acknowledges) (byte ∷ more)
+    over : Carried (bytesTurn messages acknowledges 0 (busOf (map (λ message. masterAt afterStart stays) messages) false 1 0 (3 ∷ 1 ∷ []) []))
+        messages carried (3 ∷ 1 ∷ drawEvents (byteEvents carried acknowledges)) carried
+    over =
+        carries messages acknowledges 0 [] byte more afterStart false 1 0 (3 ∷ 1 ∷ []) [] contest refl bits
+          (omega (arith, sendable .answered))
+    whole : run messages acknowledges
+        ≡ busOf (map (λ message. standingAs finalUsi (against 0 carried message)) messages) false 3 (over .last)
+            (3 ∷ 1 ∷ (drawEvents (byteEvents carried acknowledges) ++ 0 ∷ 1 ∷ 3 ∷ [])) carried
+    whole =
+        ap (λ bus. stopped (bytesTurn messages acknowledges 0 bus)) (start-is messages (contest .sent))
+        ∙ ap stopped (over .is)
+        ∙ stop-is messages (against 0 carried) (over .last) (over .ninth) (over .pull) (over .level) (over .last)
+            (3 ∷ 1 ∷ drawEvents (byteEvents carried acknowledges)) carried
+            (winner-in messages (byte ∷ more) (carriedCount (byte ∷ more) acknowledges) (contest .sent))
