@@ -77,3 +77,39 @@ run-ends messages acknowledges (byte ∷ more) contest sendable bits =
         ∙ stop-is messages (against 0 carried) (over .last) (over .ninth) (over .pull) (over .level) (over .last)
             (3 ∷ 1 ∷ drawEvents (byteEvents carried acknowledges)) carried
             (winner-in messages (byte ∷ more) (carriedCount (byte ∷ more) acknowledges) (contest .sent))
+
+contest : (messages : List (List ℕ)) {acknowledges : List ℕ} → Arbitration messages acknowledges → Contest messages (least messages)
+contest [] given = absurd (omega (arith, given .someone))
+contest (message ∷ messages) given =
+    record {
+      least = least-at-most (message ∷ messages);
+      sent = least-among message messages;
+      bytes = everyone-so (λ own sendable. sendable .bytes) (given .sendable);
+    }
+
+least-sendable : (messages : List (List ℕ)) {acknowledges : List ℕ} → Arbitration messages acknowledges
+    → Sendable acknowledges (least messages)
+least-sendable [] given = absurd (omega (arith, given .someone))
+least-sendable (message ∷ messages) given = least-too message messages (given .sendable)
+
+-- the run's end, from messages and acknowledges
+pub ended : (messages : List (List ℕ)) (acknowledges : List ℕ) → Arbitration messages acknowledges
+    → Ended (run messages acknowledges) messages (carriedOf messages acknowledges) acknowledges
+unfolding carriedOf
+ended messages acknowledges given =
+    run-ends messages acknowledges (least messages) (contest messages given) (least-sendable messages given) (given .bits)
+
+pub demand3 : (messages : List (List ℕ)) (acknowledges : List ℕ) → Arbitration messages acknowledges
+    → observed (run messages acknowledges) ≡ outcome messages acknowledges
+unfolding observed outcome
+demand3 messages acknowledges given =
+    let end = ended messages acknowledges given in
+    ap₂ (λ carried levels. record { carried = carried; levels = levels; fates = map fateOf (run messages acknowledges .masters) })
+      (end .bytes) (end .levels)
+    ∙ ap (λ fates. record { carried = carried; levels = drawing (frame carried acknowledges); fates = fates })
+      (ap (map fateOf) (end .masters)
+      ∙ map-map fateOf (λ message. standingAs finalUsi (against 0 carried message)) messages
+      ∙ map-alike (everyone (λ message. final-fate 0 carried message) messages))
+  where
+    carried : List ℕ
+    carried = carriedOf messages acknowledges
