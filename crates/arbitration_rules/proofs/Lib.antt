@@ -20,3 +20,4 @@ pub mod Drawing
 pub mod Carry
 pub mod Loop
 pub mod Demand
+pub mod FinalMasters

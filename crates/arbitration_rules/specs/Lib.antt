@@ -3,3 +3,4 @@ pub mod Masters
 pub mod Outcome
 pub mod Run
 pub mod Reply
+pub mod Final
