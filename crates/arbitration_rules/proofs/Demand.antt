@@ -87,7 +87,7 @@ contest (message ∷ messages) given =
       bytes = everyone-so (λ own sendable. sendable .bytes) (given .sendable);
     }
 
-least-sendable : (messages : List (List ℕ)) {acknowledges : List ℕ} → Arbitration messages acknowledges
+pub least-sendable : (messages : List (List ℕ)) {acknowledges : List ℕ} → Arbitration messages acknowledges
     → Sendable acknowledges (least messages)
 least-sendable [] given = absurd (omega (arith, given .someone))
 least-sendable (message ∷ messages) given = least-too message messages (given .sendable)

@@ -21,3 +21,4 @@ pub mod Carry
 pub mod Loop
 pub mod Demand
 pub mod FinalMasters
+pub mod RecordedLevels
