@@ -22,3 +22,4 @@ pub mod Loop
 pub mod Demand
 pub mod FinalMasters
 pub mod RecordedLevels
+pub mod Accepted
