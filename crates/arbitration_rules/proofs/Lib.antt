@@ -23,3 +23,4 @@ pub mod Demand
 pub mod FinalMasters
 pub mod RecordedLevels
 pub mod Accepted
+pub mod Together

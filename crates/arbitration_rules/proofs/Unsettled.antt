@@ -95,20 +95,24 @@ any-true test (a ∷ l) some-so = go (any-true test l) (test a) refl
     go rest true first = this first
     go rest false first = another (rest (rw first at some-so))
 
--- 16 does not apply: the least message was cut short, or whoever is still in ends with it
+-- 16 does not apply: the least message was cut short, or it was sent whole and whoever is still in ends with it
 pub ends-together : (messages : List (List ℕ)) (acknowledges : List ℕ)
     → Everyone (λ acknowledge. acknowledge ≤ 1) acknowledges → unsettled messages acknowledges ≡ false
     → CutShort (least messages) acknowledges
-    ⊎ Everyone (λ own. lossFrom 0 (least messages) own ≡ none → own ≡ least messages) messages
+    ⊎ ((allAcknowledged (least messages) acknowledges ≡ true)
+      × Everyone (λ own. lossFrom 0 (least messages) own ≡ none → own ≡ least messages) messages)
 unfolding unsettled
 ends-together messages acknowledges bits settled = go (allAcknowledged (least messages) acknowledges) refl
   where
     go : (all : Bool) → allAcknowledged (least messages) acknowledges ≡ all
         → CutShort (least messages) acknowledges
-        ⊎ Everyone (λ own. lossFrom 0 (least messages) own ≡ none → own ≡ least messages) messages
+        ⊎ ((allAcknowledged (least messages) acknowledges ≡ true)
+          × Everyone (λ own. lossFrom 0 (least messages) own ≡ none → own ≡ least messages) messages)
     go false refused = inl (cut-short (least messages) bits refused)
     go true all =
-        inr (everyone-so (λ own both. ends-with 0 (at-most (least messages) own (both .0)) (both .1))
+        inr
+        (all,
+        everyone-so (λ own both. ends-with 0 (at-most (least messages) own (both .0)) (both .1))
         (everyone-both (least-at-most messages) (any-false (begins (least messages)) messages (rw all at settled))))
 
 -- 16 applies: no byte of the least message is refused, one master ends with it, and another, still in, goes on
