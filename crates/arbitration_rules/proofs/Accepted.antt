@@ -1,17 +1,17 @@
 -- What no refusal turns down is an arbitration: demand 3 holds of it.
-use Prim.Native.Nat.{ℕ, zero, suc, _+_, _≤_, _<_, max, min}
+use Prim.Native.Nat.{ℕ, zero, suc, _≤_, _<_}
 use native.Mathlib.Omega.{arith}
-use mathlib.Core.Path.{_≡_, refl, ap, sym, subst, _∙_}
+use mathlib.Core.Path.{_≡_, refl, ap, sym, _∙_}
 use mathlib.Core.Bool.{Bool, cond, true, false, not, _||_, false≢true}
 use mathlib.Core.List.{List, [], _∷_}
 use lib.Dec.{eqb, ltb}
 use lib.ListN.{length, take, drop, length-take, length-drop}
 use borrow.Author.Tests.{eqb-true, eqb-false, ltb-false, not-false}
 use Rattle.arbitration_rules.specs.Limits.{maxLength}
-use Rattle.arbitration_rules.specs.Outcome.{any, least, carriedCount, unsettled}
+use Rattle.arbitration_rules.specs.Outcome.{any}
 use Rattle.arbitration_rules.specs.Reply.{messagesOf, badCount, firstBadLength, total, badLengths, reads, longest}
-use Rattle.arbitration_rules.specs.Reply.{badAcknowledges, shortBuffer, refusal}
-use Rattle.arbitration_rules.proofs.Lists.{Everyone, nobody, also, everyone-so}
+use Rattle.arbitration_rules.specs.Reply.{badAcknowledges, refusal}
+use Rattle.arbitration_rules.proofs.Lists.{Everyone, nobody, also}
 use Rattle.arbitration_rules.proofs.Carried.{carried-too}
 use Rattle.arbitration_rules.proofs.Carry.{Bytes}
 use Rattle.arbitration_rules.proofs.Demand.{Sendable, Arbitration}

@@ -1,13 +1,13 @@
 -- A message against the bytes that the bus has carried, those of the least message: its master is in as long as they are its
 -- own, and then has a byte to come that is not below the bus's next one.
-use Prim.Native.Nat.{ℕ, zero, suc, _+_, _≤_, _<_}
+use Prim.Native.Nat.{ℕ, suc, _+_, _≤_, _<_}
 use native.Mathlib.Omega.{arith}
 use mathlib.Core.Path.{_≡_, refl, ap, ap₂, sym, _∙_}
 use mathlib.Core.Bool.{Bool, cond, true, false, _&&_, _||_, false≢true}
 use mathlib.Core.List.{List, [], _∷_, _++_}
 use lib.Dec.{eqb, ltb}
 use lib.ListN.{length, getD}
-use borrow.Author.Tests.{eq-eqb, ne-eqb, eqb-true, ltb-true, le-ltb}
+use borrow.Author.Tests.{eq-eqb, eqb-true, ltb-true, le-ltb}
 use Rattle.bus.specs.Encode.{bitAt}
 use Rattle.arbitration_rules.specs.Outcome.{atMost, positionIn}
 use Rattle.arbitration_rules.proofs.Standing.{Standing, stays, out, standingAfter}

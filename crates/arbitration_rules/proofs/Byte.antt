@@ -1,19 +1,18 @@
 -- Eight turns carry the least byte of those that drive: the bus shows at each turn the bit of the master with the least byte,
 -- and who drives another bit is beaten at the first bit in which it differs.
-use Prim.Native.Nat.{ℕ, zero, suc, _+_, _*_, _≤_, _<_}
+use Prim.Native.Nat.{ℕ, suc, _+_, _*_}
 use native.Mathlib.Omega.{arith}
 use mathlib.Core.Path.{_≡_, refl, ap, ap₂, sym, subst, _∙_}
-use mathlib.Core.Bool.{Bool, cond, true, false, not, _&&_, Bool·beq}
+use mathlib.Core.Bool.{Bool, true, false, not}
 use mathlib.Core.List.{List, [], _∷_, _++_, map, map-map, append-assoc, append-nil}
 use mir.Val.{boolByte}
 use lib.ListN.{length, length-append}
 use Rattle.bus.specs.Levels.{sda}
 use Rattle.bus.specs.Encode.{drawBit, drawBits}
 use Rattle.bus_theorems.proofs.Bits.{numberFrom}
-use Rattle.arbitration_rules.specs.declared.Master.{Master}
 use Rattle.arbitration_rules.specs.declared.Operation.the-variants.{Judge}
 use Rattle.arbitration_rules.specs.Masters.{withUsi, judged}
-use Rattle.arbitration_rules.specs.Outcome.{any, unequalBit}
+use Rattle.arbitration_rules.specs.Outcome.{any}
 use Rattle.arbitration_rules.specs.Run.{Bus, levelOf, every, taken as bitTaken, dataTurn, dataTurns}
 use Rattle.arbitration_rules.proofs.Lists.{Everyone, Someone, everyone-so, someone-so, everyone-map, someone-map}
 use Rattle.arbitration_rules.proofs.Lists.{map-alike, any-none, any-one}

@@ -1,19 +1,18 @@
 -- The bus carries the least message, byte by byte, until a byte of it is not acknowledged or all of it is sent.
 use Prim.Native.Nat.{ℕ, zero, suc, _+_, _*_, _≤_, _<_}
 use native.Mathlib.Omega.{arith}
-use native.Mathlib.Numerals.{add-one}
 use mathlib.Core.Path.{_≡_, refl, ap, ap₂, sym, subst, _∙_}
-use mathlib.Core.Bool.{Bool, cond, true, false, _&&_, _||_, false≢true}
-use mathlib.Core.List.{List, [], _∷_, _++_, map, zipWith, append-assoc, append-nil}
+use mathlib.Core.Bool.{Bool, true, false, _&&_}
+use mathlib.Core.List.{List, [], _∷_, _++_, append-nil}
 use lib.Dec.{eqb, leb, lit<}
-use lib.ListN.{length, getD, take, length-append}
+use lib.ListN.{length}
 use lib.Seq.{getD-append-seam}
 use borrow.Author.Tests.{le-leb, lt-leb}
-use Rattle.bus.specs.Encode.{drawEvent, drawEvents}
+use Rattle.bus.specs.Encode.{drawEvent}
 use Rattle.arbitration_rules.specs.declared.Master.{Master}
-use Rattle.arbitration_rules.specs.Outcome.{any, atMost, carriedCount, byteEvents}
-use Rattle.arbitration_rules.specs.Run.{Bus, levelOf, byteTurn, through, bytesTurn}
-use Rattle.arbitration_rules.proofs.Lists.{Everyone, nobody, also, Someone, this, another, everyone-so, everyone-both, someone-so}
+use Rattle.arbitration_rules.specs.Outcome.{any, atMost}
+use Rattle.arbitration_rules.specs.Run.{levelOf, byteTurn, through}
+use Rattle.arbitration_rules.proofs.Lists.{Everyone, nobody, also, Someone, this, another, everyone-so, someone-so}
 use Rattle.arbitration_rules.proofs.Lists.{map-alike, any-none, any-one, any-map, zipWith-map}
 use Rattle.arbitration_rules.proofs.Wire.{busOf}
 use Rattle.arbitration_rules.proofs.Standing.{Standing, standingAfter}

@@ -1,12 +1,12 @@
 -- What a turn needs to know of the bits still to go: a count below 32 is the field CNT itself, with no other bit of USICNT set.
-use Prim.Native.Nat.{ℕ, zero, suc, _+_, _-_, _*_, _/_, _%_, _^_, _<_, _≤_}
+use Prim.Native.Nat.{ℕ, zero, suc, _-_, _*_, _/_, _%_, _<_}
 use native.Mathlib.Omega.{arith}
-use native.Mathlib.Nat.{mod-eq-of-lt, div-eq-of-lt}
-use mathlib.Core.Path.{_≡_, refl, ap, ap₂, _∙_, sym}
-use mathlib.Core.Bool.{Bool, cond, true, false, not}
+use native.Mathlib.Nat.{mod-eq-of-lt}
+use mathlib.Core.Path.{_≡_, refl, ap, ap₂, _∙_}
+use mathlib.Core.Bool.{cond, true, not}
 use lib.Dec.{eqb}
-use lib.Bits.{bitAnd, bitOr, and-mask, and-high}
-use borrow.Author.Tests.{eq-eqb, ne-eqb}
+use lib.Bits.{bitOr, and-mask, and-high}
+use borrow.Author.Tests.{ne-eqb}
 use Rattle.bits.specs.Positions.{off, raise, clear}
 use Rattle.usi_rules.specs.Registers.{USIIFG, USI16B, USICNTx}
 use Rattle.usi_rules.specs.Rules.{bitCount, counting, countDown, endFlags}

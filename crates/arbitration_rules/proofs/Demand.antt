@@ -1,15 +1,14 @@
 -- Demand 3: what a run by 01's steps shows is what follows from the messages and the acknowledges alone.
-use Prim.Native.Nat.{ℕ, zero, suc, _≤_, _<_}
+use Prim.Native.Nat.{ℕ, _≤_, _<_}
 use native.Mathlib.Omega.{arith}
-use mathlib.Core.Path.{_≡_, refl, ap, ap₂, sym, subst, _∙_}
-use mathlib.Core.Bool.{Bool, true, false}
+use mathlib.Core.Path.{_≡_, refl, ap, ap₂, sym, _∙_}
+use mathlib.Core.Bool.{true, false}
 use mathlib.Core.List.{List, [], _∷_, _++_, map, map-map}
 use lib.ListN.{length, take, drop, take-append-drop}
 use Rattle.bus.specs.Encode.{drawEvents, drawing}
-use Rattle.arbitration_rules.specs.declared.Master.{Master}
-use Rattle.arbitration_rules.specs.Outcome.{Outcome, atMost, least, carriedCount, carriedOf, byteEvents, frame, lossFrom, fate, outcome}
-use Rattle.arbitration_rules.specs.Run.{Bus, bytesTurn, prepared, started, stopped, run, fateOf, observed}
-use Rattle.arbitration_rules.proofs.Lists.{Everyone, nobody, also, Someone, everyone, everyone-so, someone-so, map-alike}
+use Rattle.arbitration_rules.specs.Outcome.{least, carriedCount, carriedOf, byteEvents, frame, outcome}
+use Rattle.arbitration_rules.specs.Run.{Bus, bytesTurn, stopped, run, fateOf, observed}
+use Rattle.arbitration_rules.proofs.Lists.{Everyone, Someone, everyone, everyone-so, someone-so, map-alike}
 use Rattle.arbitration_rules.proofs.Wire.{busOf}
 use Rattle.arbitration_rules.proofs.Pause.{afterStart, isIn, standingAs, masterAt}
 use Rattle.arbitration_rules.proofs.Standing.{stays}

@@ -1,8 +1,8 @@
 -- The START and the STOP: the levels that they draw, and the modules as they leave them.
 use Prim.Native.Nat.{ℕ}
-use mathlib.Core.Path.{_≡_, refl, ap, ap₂, sym, _∙_}
-use mathlib.Core.Bool.{Bool, cond, true, false, not, _||_}
-use mathlib.Core.List.{List, [], _∷_, _++_, map, map-map, append-assoc}
+use mathlib.Core.Path.{_≡_, refl, ap, ap₂, _∙_}
+use mathlib.Core.Bool.{Bool, true, false, not}
+use mathlib.Core.List.{List, [], _∷_, _++_, map, append-assoc}
 use lib.Dec.{lit<}
 use Rattle.usi_rules.specs.Registers.{USICTL0, USICTL1, USICKCTL, USICNT, USISRL}
 use Rattle.usi_rules.specs.Rules as rules
@@ -13,10 +13,10 @@ use Rattle.usi.specs.Step.{followed, settled, writeByte, edged, fallen, risen, 
 use Rattle.arbitration_rules.specs.declared.Master.{Master}
 use Rattle.arbitration_rules.specs.Masters.{withUsi, entering, written}
 use Rattle.arbitration_rules.specs.Outcome.{any}
-use Rattle.arbitration_rules.specs.Run.{levelOf, writes, recorded, bitTurn, prepared, started, stopped}
-use Rattle.arbitration_rules.proofs.Lists.{Everyone, Someone, everyone, someone-so, map-alike, any-none, any-one}
+use Rattle.arbitration_rules.specs.Run.{writes, recorded, bitTurn, prepared, started, stopped}
+use Rattle.arbitration_rules.proofs.Lists.{Someone, everyone, someone-so, map-alike, any-none, any-one}
 use Rattle.arbitration_rules.proofs.Turn.{between, samples, Turns}
-use Rattle.arbitration_rules.proofs.Wire.{busOf, stage, record-all, turn-is, writesOf, writes-all}
+use Rattle.arbitration_rules.proofs.Wire.{busOf, record-all, turn-is, writesOf, writes-all}
 use Rattle.arbitration_rules.proofs.Registers.{driving, released, driving-turn, released-turn}
 use Rattle.arbitration_rules.proofs.Standing.{Standing, stays, out}
 use Rattle.arbitration_rules.proofs.Pause.{Pause, afterStart, afterByte, sdaAt, latchAt, enableAt, isIn, standingAs, masterAt}

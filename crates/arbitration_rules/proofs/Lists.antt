@@ -1,5 +1,5 @@
 -- Everyone in a list and someone in it: how claims about the masters go through maps and tests.
-use mathlib.Core.Path.{_≡_, refl, ap, ap₂, _∙_, sym}
+use mathlib.Core.Path.{_≡_, refl, ap, ap₂, _∙_}
 use mathlib.Core.Bool.{Bool, true, false, _||_}
 use mathlib.Core.List.{List, [], _∷_, map, zipWith}
 use Rattle.arbitration_rules.specs.Outcome.{any}

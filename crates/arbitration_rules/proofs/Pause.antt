@@ -1,11 +1,10 @@
 -- Between two bytes: masters still in wait with SCL high, all alike; who is out has released both lines. What they write there,
 -- and the turn of the acknowledge.
-use Prim.Native.Nat.{ℕ, zero, suc, _<_}
+use Prim.Native.Nat.{ℕ, _<_}
 use native.Mathlib.Omega.{arith}
-use mathlib.Core.Path.{_≡_, refl, ap, ap₂, sym, _∙_}
-use mathlib.Core.Bool.{Bool, cond, true, false, not}
-use mathlib.Core.List.{List, [], _∷_, _++_, append-nil}
-use lib.ListN.{length}
+use mathlib.Core.Path.{_≡_, refl, ap, sym, _∙_}
+use mathlib.Core.Bool.{Bool, true, false}
+use mathlib.Core.List.{List, [], _∷_, append-nil}
 use Rattle.usi_rules.specs.Registers.{USICTL0, USICNT, USISRL}
 use Rattle.usi_rules.specs.Rules as rules
 use Rattle.usi_rules.specs.Rules.{countFlags}

@@ -1,24 +1,23 @@
 -- The recorded levels: 5 + 18k of them, which decode to the list behind the drawing, in one closed frame.
 use Prim.Native.Nat.{ℕ, suc, _+_, _*_, _≤_, _<_}
 use native.Mathlib.Omega.{arith}
-use mathlib.Core.Path.{_≡_, refl, ap, sym, _∙_}
+use mathlib.Core.Path.{_≡_, refl, ap, _∙_}
 use mathlib.Core.Bool.{Bool, cond, true, false}
 use mathlib.Core.List.{List, [], _∷_, _++_}
 use lib.Dec.{eqb}
-use lib.ListN.{length, take}
+use lib.ListN.{length}
 use borrow.Author.Tests.{lt-ltb}
 use Rattle.bus.specs.declared.Position.the-variants.{Between, Opened, Within, Broken}
 use Rattle.bus.specs.Events.{repeatedStartEvent, stopEvent}
 use Rattle.bus.specs.Complete.{advance, completeFrom, complete}
 use Rattle.bus.specs.Decode.{events, final}
-use Rattle.bus.specs.Encode.{drawing}
 use Rattle.bus_theorems.proofs.ReadBack.{events-back, frame-closed}
 use Rattle.arbitration_rules.specs.Outcome.{least, carriedCount, carriedOf, byteEvents, frame}
-use Rattle.arbitration_rules.specs.Run.{Bus, run}
+use Rattle.arbitration_rules.specs.Run.{run}
 use Rattle.arbitration_rules.specs.Reply.{levelCount}
 use Rattle.arbitration_rules.proofs.Lists.{Everyone, nobody, also}
 use Rattle.arbitration_rules.proofs.Carried.{carried-count, carried-too, level-count}
-use Rattle.arbitration_rules.proofs.Demand.{Sendable, Arbitration, ended, least-sendable}
+use Rattle.arbitration_rules.proofs.Demand.{Arbitration, ended, least-sendable}
 
 -- bytes and their acknowledges make a whole frame
 first-byte : (event : ℕ) → event < 512 → advance Opened event ≡ Within

@@ -1,11 +1,11 @@
 -- A whole byte with its acknowledge: it is loaded, carried in eight turns and acknowledged in a ninth; the bus carries the least
 -- byte of those still in, and each master stands as that byte decides.
-use Prim.Native.Nat.{ℕ, zero, suc, _*_, _≤_, _<_}
+use Prim.Native.Nat.{ℕ, _*_, _≤_, _<_}
 use mathlib.Core.Path.{_≡_, refl, ap, ap₂, sym, _∙_}
-use mathlib.Core.Bool.{Bool, cond, true, false, not, _||_, false≢true}
+use mathlib.Core.Bool.{Bool, true, false, not, _||_, false≢true}
 use mathlib.Core.List.{List, [], _∷_, _++_, map, map-map, append-assoc}
 use lib.Dec.{eqb}
-use lib.ListN.{length, getD}
+use lib.ListN.{getD}
 use Rattle.usi_rules.specs.Registers.{USICTL0, USICNT, USISRL}
 use Rattle.bus.specs.Encode.{byteBits, drawBit, drawBits}
 use Rattle.arbitration_rules.specs.declared.Master.{Master}
@@ -17,7 +17,7 @@ use Rattle.arbitration_rules.proofs.Lists.{someone-map, map-alike, any-
 use Rattle.arbitration_rules.proofs.Bits.{number, number-bits, at-most-bits}
 use Rattle.arbitration_rules.proofs.Wire.{busOf, turn-is}
 use Rattle.arbitration_rules.proofs.Roles.{Role, contends, masterOf, Sending}
-use Rattle.arbitration_rules.proofs.Byte.{Within, Leads, turnsOf, Line, shows, lineAfter, inByte, turns, within-turns, leads-turns, drawn}
+use Rattle.arbitration_rules.proofs.Byte.{Within, Leads, turnsOf, Line, lineAfter, inByte, turns, within-turns, leads-turns, drawn}
 use Rattle.arbitration_rules.proofs.Standing.{Standing, stays, out, standingOf, standingAfter, entersAs, byte-decides}
 use Rattle.arbitration_rules.proofs.Pause.{Pause, afterByte, sdaAt, latchAt, enableAt, usiAt, isIn, masterAt, loads, listener, listens, hears, heard}
 

@@ -1,20 +1,16 @@
 -- How a master stands between two bytes: still in, or out at a position. One byte of the bus against its own byte decides.
-use Prim.Native.Nat.{ℕ, zero, suc, _+_, _*_, _<_}
+use Prim.Native.Nat.{ℕ, suc, _+_, _*_, _<_}
 use native.Mathlib.Omega.{arith}
-use mathlib.Core.Path.{_≡_, refl, ap, ap₂, sym, _∙_}
-use mathlib.Core.Bool.{Bool, cond, true, false, _&&_, Bool·beq}
+use mathlib.Core.Path.{_≡_, refl, ap, _∙_}
+use mathlib.Core.Bool.{Bool, cond, true, false}
 use mathlib.Core.List.{List, [], _∷_}
 use lib.Dec.{eqb}
 use lib.ListN.{length}
 use Rattle.usi_rules.specs.Rules as rules
-use Rattle.usi.specs.declared.Usi.{Usi}
 use Rattle.bus.specs.Encode.{bitAt, byteBits}
-use Rattle.arbitration_rules.specs.declared.Master.{Master}
 use Rattle.arbitration_rules.specs.Outcome.{unequalBit, positionIn}
 use Rattle.arbitration_rules.proofs.Bits.{same, same-bits}
-use Rattle.arbitration_rules.proofs.Turn.{between}
-use Rattle.arbitration_rules.proofs.Registers.{released, listening}
-use Rattle.arbitration_rules.proofs.Roles.{Role, drives, lost, gone, turnOf}
+use Rattle.arbitration_rules.proofs.Roles.{Role, drives, lost, gone}
 use Rattle.arbitration_rules.proofs.Byte.{turnsOf}
 
 -- who is out keeps the byte in which it lost, and its latch

@@ -1,23 +1,23 @@
 -- Refusal 16 over a run: without it the run was cut short by an acknowledge 1, or all that are still in have sent all of their
 -- messages; with it someone still in has, and someone still in has not.
-use Prim.Native.Nat.{ℕ, suc, _≤_, _<_}
+use Prim.Native.Nat.{ℕ, suc, _<_}
 use native.Mathlib.Omega.{arith}
-use mathlib.Core.Path.{_≡_, refl, ap, ap₂, sym, subst, _∙_}
+use mathlib.Core.Path.{_≡_, refl, ap, ap₂, sym, _∙_}
 use mathlib.Core.Bool.{Bool, cond, true, false, _&&_}
 use mathlib.Core.List.{List, [], _∷_, map, zipWith}
 use mathlib.Core.Logic.{_⊎_, inl, inr}
 use mathlib.Core.Option.{Option, none, some}
-use lib.Dec.{eqb, leb, ltb}
+use lib.Dec.{leb, ltb}
 use lib.ListN.{length}
 use borrow.Author.Tests.{eq-eqb, le-ltb, lt-ltb, le-leb}
 use Rattle.arbitration_rules.specs.declared.Master.{Master}
 use Rattle.arbitration_rules.specs.Outcome.{any, least, carriedCount, carriedOf, positionIn, lossFrom, fate}
 use Rattle.arbitration_rules.specs.Outcome.{allAcknowledged, unsettled}
-use Rattle.arbitration_rules.specs.Run.{Bus, through, run}
+use Rattle.arbitration_rules.specs.Run.{through, run}
 use Rattle.arbitration_rules.specs.Final.{finalMaster}
-use Rattle.arbitration_rules.proofs.Lists.{Everyone, Someone, everyone-so, someone-so, any-map, any-none, any-one, zipWith-map}
+use Rattle.arbitration_rules.proofs.Lists.{Everyone, everyone-so, someone-so, any-map, any-none, any-one, zipWith-map}
 use Rattle.arbitration_rules.proofs.Carried.{carried-count}
-use Rattle.arbitration_rules.proofs.Unsettled.{CutShort, whole, ends-together, Torn, torn as torn-apart}
+use Rattle.arbitration_rules.proofs.Unsettled.{CutShort, whole, ends-together, torn as torn-apart}
 use Rattle.arbitration_rules.proofs.Demand.{Arbitration}
 use Rattle.arbitration_rules.proofs.FinalMasters.{final-masters}
 

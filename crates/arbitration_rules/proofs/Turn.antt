@@ -1,14 +1,13 @@
 -- One module through one bit turn. A module that clocks goes through it by the rules alone, whatever its count, its register
 -- and the byte's other masters: it pulls SCL while low, drives the first bit of USISRL, and at the rise takes the bus's bit.
-use Prim.Native.Nat.{ℕ, zero, suc}
-use mathlib.Core.Path.{_≡_, refl, ap, ap₂, _∙_, sym}
+use Prim.Native.Nat.{ℕ}
+use mathlib.Core.Path.{_≡_, ap, ap₂, _∙_}
 use mathlib.Core.Bool.{Bool, cond, true, false, not, _&&_, _||_}
 use Rattle.usi_rules.specs.Rules as rules
 use Rattle.usi_rules.specs.Rules.{conditionFlags, conditionCount, phaseAfter}
 use Rattle.usi.specs.declared.Usi.{Usi}
-use Rattle.usi.specs.declared.Step.{Step}
 use Rattle.usi.specs.declared.Step.the-variants.{Next, Refused}
-use Rattle.usi.specs.Module.{fits, pullsScl, pullsSda, withPhase}
+use Rattle.usi.specs.Module.{fits, pullsScl, pullsSda}
 use Rattle.usi.specs.Step.{moduleOf, latched, followed, bitTaken, risen, fallen, stretched, recorded, edged, sampled, sample, ticked, tick}
 use Rattle.arbitration_rules.specs.Run.{levelOf}
 

@@ -1,6 +1,6 @@
 -- The bus through one bit turn, from what each of its modules does in it: the wire shows the bit, low and then high.
 use Prim.Native.Nat.{ℕ}
-use mathlib.Core.Path.{_≡_, refl, ap, ap₂, _∙_, sym}
+use mathlib.Core.Path.{_≡_, refl, ap, ap₂, _∙_}
 use mathlib.Core.Bool.{Bool, true, false, not, _||_}
 use mathlib.Core.List.{List, [], _∷_, _++_, map, map-map, append-assoc}
 use Rattle.usi.specs.declared.Usi.{Usi}
@@ -11,7 +11,7 @@ use Rattle.arbitration_rules.specs.Masters.{withUsi, applied, written}
 use Rattle.arbitration_rules.specs.Outcome.{any}
 use Rattle.arbitration_rules.specs.Run.{Bus, levelOf, wire, every, writes, sampledAt, sampled, noted, recorded, pulled, bitTurn}
 use Rattle.arbitration_rules.proofs.Lists.{Everyone, everyone-so, map-alike, any-alike, any-none, any-map}
-use Rattle.arbitration_rules.proofs.Turn.{ticks, samples, lowered, raised, turned, Turns}
+use Rattle.arbitration_rules.proofs.Turn.{ticks, samples, lowered, raised, Turns}
 
 abbrev pub busOf : List Master → Bool → ℕ → ℕ → List ℕ → List ℕ → Bus
 busOf masters pull level byte levels carried =

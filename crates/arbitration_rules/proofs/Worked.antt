@@ -1,7 +1,7 @@
 -- 01's worked numbers P8 to P12, by running the steps: what is carried, who loses where, the final registers.
 use Prim.Native.Nat.{ℕ}
 use mathlib.Core.Path.{_≡_, refl}
-use mathlib.Core.Bool.{Bool, true, false}
+use mathlib.Core.Bool.{true, false}
 use mathlib.Core.List.{List, [], _∷_, map, zipWith}
 use Rattle.usi_rules.specs.Rules.{countFlags, conditionFlags, conditionCount, lossControl, lossFlags, endFlags}
 use Rattle.usi_rules.specs.Rules.{phaseAfter}

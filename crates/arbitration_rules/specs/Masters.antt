@@ -1,6 +1,6 @@
 -- One master at one instant: what each operation does to it. Every step is the module's own write, sample or tick.
 use Prim.Native.Nat.{ℕ}
-use mathlib.Core.Bool.{Bool, cond, true, false, _&&_}
+use mathlib.Core.Bool.{cond, true, false, _&&_}
 use Rattle.bits.specs.Positions.{on}
 use Rattle.usi_rules.specs.Registers.{USICTL0, USICNT, USIAL}
 use Rattle.usi.specs.declared.Usi.{Usi}

@@ -1,11 +1,11 @@
 -- What follows from messages (01: plans) and acknowledges (01: answers) alone: who keeps the bus, what it carries,
 -- who loses where.
-use Prim.Native.Nat.{ℕ, zero, suc, _+_, _*_}
+use Prim.Native.Nat.{ℕ, suc, _+_, _*_}
 use mathlib.Core.Bool.{Bool, cond, true, false, _&&_, _||_, Bool·beq}
 use mathlib.Core.List.{List, [], _∷_, _++_, map}
 use mathlib.Core.Option.{Option, none, some}
 use lib.Dec.{eqb, ltb}
-use lib.ListN.{length, take}
+use lib.ListN.{take}
 use Rattle.bus.specs.Events.{startEvent, stopEvent}
 use Rattle.bus.specs.Encode.{byteBits, drawing}
 

@@ -1,12 +1,11 @@
 -- What arbitrate answers: the refusals 12, 13, 14, 15, 16, 8 in that order with their places, else the run; and the
 -- two buffers.
-use Prim.Native.Nat.{ℕ, zero, suc, _+_, _*_, _-_, max}
-use mathlib.Core.Bool.{Bool, cond, true, false, not, _||_}
+use Prim.Native.Nat.{ℕ, suc, _+_, _*_, _-_, max}
+use mathlib.Core.Bool.{Bool, cond, false, not, _||_}
 use mathlib.Core.List.{List, [], _∷_, _++_, map}
 use lib.Dec.{eqb, ltb}
 use lib.ListN.{length, getD, take, drop, replicate}
 use Rattle.bits.specs.Positions.{isSet}
-use Rattle.usi.specs.declared.Usi.{Usi}
 use Rattle.usi.specs.Module.{powerUp}
 use Rattle.arbitration_rules.specs.declared.Master.{Master}
 use Rattle.arbitration_rules.specs.declared.Arbitrated.{Arbitrated}

@@ -1,6 +1,6 @@
 -- The run by 01's steps 1 to 4: masters on one bus, each stepped by its module's own writes, samples and ticks.
 use Prim.Native.Nat.{ℕ, zero, suc, _+_, _*_}
-use mathlib.Core.Bool.{Bool, cond, true, false, not, _&&_, _||_}
+use mathlib.Core.Bool.{Bool, cond, false, not, _&&_, _||_}
 use mathlib.Core.List.{List, [], _∷_, _++_, map, zipWith}
 use mir.Val.{boolByte}
 use lib.Dec.{eqb, leb}
