@@ -9,7 +9,8 @@ use lib.ListN.{length, take, drop, length-take, length-drop}
 use borrow.Author.Tests.{eqb-true, eqb-false, ltb-false, not-false}
 use Rattle.arbitration_rules.specs.Limits.{maxLength}
 use Rattle.arbitration_rules.specs.Outcome.{any}
-use Rattle.arbitration_rules.specs.Reply.{messagesOf, badCount, firstBadLength, total, badLengths, reads, longest}
+use Rattle.arbitration_rules.specs.Reply.{messagesOf, badCount, firstBadLength, total, badLengths, reads}
+use Rattle.arbitration_rules.specs.Reply.{longest}
 use Rattle.arbitration_rules.specs.Reply.{badAcknowledges, refusal}
 use Rattle.arbitration_rules.proofs.Lists.{Everyone, nobody, also}
 use Rattle.arbitration_rules.proofs.Carried.{carried-too}
@@ -80,7 +81,7 @@ arbitration bytes lengths acknowledges small count sizes answers =
     let many : length lengths ≡ 0 → ⊥ = eqb-false (length lengths) 0 (counted .0) in
     let sum : total lengths ≡ length bytes = eqb-true (total lengths) (length bytes) (not-false (eqb (total lengths) (length bytes)) (sized .1)) in
     let long : length acknowledges ≡ longest lengths =
-        eqb-true (length acknowledges) (longest lengths) (not-false (eqb (length acknowledges) (longest lengths)) (answered .0)) in
+    eqb-true (length acknowledges) (longest lengths) (not-false (eqb (length acknowledges) (longest lengths)) (answered .0)) in
     record {
       someone = omega (arith, cut-count lengths bytes);
       sendable = cut-sendable acknowledges lengths bytes (ltb-false (firstBadLength lengths) (length lengths) (sized .0)) sum (omega arith) small;

@@ -1,4 +1,5 @@
--- A byte and its eight bits, first bit first: the number that bits make, the register that sends them, and their order.
+-- A byte and its eight bits, first bit first: the number that bits make, the register that sends them, and their
+-- order.
 use Prim.Native.Nat.{ℕ, suc, _+_, _*_, _/_, _%_, _^_, _≤_, _<_}
 use native.Mathlib.Nat.{pow-suc, add-mul, mul-assoc, mul-comm}
 use native.Mathlib.Omega.{arith}
@@ -74,16 +75,16 @@ module _ (bit : Bool) (rest : List Bool) (seven : length rest ≡ 7) where
       either false = omega (arith, small)
 
 -- the order of bytes, bit by bit, on lists of one length
-abbrev pub AtMost : List Bool → List Bool → Type 0
-AtMost [] [] = Unit {0}
-AtMost [] (other ∷ others) = ⊥
-AtMost (bit ∷ bits) [] = ⊥
-AtMost (true ∷ bits) (true ∷ others) = AtMost bits others
-AtMost (true ∷ bits) (false ∷ others) = ⊥
-AtMost (false ∷ bits) (true ∷ others) = length others ≡ length bits
-AtMost (false ∷ bits) (false ∷ others) = AtMost bits others
+abbrev pub BitsAtMost : List Bool → List Bool → Type 0
+BitsAtMost [] [] = Unit {0}
+BitsAtMost [] (other ∷ others) = ⊥
+BitsAtMost (bit ∷ bits) [] = ⊥
+BitsAtMost (true ∷ bits) (true ∷ others) = BitsAtMost bits others
+BitsAtMost (true ∷ bits) (false ∷ others) = ⊥
+BitsAtMost (false ∷ bits) (true ∷ others) = length others ≡ length bits
+BitsAtMost (false ∷ bits) (false ∷ others) = BitsAtMost bits others
 
-pub at-most-length : (bits others : List Bool) → AtMost bits others → length others ≡ length bits
+pub at-most-length : (bits others : List Bool) → BitsAtMost bits others → length others ≡ length bits
 at-most-length [] [] h = refl
 at-most-length [] (other ∷ others) h = absurd h
 at-most-length (bit ∷ bits) [] h = absurd h
@@ -92,7 +93,7 @@ at-most-length (true ∷ bits) (false ∷ others) h = absurd h
 at-most-length (false ∷ bits) (true ∷ others) h = ap suc h
 at-most-length (false ∷ bits) (false ∷ others) h = ap suc (at-most-length bits others h)
 
-at-most : (bits others : List Bool) → length others ≡ length bits → number bits ≤ number others → AtMost bits others
+at-most : (bits others : List Bool) → length others ≡ length bits → number bits ≤ number others → BitsAtMost bits others
 at-most [] [] size less = tt
 at-most [] (other ∷ others) size less = absurd (omega arith)
 at-most (bit ∷ bits) [] size less = absurd (omega arith)
@@ -107,7 +108,7 @@ at-most (false ∷ bits) (false ∷ others) size less =
     let rest : length others ≡ length bits = omega arith in
     at-most bits others rest less
 
-pub at-most-bits : (byte other : ℕ) → byte < 256 → other < 256 → byte ≤ other → AtMost (byteBits byte) (byteBits other)
+pub at-most-bits : (byte other : ℕ) → byte < 256 → other < 256 → byte ≤ other → BitsAtMost (byteBits byte) (byteBits other)
 unfolding byteBits
 at-most-bits byte other small fits less =
     at-most (byteBits byte) (byteBits other) refl (omega (arith, number-bits byte small, number-bits other fits))
@@ -139,7 +140,7 @@ same-bits byte own small fits = go (same (byteBits byte) (byteBits own)) refl
     go : (b : Bool) → same (byteBits byte) (byteBits own) ≡ b → b ≡ eqb own byte
     go true h =
         sym (eq-eqb own byte
-          (sym (number-bits own fits) ∙ ap number (sym (same-equal (byteBits byte) (byteBits own) h)) ∙ number-bits byte small))
+        (sym (number-bits own fits) ∙ ap number (sym (same-equal (byteBits byte) (byteBits own) h)) ∙ number-bits byte small))
     go false h =
         sym (ne-eqb own byte
-          (λ e. false≢true (sym h ∙ ap (λ k. same (byteBits byte) (byteBits k)) e ∙ same-refl (byteBits byte))))
+        (λ e. false≢true (sym h ∙ ap (λ k. same (byteBits byte) (byteBits k)) e ∙ same-refl (byteBits byte))))

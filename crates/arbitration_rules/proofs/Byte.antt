@@ -1,4 +1,5 @@
--- Eight turns carry the least byte of those that drive: the bus shows at each turn the bit of the master with the least byte,
+-- Eight turns carry the least byte of those that drive: the bus shows at each turn the bit of the master with the
+-- least byte,
 -- and who drives another bit is beaten at the first bit in which it differs.
 use Prim.Native.Nat.{ℕ, suc, _+_, _*_}
 use native.Mathlib.Omega.{arith}
@@ -14,9 +15,10 @@ use Rattle.arbitration_rules.specs.declared.Operation.the-variants.{Judg
 use Rattle.arbitration_rules.specs.Masters.{withUsi, judged}
 use Rattle.arbitration_rules.specs.Outcome.{any}
 use Rattle.arbitration_rules.specs.Run.{Bus, levelOf, every, taken as bitTaken, dataTurn, dataTurns}
-use Rattle.arbitration_rules.proofs.Lists.{Everyone, Someone, everyone-so, someone-so, everyone-map, someone-map}
+use Rattle.arbitration_rules.proofs.Lists.{Everyone, Someone, everyone-so, someone-so, everyone-map}
+use Rattle.arbitration_rules.proofs.Lists.{someone-map}
 use Rattle.arbitration_rules.proofs.Lists.{map-alike, any-none, any-one}
-use Rattle.arbitration_rules.proofs.Bits.{AtMost, at-most-length}
+use Rattle.arbitration_rules.proofs.Bits.{BitsAtMost, at-most-length}
 use Rattle.arbitration_rules.proofs.Wire.{busOf, turn-is}
 use Rattle.arbitration_rules.proofs.Roles.{Role, drives, lost, gone, usiOf, masterOf, contends, clocks, pulls}
 use Rattle.arbitration_rules.proofs.Roles.{turnOf, Sending, role-turn, role-judged}
@@ -35,25 +37,25 @@ data-turn : (n : ℕ) (taken : List Bool) → suc n + length taken ≡ 8 → (at
     (level byte : ℕ) (levels carried : List ℕ)
     → Everyone (Sending (suc n)) roles → any clocks roles ≡ true → not (any pulls roles) ≡ bit
     → dataTurn at (busOf (map (masterOf (suc n) taken before) roles) pull level byte levels carried)
-      ≡ busOf (map (masterOf n (taken ++ bit ∷ []) bit) (map (turnOf at bit) roles)) false (levelOf true bit)
-          (2 * byte + boolByte bit) (levels ++ drawBit bit) carried
+    ≡ busOf (map (masterOf n (taken ++ bit ∷ []) bit) (map (turnOf at bit) roles)) false (levelOf true bit)
+    (2 * byte + boolByte bit) (levels ++ drawBit bit) carried
 unfolding dataTurn
 data-turn n taken eight at roles before pull bit level byte levels carried sending clocked line =
     ap (λ bus. bitTaken (every (Judge at) bus))
-      (turn-is (masterOf (suc n) taken before) roles (λ role. usiOf n (taken ++ bit ∷ []) bit (turnOf at bit role)) clocks pulls
-        pull false bit level byte levels carried
-        (everyone-so (role-turn n taken eight before bit at) sending) clocked line)
+    (turn-is (masterOf (suc n) taken before) roles (λ role. usiOf n (taken ++ bit ∷ []) bit (turnOf at bit role)) clocks pulls
+    pull false bit level byte levels carried
+    (everyone-so (role-turn n taken eight before bit at) sending) clocked line)
     ∙ ap₂ (λ masters b. busOf masters false (levelOf true bit) (2 * byte + boolByte b) (levels ++ levelOf false bit ∷ levelOf true bit ∷ []) carried)
-      (map-map (judged at) (λ role. withUsi (usiOf n (taken ++ bit ∷ []) bit (turnOf at bit role)) (masterOf (suc n) taken before role)) roles
-      ∙ map-alike (everyone-so (role-judged n taken eight before bit at) sending)
-      ∙ sym (map-map (masterOf n (taken ++ bit ∷ []) bit) (turnOf at bit) roles))
-      (shown bit)
+    (map-map (judged at) (λ role. withUsi (usiOf n (taken ++ bit ∷ []) bit (turnOf at bit role)) (masterOf (suc n) taken before role)) roles
+    ∙ map-alike (everyone-so (role-judged n taken eight before bit at) sending)
+    ∙ sym (map-map (masterOf n (taken ++ bit ∷ []) bit) (turnOf at bit) roles))
+    (shown bit)
     ∙ ap (λ recording. busOf (map (masterOf n (taken ++ bit ∷ []) bit) (map (turnOf at bit) roles)) false (levelOf true bit) (2 * byte + boolByte bit) (levels ++ recording) carried)
-      (drawn bit)
+    (drawn bit)
 
 -- against bits to come: who drives has bits not below them; the winner has these very bits
 abbrev pub Within : List Bool → Role → Type 0
-Within bits (drives rest latch enable) = AtMost bits rest
+Within bits (drives rest latch enable) = BitsAtMost bits rest
 Within bits (lost rest latch position) = length rest ≡ length bits
 Within bits (gone register latch position) = Unit {0}
 
@@ -141,26 +143,26 @@ map-same (a ∷ l) = ap (λ k. a ∷ k) (map-same l)
 pub turns : (bits taken : List Bool) → length bits + length taken ≡ 8 → (at : ℕ) (roles : List Role) (line : Line) (byte : ℕ)
     (levels carried : List ℕ) → Everyone (Within bits) roles → Someone (Leads bits) roles
     → dataTurns (length bits) at (inByte (length bits) taken line roles byte levels carried)
-      ≡ inByte 0 (taken ++ bits) (lineAfter line bits) (map (turnsOf at bits) roles) (numberFrom byte bits)
-          (levels ++ drawBits bits) carried
+    ≡ inByte 0 (taken ++ bits) (lineAfter line bits) (map (turnsOf at bits) roles) (numberFrom byte bits)
+    (levels ++ drawBits bits) carried
 turns [] taken eight at roles line byte levels carried all some =
     ap₂ (λ bits masters. inByte 0 bits line masters byte levels carried) (sym (append-nil taken)) (sym (map-same roles))
     ∙ ap (λ recording. inByte 0 (taken ++ []) line (map (λ role. role) roles) byte recording carried) (sym (append-nil levels))
 turns (bit ∷ bits) taken eight at roles line byte levels carried all some =
     ap (dataTurns (length bits) (suc at))
-      (data-turn (length bits) taken eight at roles (line .sda) (line .pull) bit (line .level) byte levels carried
-        (everyone-so (within-sends (bit ∷ bits)) all) (any-one (someone-so (leader-clocks (bit ∷ bits)) some))
-        (bus-bit bit bits roles all some))
+    (data-turn (length bits) taken eight at roles (line .sda) (line .pull) bit (line .level) byte levels carried
+    (everyone-so (within-sends (bit ∷ bits)) all) (any-one (someone-so (leader-clocks (bit ∷ bits)) some))
+    (bus-bit bit bits roles all some))
     ∙ turns bits (taken ++ bit ∷ []) longer (suc at) (map (turnOf at bit) roles) (shows bit) (2 * byte + boolByte bit)
-        (levels ++ drawBit bit) carried
-        (everyone-map (turnOf at bit) (everyone-so (within-turn at bit bits) all))
-        (someone-map (turnOf at bit) (someone-so (leads-turn at bit bits) some))
+    (levels ++ drawBit bit) carried
+    (everyone-map (turnOf at bit) (everyone-so (within-turn at bit bits) all))
+    (someone-map (turnOf at bit) (someone-so (leads-turn at bit bits) some))
     ∙ ap₂ (λ got masters. inByte 0 got (lineAfter (shows bit) bits) masters (numberFrom (2 * byte + boolByte bit) bits)
-        (levels ++ drawBit bit ++ drawBits bits) carried)
-      (append-assoc taken (bit ∷ []) bits) (map-map (turnsOf (suc at) bits) (turnOf at bit) roles)
+    (levels ++ drawBit bit ++ drawBits bits) carried)
+    (append-assoc taken (bit ∷ []) bits) (map-map (turnsOf (suc at) bits) (turnOf at bit) roles)
     ∙ ap (λ recording. inByte 0 (taken ++ bit ∷ bits) (lineAfter (shows bit) bits) (map (turnsOf at (bit ∷ bits)) roles)
-        (numberFrom (2 * byte + boolByte bit) bits) recording carried)
-      (append-assoc levels (drawBit bit) (drawBits bits))
+    (numberFrom (2 * byte + boolByte bit) bits) recording carried)
+    (append-assoc levels (drawBit bit) (drawBits bits))
   where
     longer : length bits + length (taken ++ bit ∷ []) ≡ 8
     longer = ap (λ k. length bits + k) (length-append taken (bit ∷ [])) ∙ omega arith

@@ -1,4 +1,5 @@
--- What is carried and how it is drawn: k bytes of the least message, eight bits and an acknowledge each, in one frame.
+-- What is carried and how it is drawn: k bytes of the least message, eight bits and an acknowledge each, in one
+-- frame.
 use Prim.Native.Nat.{ℕ, zero, suc, _+_, _*_, _≤_, _<_, min}
 use native.Mathlib.Omega.{arith}
 use mathlib.Core.Path.{_≡_, refl, ap, sym, _∙_}

@@ -12,7 +12,8 @@ use Rattle.bus.specs.Encode.{drawEvent}
 use Rattle.arbitration_rules.specs.declared.Master.{Master}
 use Rattle.arbitration_rules.specs.Outcome.{any, atMost}
 use Rattle.arbitration_rules.specs.Run.{levelOf, byteTurn, through}
-use Rattle.arbitration_rules.proofs.Lists.{Everyone, nobody, also, Someone, this, another, everyone-so, someone-so}
+use Rattle.arbitration_rules.proofs.Lists.{Everyone, nobody, also, Someone, this, another, everyone-so}
+use Rattle.arbitration_rules.proofs.Lists.{someone-so}
 use Rattle.arbitration_rules.proofs.Lists.{map-alike, any-none, any-one, any-map, zipWith-map}
 use Rattle.arbitration_rules.proofs.Wire.{busOf}
 use Rattle.arbitration_rules.proofs.Standing.{Standing, standingAfter}
@@ -54,41 +55,42 @@ module _ (messages : List (List ℕ)) (carried : List ℕ) (byte : ℕ) (more : 
   leader : Someone (λ message. (isIn (against 0 carried message) ≡ true) × (byteAt (length carried) message ≡ byte)) messages
   leader =
       someone-so
-      (λ message same.
-        (ap (λ m. isIn (against 0 carried m)) same ∙ owner-in 0 carried (byte ∷ more),
-        ap (byteAt (length carried)) same ∙ here))
+      (λ message same. (
+        ap (λ m. isIn (against 0 carried m)) same ∙ owner-in 0 carried (byte ∷ more),
+        ap (byteAt (length carried)) same ∙ here,
+      ))
       (contest .sent)
 
   -- one byte of it
   pub carry-byte : (acknowledge : ℕ) (pause : Pause) (pull : Bool) (level old : ℕ) (levels bytes : List ℕ) → acknowledge ≤ 1
       → byteTurn messages (length carried) acknowledge (busOf (waits pause (against 0 carried) messages) pull level old levels bytes)
-        ≡ busOf (waits (afterByte byte (ninthBit acknowledge)) (against 0 (carried ++ byte ∷ [])) messages)
-            (eqb acknowledge 0) (levelOf true (ninthBit acknowledge)) byte (levels ++ drawEvent (byte + 256 * acknowledge))
-            (bytes ++ byte ∷ [])
+      ≡ busOf (waits (afterByte byte (ninthBit acknowledge)) (against 0 (carried ++ byte ∷ [])) messages)
+      (eqb acknowledge 0) (levelOf true (ninthBit acknowledge)) byte (levels ++ drawEvent (byte + 256 * acknowledge))
+      (bytes ++ byte ∷ [])
   carry-byte acknowledge pause pull level old levels bytes one =
       byte-turn messages (against 0 carried) (length carried) byte acknowledge pause pull level old levels bytes small
-        (everyone-so (λ message small. byte-below small (length carried)) (contest .bytes))
-        (everyone-so (λ message least still. in-has-byte 0 carried byte more message least still .1) (contest .least))
-        leader
+      (everyone-so (λ message small. byte-below small (length carried)) (contest .bytes))
+      (everyone-so (λ message least still. in-has-byte 0 carried byte more message least still .1) (contest .least))
+      leader
       ∙ ap₂ (λ masters recording. busOf masters (eqb acknowledge 0) (levelOf true (ninthBit acknowledge)) byte (levels ++ recording) (bytes ++ byte ∷ []))
-        (map-alike (everyone-so (λ message least. ap (masterAt (afterByte byte (ninthBit acknowledge))) (next message least)) (contest .least)))
-        (byte-drawn byte acknowledge small one)
+      (map-alike (everyone-so (λ message least. ap (masterAt (afterByte byte (ninthBit acknowledge))) (next message least)) (contest .least)))
+      (byte-drawn byte acknowledge small one)
     where
       next : (message : List ℕ) → atMost (carried ++ byte ∷ more) message ≡ true
           → standingAfter (length carried) byte (byteAt (length carried) message) (against 0 carried message)
-            ≡ against 0 (carried ++ byte ∷ []) message
+          ≡ against 0 (carried ++ byte ∷ []) message
       next message least =
           ap (λ (i : ℕ). standingAfter i byte (byteAt (length carried) message) (against 0 carried message)) (omega arith)
           ∙ against-next 0 carried byte message (λ still. in-has-byte 0 carried byte more message least still .0)
 
 through-is : (messages : List (List ℕ)) (standing : List ℕ → Standing) (pause : Pause) (count : ℕ)
     → through messages count (waits pause standing messages)
-      ≡ any (λ message. isIn (standing message) && leb (length message) count) messages
+    ≡ any (λ message. isIn (standing message) && leb (length message) count) messages
 unfolding through
 through-is messages standing pause count =
     ap (any (λ (done : Bool). done))
-      (zipWith-map (λ (master : Master) message. master .contending && leb (length message) count)
-        (λ message. masterAt pause (standing message)) messages)
+    (zipWith-map (λ (master : Master) message. master .contending && leb (length message) count)
+    (λ message. masterAt pause (standing message)) messages)
     ∙ any-map (λ (done : Bool). done) (λ message. isIn (standing message) && leb (length message) count) messages
 
 -- once the least message is sent, its master is through; before that, nobody still in is
@@ -97,7 +99,7 @@ pub all-sent : (messages : List (List ℕ)) (carried : List ℕ) (pause : Pause)
 all-sent messages carried pause contest =
     through-is messages (against 0 carried) pause (length carried)
     ∙ any-one (someone-so (λ message same. ap (λ m. isIn (against 0 carried m) && leb (length m) (length carried)) same ∙ owner)
-      (contest .sent))
+    (contest .sent))
   where
     owner : isIn (against 0 carried carried) && leb (length carried) (length carried) ≡ true
     owner =

@@ -1,4 +1,5 @@
--- What a turn needs to know of the bits still to go: a count below 32 is the field CNT itself, with no other bit of USICNT set.
+-- What a turn needs to know of the bits still to go: a count below 32 is the field CNT itself, with no other bit of
+-- USICNT set.
 use Prim.Native.Nat.{ℕ, zero, suc, _-_, _*_, _/_, _%_, _<_}
 use native.Mathlib.Omega.{arith}
 use native.Mathlib.Nat.{mod-eq-of-lt}

@@ -44,8 +44,8 @@ winner-in : (messages : List (List ℕ)) (winner : List ℕ) (k : ℕ) → Someo
 winner-in messages winner k some =
     someone-so
     (λ message same.
-      ap (λ m. isIn (against 0 (take k winner) m)) (same ∙ sym (take-append-drop k winner))
-      ∙ owner-in 0 (take k winner) (drop k winner))
+    ap (λ m. isIn (against 0 (take k winner) m)) (same ∙ sym (take-append-drop k winner))
+    ∙ owner-in 0 (take k winner) (drop k winner))
     some
 
 run-ends : (messages : List (List ℕ)) (acknowledges winner : List ℕ) → Contest messages winner → Sendable acknowledges winner
@@ -62,20 +62,22 @@ run-ends messages acknowledges (byte ∷ more) contest sendable bits =
   where
     carried : List ℕ
     carried = take (carriedCount (byte ∷ more) acknowledges) (byte ∷ more)
+
     over : Carried (bytesTurn messages acknowledges 0 (busOf (map (λ message. masterAt afterStart stays) messages) false 1 0 (3 ∷ 1 ∷ []) []))
         messages carried (3 ∷ 1 ∷ drawEvents (byteEvents carried acknowledges)) carried
     over =
         carries messages acknowledges 0 [] byte more afterStart false 1 0 (3 ∷ 1 ∷ []) [] contest refl bits
-          (omega (arith, sendable .answered))
+        (omega (arith, sendable .answered))
+
     whole : run messages acknowledges
         ≡ busOf (map (λ message. standingAs finalUsi (against 0 carried message)) messages) false 3 (over .last)
-            (3 ∷ 1 ∷ (drawEvents (byteEvents carried acknowledges) ++ 0 ∷ 1 ∷ 3 ∷ [])) carried
+        (3 ∷ 1 ∷ (drawEvents (byteEvents carried acknowledges) ++ 0 ∷ 1 ∷ 3 ∷ [])) carried
     whole =
         ap (λ bus. stopped (bytesTurn messages acknowledges 0 bus)) (start-is messages (contest .sent))
         ∙ ap stopped (over .is)
         ∙ stop-is messages (against 0 carried) (over .last) (over .ninth) (over .pull) (over .level) (over .last)
-            (3 ∷ 1 ∷ drawEvents (byteEvents carried acknowledges)) carried
-            (winner-in messages (byte ∷ more) (carriedCount (byte ∷ more) acknowledges) (contest .sent))
+        (3 ∷ 1 ∷ drawEvents (byteEvents carried acknowledges)) carried
+        (winner-in messages (byte ∷ more) (carriedCount (byte ∷ more) acknowledges) (contest .sent))
 
 contest : (messages : List (List ℕ)) {acknowledges : List ℕ} → Arbitration messages acknowledges → Contest messages (least messages)
 contest [] given = absurd (omega (arith, given .someone))
@@ -104,11 +106,11 @@ unfolding observed outcome
 demand3 messages acknowledges given =
     let end = ended messages acknowledges given in
     ap₂ (λ carried levels. record { carried = carried; levels = levels; fates = map fateOf (run messages acknowledges .masters) })
-      (end .bytes) (end .levels)
+    (end .bytes) (end .levels)
     ∙ ap (λ fates. record { carried = carried; levels = drawing (frame carried acknowledges); fates = fates })
-      (ap (map fateOf) (end .masters)
-      ∙ map-map fateOf (λ message. standingAs finalUsi (against 0 carried message)) messages
-      ∙ map-alike (everyone (λ message. final-fate 0 carried message) messages))
+    (ap (map fateOf) (end .masters)
+    ∙ map-map fateOf (λ message. standingAs finalUsi (against 0 carried message)) messages
+    ∙ map-alike (everyone (λ message. final-fate 0 carried message) messages))
   where
     carried : List ℕ
     carried = carriedOf messages acknowledges

@@ -19,10 +19,12 @@ use Rattle.arbitration_rules.proofs.Turn.{between, samples, Turns}
 use Rattle.arbitration_rules.proofs.Wire.{busOf, record-all, turn-is, writesOf, writes-all}
 use Rattle.arbitration_rules.proofs.Registers.{driving, released, driving-turn, released-turn}
 use Rattle.arbitration_rules.proofs.Standing.{Standing, stays, out}
-use Rattle.arbitration_rules.proofs.Pause.{Pause, afterStart, afterByte, sdaAt, latchAt, enableAt, isIn, standingAs, masterAt}
+use Rattle.arbitration_rules.proofs.Pause.{Pause, afterStart, afterByte, sdaAt, latchAt, enableAt, isIn}
+use Rattle.arbitration_rules.proofs.Pause.{standingAs, masterAt}
 use Rattle.arbitration_rules.proofs.Round.{waits}
 
--- a module made ready, before and after it has seen the lines; one that pulls SDA low, before and after it has seen that
+-- a module made ready, before and after it has seen the lines; one that pulls SDA low, before and after it has seen
+-- that
 abbrev ready : Usi
 ready = writesOf ((USICKCTL, 0x22) ∷ (USICTL1, 0x41) ∷ (USICTL0, 0xc8) ∷ []) entering .usi
 
@@ -47,19 +49,20 @@ module _ {P : List ℕ → Type 0} (messages : List (List ℕ)) (one : Someone P
 
   pub start-is : started (prepared messages)
       ≡ busOf (waits afterStart (λ message. stays) messages) false 1 0 (3 ∷ 1 ∷ []) []
-  unfolding started prepared written writeByte settled followed countFlags conditionFlags conditionCount edged fallen risen sample
+  unfolding started prepared written writeByte settled followed countFlags conditionFlags conditionCount edged
+      fallen risen sample
   start-is =
       ap (λ bus. writes ((USICTL1, 0x41) ∷ [])
-        (recorded (writes ((USISRL, 0x00) ∷ (USICTL0, 0xce) ∷ (USICTL0, 0xca) ∷ []) (recorded bus))))
-        (writes-all ((USICKCTL, 0x22) ∷ (USICTL1, 0x41) ∷ (USICTL0, 0xc8) ∷ []) (λ message. entering) messages false 0 0 [] [])
+      (recorded (writes ((USISRL, 0x00) ∷ (USICTL0, 0xce) ∷ (USICTL0, 0xca) ∷ []) (recorded bus))))
+      (writes-all ((USICKCTL, 0x22) ∷ (USICTL1, 0x41) ∷ (USICTL0, 0xc8) ∷ []) (λ message. entering) messages false 0 0 [] [])
       ∙ ap (λ bus. writes ((USICTL1, 0x41) ∷ [])
-        (recorded (writes ((USISRL, 0x00) ∷ (USICTL0, 0xce) ∷ (USICTL0, 0xca) ∷ []) bus)))
-        (record-all (alike ready) messages (λ message. ready) false 0 0 [] [] true true (ap not nobody-pulls) (ap not nobody-pulls))
+      (recorded (writes ((USISRL, 0x00) ∷ (USICTL0, 0xce) ∷ (USICTL0, 0xca) ∷ []) bus)))
+      (record-all (alike ready) messages (λ message. ready) false 0 0 [] [] true true (ap not nobody-pulls) (ap not nobody-pulls))
       ∙ ap (λ bus. writes ((USICTL1, 0x41) ∷ []) (recorded bus))
-        (writes-all ((USISRL, 0x00) ∷ (USICTL0, 0xce) ∷ (USICTL0, 0xca) ∷ []) (alike seen) messages false 3 0 (3 ∷ []) [])
+      (writes-all ((USISRL, 0x00) ∷ (USICTL0, 0xce) ∷ (USICTL0, 0xca) ∷ []) (alike seen) messages false 3 0 (3 ∷ []) [])
       ∙ ap (writes ((USICTL1, 0x41) ∷ []))
-        (record-all (alike pulling) messages (λ message. pulling) false 3 0 (3 ∷ []) [] true false (ap not nobody-pulls)
-          (ap not everybody-pulls))
+      (record-all (alike pulling) messages (λ message. pulling) false 3 0 (3 ∷ []) [] true false (ap not nobody-pulls)
+      (ap not everybody-pulls))
       ∙ writes-all ((USICTL1, 0x41) ∷ []) (alike caught) messages false 1 0 (3 ∷ 1 ∷ []) []
 
 -- before the STOP who is in drives one bit, 0; then it lets SDA rise
@@ -87,7 +90,7 @@ stop-turn pause (out register latch position) = released-turn register latch (sd
 
 prepares-stop : (byte : ℕ) (ninth : Bool) (standing : Standing)
     → writesOf ((USICTL0, 0xca) ∷ (USISRL, 0x00) ∷ (USICNT, 0x01) ∷ []) (masterAt (afterByte byte ninth) standing)
-      ≡ standingAs (lastBit (afterByte byte ninth)) standing
+    ≡ standingAs (lastBit (afterByte byte ninth)) standing
 unfolding written writeByte settled followed countFlags
 prepares-stop byte ninth stays = refl
 prepares-stop byte ninth (out register latch position) = refl
@@ -108,7 +111,7 @@ quiet-sda (out register latch position) = refl
 
 sees-stop : (standing : Standing)
     → writesOf ((USICTL0, 0xc8) ∷ []) (withUsi (samples true true (letsRise standing)) (standingAs letsRise standing))
-      ≡ standingAs finalUsi standing
+    ≡ standingAs finalUsi standing
 unfolding written writeByte settled followed conditionFlags conditionCount edged fallen risen sample
 sees-stop stays = refl
 sees-stop (out register latch position) = refl
@@ -116,35 +119,37 @@ sees-stop (out register latch position) = refl
 pub stop-is : (messages : List (List ℕ)) (standing : List ℕ → Standing) (byte : ℕ) (ninth pull : Bool) (level old : ℕ)
     (levels carried : List ℕ) → Someone (λ message. isIn (standing message) ≡ true) messages
     → stopped (busOf (waits (afterByte byte ninth) standing messages) pull level old levels carried)
-      ≡ busOf (map (λ message. standingAs finalUsi (standing message)) messages) false 3 old (levels ++ 0 ∷ 1 ∷ 3 ∷ []) carried
+    ≡ busOf (map (λ message. standingAs finalUsi (standing message)) messages) false 3 old (levels ++ 0 ∷ 1 ∷ 3 ∷ []) carried
 unfolding stopped
 stop-is messages standing byte ninth pull level old levels carried one =
     ap (λ bus. writes last (recorded (writes rise (bitTurn false bus))))
-      (writes-all low (λ message. masterAt (afterByte byte ninth) (standing message)) messages pull level old levels carried
-      ∙ ap (λ masters. busOf masters pull level old levels carried)
-        (map-alike (everyone (λ message. prepares-stop byte ninth (standing message)) messages)))
+    (writes-all low (λ message. masterAt (afterByte byte ninth) (standing message)) messages pull level old levels carried
+    ∙ ap (λ masters. busOf masters pull level old levels carried)
+    (map-alike (everyone (λ message. prepares-stop byte ninth (standing message)) messages)))
     ∙ ap (λ bus. writes last (recorded (writes rise bus)))
-      (turn-is (λ message. standingAs (lastBit (afterByte byte ninth)) (standing message)) messages (λ message. lowBit (standing message))
-        (λ message. isIn (standing message)) (λ message. isIn (standing message)) pull false false level old levels carried
-        (everyone (λ message. stop-turn (afterByte byte ninth) (standing message)) messages) (any-one one) (ap not (any-one one)))
+    (turn-is (λ message. standingAs (lastBit (afterByte byte ninth)) (standing message)) messages (λ message. lowBit (standing message))
+    (λ message. isIn (standing message)) (λ message. isIn (standing message)) pull false false level old levels carried
+    (everyone (λ message. stop-turn (afterByte byte ninth) (standing message)) messages) (any-one one) (ap not (any-one one)))
     ∙ ap (λ bus. writes last (recorded bus))
-      (writes-all rise (λ message. standingAs lowBit (standing message)) messages false 1 old (levels ++ 0 ∷ 1 ∷ []) carried
-      ∙ ap (λ masters. busOf masters false 1 old (levels ++ 0 ∷ 1 ∷ []) carried)
-        (map-alike (everyone (λ message. releases (standing message)) messages)))
+    (writes-all rise (λ message. standingAs lowBit (standing message)) messages false 1 old (levels ++ 0 ∷ 1 ∷ []) carried
+    ∙ ap (λ masters. busOf masters false 1 old (levels ++ 0 ∷ 1 ∷ []) carried)
+    (map-alike (everyone (λ message. releases (standing message)) messages)))
     ∙ ap (writes last)
-      (record-all (λ message. standingAs letsRise (standing message)) messages (λ message. letsRise (standing message)) false 1 old
-        (levels ++ 0 ∷ 1 ∷ []) carried true true
-        (ap not (any-none (everyone (λ message. quiet-scl (standing message)) messages)))
-        (ap not (any-none (everyone (λ message. quiet-sda (standing message)) messages))))
+    (record-all (λ message. standingAs letsRise (standing message)) messages (λ message. letsRise (standing message)) false 1 old
+    (levels ++ 0 ∷ 1 ∷ []) carried true true
+    (ap not (any-none (everyone (λ message. quiet-scl (standing message)) messages)))
+    (ap not (any-none (everyone (λ message. quiet-sda (standing message)) messages))))
     ∙ writes-all last (λ message. withUsi (samples true true (letsRise (standing message))) (standingAs letsRise (standing message)))
-        messages false 3 old (levels ++ 0 ∷ 1 ∷ [] ++ 3 ∷ []) carried
+    messages false 3 old (levels ++ 0 ∷ 1 ∷ [] ++ 3 ∷ []) carried
     ∙ ap₂ (λ masters recording. busOf masters false 3 old recording carried)
-      (map-alike (everyone (λ message. sees-stop (standing message)) messages))
-      (append-assoc levels (0 ∷ 1 ∷ []) (3 ∷ []))
+    (map-alike (everyone (λ message. sees-stop (standing message)) messages))
+    (append-assoc levels (0 ∷ 1 ∷ []) (3 ∷ []))
   where
     low : List (ℕ × ℕ)
     low = (USICTL0, 0xca) ∷ (USISRL, 0x00) ∷ (USICNT, 0x01) ∷ []
+
     rise : List (ℕ × ℕ)
     rise = (USISRL, 0xff) ∷ (USICTL0, 0xce) ∷ []
+
     last : List (ℕ × ℕ)
     last = (USICTL0, 0xc8) ∷ []

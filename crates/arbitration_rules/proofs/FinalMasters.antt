@@ -56,7 +56,7 @@ module _ (carried message : List ℕ) where
       go : (same : Bool)
           → standingAs usiAtEnd (against (suc index) bytes own) ≡ finalAs carried message (lossFrom (suc index) bytes own)
           → standingAs usiAtEnd (cond same (against (suc index) bytes own) (out byte (bitAt 0 first) (positionIn byte first index)))
-            ≡ finalAs carried message (cond same (lossFrom (suc index) bytes own) (some (positionIn byte first index)))
+          ≡ finalAs carried message (cond same (lossFrom (suc index) bytes own) (some (positionIn byte first index)))
       go true rest = rest
       go false rest =
           ap₂
@@ -81,10 +81,10 @@ quiet carried message (some position) = (refl, refl)
 
 pub lines-released : (messages : List (List ℕ)) (acknowledges : List ℕ) → Arbitration messages acknowledges
     → Everyone (λ (master : Master). (pullsScl (master .usi) ≡ false) × (pullsSda (master .usi) ≡ false))
-        (run messages acknowledges .masters)
+    (run messages acknowledges .masters)
 lines-released messages acknowledges given =
     subst (Everyone (λ (master : Master). (pullsScl (master .usi) ≡ false) × (pullsSda (master .usi) ≡ false)))
     (sym (final-masters messages acknowledges given))
     (everyone-map (finalMaster (carriedOf messages acknowledges))
-      (everyone (λ message. quiet (carriedOf messages acknowledges) message
-        (lossFrom 0 (carriedOf messages acknowledges) message)) messages))
+    (everyone (λ message. quiet (carriedOf messages acknowledges) message
+    (lossFrom 0 (carriedOf messages acknowledges) message)) messages))

@@ -1,4 +1,5 @@
--- Between two bytes: masters still in wait with SCL high, all alike; who is out has released both lines. What they write there,
+-- Between two bytes: masters still in wait with SCL high, all alike; who is out has released both lines. What they
+-- write there,
 -- and the turn of the acknowledge.
 use Prim.Native.Nat.{ℕ, _<_}
 use native.Mathlib.Omega.{arith}
@@ -64,7 +65,7 @@ masterAt pause standing = standingAs (usiAt pause) standing
 -- a byte is loaded: who is in drives its bits
 pub loads : (pause : Pause) (own : ℕ) (standing : Standing) → own < 256
     → written USICNT 0x08 (written USICTL0 0xca (written USISRL own (masterAt pause standing)))
-      ≡ masterOf 8 [] (sdaAt pause) (entersAs (latchAt pause) (enableAt pause) own standing)
+    ≡ masterOf 8 [] (sdaAt pause) (entersAs (latchAt pause) (enableAt pause) own standing)
 unfolding written writeByte settled followed countFlags
 loads afterStart own stays small =
     ap
@@ -110,7 +111,7 @@ hears byte sda ninth (gone register latch position) = released-turn register lat
 
 pub heard : (byte : ℕ) (sda ninth : Bool) (role : Role)
     → withUsi (usiAt (afterByte byte ninth) (standingOf byte role)) (listener byte sda role)
-      ≡ masterAt (afterByte byte ninth) (standingOf byte role)
+    ≡ masterAt (afterByte byte ninth) (standingOf byte role)
 heard byte sda ninth (drives rest latch enable) = refl
 heard byte sda ninth (lost rest latch position) = refl
 heard byte sda ninth (gone register latch position) = refl

@@ -40,7 +40,7 @@ bytes-within (also {a = byte} {l = bytes} small more) nobody =
     ∙ bytes-within more nobody
 bytes-within (also {a = byte} {l = bytes} small more) (also {a = acknowledge} {l = acknowledges} one ones) =
     ap (λ position. completeFrom position (byteEvents bytes acknowledges ++ stopEvent ∷ []))
-      (next-byte (byte + 256 * acknowledge) (omega arith))
+    (next-byte (byte + 256 * acknowledge) (omega arith))
     ∙ bytes-within more ones
 
 frame-complete : {bytes acknowledges : List ℕ} → 0 < length bytes → Everyone (λ byte. byte < 256) bytes
@@ -52,7 +52,7 @@ frame-complete some (also {a = byte} {l = bytes} small more) nobody =
     ∙ bytes-within more nobody
 frame-complete some (also {a = byte} {l = bytes} small more) (also {a = acknowledge} {l = acknowledges} one ones) =
     ap (λ position. completeFrom position (byteEvents bytes acknowledges ++ stopEvent ∷ []))
-      (first-byte (byte + 256 * acknowledge) (omega arith))
+    (first-byte (byte + 256 * acknowledge) (omega arith))
     ∙ bytes-within more ones
 
 module _ (messages : List (List ℕ)) (acknowledges : List ℕ) (given : Arbitration messages acknowledges) where
@@ -88,8 +88,8 @@ module _ (messages : List (List ℕ)) (acknowledges : List ℕ) (given : Arbitra
   whole =
       frame-complete
       (let some : 0 < carriedCount (least messages) acknowledges =
-          one-carried (least messages) acknowledges (least-sendable messages given .some) in
-        omega (arith, carried-count (least messages) acknowledges))
+      one-carried (least messages) acknowledges (least-sendable messages given .some) in
+      omega (arith, carried-count (least messages) acknowledges))
       bytes-small
       (given .bits)
 

@@ -1,4 +1,5 @@
--- The registers of a module in a run: driving a byte, beaten in this byte, released, awaiting the acknowledge; and what one turn
+-- The registers of a module in a run: driving a byte, beaten in this byte, released, awaiting the acknowledge; and
+-- what one turn
 -- makes of each, with n bits to go.
 use Prim.Native.Nat.{ℕ, suc, _<_}
 use mathlib.Core.Path.{_≡_, refl, ap, ap₂, _∙_}
@@ -54,8 +55,8 @@ clocking ready n small =
 -- the registers after a turn with one bit less to go
 settles : (control flags n register : ℕ) (sent driving bit lost : Bool) → suc n < 32
     → after control flags (suc n) register sent driving bit lost
-      ≡ between (lossControl control lost) (ended n (lossFlags flags lost)) n (rules.shifted register bit) sent
-          (driving && not lost) bit
+    ≡ between (lossControl control lost) (ended n (lossFlags flags lost)) n (rules.shifted register bit) sent
+    (driving && not lost) bit
 settles control flags n register sent driving bit lost small =
     ap₂
     (λ f c. between (lossControl control lost) f c (rules.shifted register bit) sent (driving && not lost) bit)
@@ -90,8 +91,8 @@ turns-to turns same =
 -- a driving master goes on while the bus shows its bit; else it is beaten
 pub driving-turn : (n register : ℕ) (latch enable sda sent bit : Bool) → suc n < 32 → rules.firstBit register ≡ sent
     → Turns (driving (suc n) register latch enable sda) true (not sent) bit
-        (cond (Bool·beq sent bit) (driving n (rules.shifted register bit) sent true bit)
-          (beaten n (rules.shifted register bit) sent bit))
+    (cond (Bool·beq sent bit) (driving n (rules.shifted register bit) sent true bit)
+    (beaten n (rules.shifted register bit) sent bit))
 unfolding lossControl lossFlags
 driving-turn n register latch enable sda sent bit small first =
     turns-to
@@ -100,9 +101,9 @@ driving-turn n register latch enable sda sent bit small first =
   where
     shape : (sent bit : Bool)
         → between (lossControl 0xca (not (Bool·beq sent bit))) (ended n (lossFlags 0x40 (not (Bool·beq sent bit)))) n
-            (rules.shifted register bit) sent (true && not (not (Bool·beq sent bit))) bit
-          ≡ cond (Bool·beq sent bit) (driving n (rules.shifted register bit) sent true bit)
-              (beaten n (rules.shifted register bit) sent bit)
+        (rules.shifted register bit) sent (true && not (not (Bool·beq sent bit))) bit
+        ≡ cond (Bool·beq sent bit) (driving n (rules.shifted register bit) sent true bit)
+        (beaten n (rules.shifted register bit) sent bit)
     shape true true = refl
     shape true false = refl
     shape false true = refl
@@ -118,12 +119,12 @@ beaten-turn n register latch sda sent bit small first =
 
 pub listening-turn : (register : ℕ) (latch enable sda bit : Bool)
     → Turns (listening 1 register latch enable sda) true false bit
-        (listening 0 (rules.shifted register bit) (rules.firstBit register) false bit)
+    (listening 0 (rules.shifted register bit) (rules.firstBit register) false bit)
 unfolding lossControl lossFlags
 listening-turn register latch enable sda bit =
     turns-to
     (clocking-turn 0xc8 0x40 1 register (clocking ready-to-listen 0 (lit< tt)) latch enable sda bit (rules.firstBit register)
-      false refl refl)
+    false refl refl)
     (settles 0xc8 0x40 0 register (rules.firstBit register) false bit false (lit< tt))
 
 pub released-turn : (register : ℕ) (latch sda bit : Bool)

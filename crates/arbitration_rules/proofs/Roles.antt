@@ -1,4 +1,5 @@
--- The roles of a master while a byte is on the bus: driving its bits; beaten in this byte, and clocking on; released, having
+-- The roles of a master while a byte is on the bus: driving its bits; beaten in this byte, and clocking on;
+-- released, having
 -- lost before. One turn takes role to role.
 use Prim.Native.Nat.{ℕ, zero, suc, _+_, _<_}
 use native.Mathlib.Omega.{arith}
@@ -12,9 +13,11 @@ use Rattle.arbitration_rules.specs.declared.Master.{Master}
 use Rattle.arbitration_rules.specs.Masters.{withUsi, judged}
 use Rattle.arbitration_rules.proofs.Bits.{number, first-is, shift-is}
 use Rattle.arbitration_rules.proofs.Turn.{Turns}
-use Rattle.arbitration_rules.proofs.Registers.{driving, beaten, released, turns-to, driving-turn, beaten-turn, released-turn}
+use Rattle.arbitration_rules.proofs.Registers.{driving, beaten, released, turns-to, driving-turn}
+use Rattle.arbitration_rules.proofs.Registers.{beaten-turn, released-turn}
 
--- rest: the bits that it has still to send. The bits that it took in stand behind them in its register: those of the bus.
+-- rest: the bits that it has still to send. The bits that it took in stand behind them in its register: those of
+-- the bus.
 pub data Role : Type 0 where
   drives : (rest : List Bool) (latch enable : Bool) → Role
   lost : (rest : List Bool) (latch : Bool) (position : ℕ) → Role
@@ -90,7 +93,7 @@ module _ (n : ℕ) (taken : List Bool) (eight : suc n + length taken ≡ 8) (sda
   -- a turn takes role to role: the module
   pub role-turn : (role : Role) → Sending (suc n) role
       → Turns (usiOf (suc n) taken sda role) (clocks role) (pulls role) bit
-          (usiOf n (taken ++ bit ∷ []) bit (turnOf at bit role))
+      (usiOf n (taken ++ bit ∷ []) bit (turnOf at bit role))
   role-turn (drives [] latch enable) size = absurd (omega arith)
   role-turn (drives (sent ∷ rest) latch enable) size =
       let less : length rest ≡ n = omega arith in
@@ -99,7 +102,7 @@ module _ (n : ℕ) (taken : List Bool) (eight : suc n + length taken ≡ 8) (sda
     where
       either : (same : Bool) {register : ℕ} → register ≡ number (rest ++ (taken ++ bit ∷ []))
           → cond same (driving n register sent true bit) (beaten n register sent bit)
-            ≡ usiOf n (taken ++ bit ∷ []) bit (cond same (drives rest sent true) (lost rest sent at))
+          ≡ usiOf n (taken ++ bit ∷ []) bit (cond same (drives rest sent true) (lost rest sent at))
       either true shifts = ap (λ r. driving n r sent true bit) shifts
       either false shifts = ap (λ r. beaten n r sent bit) shifts
   role-turn (lost [] latch position) size = absurd (omega arith)
@@ -112,16 +115,16 @@ module _ (n : ℕ) (taken : List Bool) (eight : suc n + length taken ≡ 8) (sda
   -- and the master, once its AL is heeded
   pub role-judged : (role : Role) → Sending (suc n) role
       → judged at (withUsi (usiOf n (taken ++ bit ∷ []) bit (turnOf at bit role)) (masterOf (suc n) taken sda role))
-        ≡ masterOf n (taken ++ bit ∷ []) bit (turnOf at bit role)
+      ≡ masterOf n (taken ++ bit ∷ []) bit (turnOf at bit role)
   unfolding judged
   role-judged (drives [] latch enable) size = absurd (omega arith)
   role-judged (drives (sent ∷ rest) latch enable) size = either n (Bool·beq sent bit)
     where
       either : (n : ℕ) (same : Bool)
           → judged at
-              (withUsi (usiOf n (taken ++ bit ∷ []) bit (cond same (drives rest sent true) (lost rest sent at)))
-                (masterOf (suc n) taken sda (drives (sent ∷ rest) latch enable)))
-            ≡ masterOf n (taken ++ bit ∷ []) bit (cond same (drives rest sent true) (lost rest sent at))
+          (withUsi (usiOf n (taken ++ bit ∷ []) bit (cond same (drives rest sent true) (lost rest sent at)))
+          (masterOf (suc n) taken sda (drives (sent ∷ rest) latch enable)))
+          ≡ masterOf n (taken ++ bit ∷ []) bit (cond same (drives rest sent true) (lost rest sent at))
       either zero true = refl
       either zero false = refl
       either (suc n) true = refl

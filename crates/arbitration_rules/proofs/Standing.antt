@@ -1,4 +1,5 @@
--- How a master stands between two bytes: still in, or out at a position. One byte of the bus against its own byte decides.
+-- How a master stands between two bytes: still in, or out at a position. One byte of the bus against its own byte
+-- decides.
 use Prim.Native.Nat.{ℕ, suc, _+_, _*_, _<_}
 use native.Mathlib.Omega.{arith}
 use mathlib.Core.Path.{_≡_, refl, ap, _∙_}
@@ -41,7 +42,7 @@ lost-on byte at (bit ∷ bits) (sent ∷ rest) latch position size =
 -- a master alone against the bits of the bus: it stays if they are its own, else it is out at the first unequal one
 alone : (byte at : ℕ) (bits rest : List Bool) (latch enable : Bool) → length bits ≡ length rest
     → standingOf byte (turnsOf at bits (drives rest latch enable))
-      ≡ cond (same bits rest) stays (out byte (lastOf latch rest) (at + unequalBit bits rest))
+    ≡ cond (same bits rest) stays (out byte (lastOf latch rest) (at + unequalBit bits rest))
 alone byte at [] [] latch enable size = refl
 alone byte at [] (sent ∷ rest) latch enable size = absurd (omega arith)
 alone byte at (bit ∷ bits) [] latch enable size = absurd (omega arith)
@@ -77,11 +78,11 @@ entersAs latch enable own (out register latched position) = gone register latche
 
 pub byte-decides : (index byte own : ℕ) (latch enable : Bool) (standing : Standing) → byte < 256 → own < 256
     → standingOf byte (turnsOf (9 * index) (byteBits byte) (entersAs latch enable own standing))
-      ≡ standingAfter index byte own standing
+    ≡ standingAfter index byte own standing
 unfolding byteBits positionIn
 byte-decides index byte own latch enable stays small fits =
     alone byte (9 * index) (byteBits byte) (byteBits own) latch enable refl
     ∙ ap (λ t. cond t stays (out byte (bitAt 0 own) (9 * index + unequalBit (byteBits byte) (byteBits own))))
-      (same-bits byte own small fits)
+    (same-bits byte own small fits)
 byte-decides index byte own latch enable (out register latched position) small fits =
     gone-on byte (9 * index) (byteBits byte) register latched position

@@ -1,4 +1,5 @@
--- Refusal 16 over a run: without it the run was cut short by an acknowledge 1, or all that are still in have sent all of their
+-- Refusal 16 over a run: without it the run was cut short by an acknowledge 1, or all that are still in have sent
+-- all of their
 -- messages; with it someone still in has, and someone still in has not.
 use Prim.Native.Nat.{ℕ, suc, _<_}
 use native.Mathlib.Omega.{arith}
@@ -15,7 +16,8 @@ use Rattle.arbitration_rules.specs.Outcome.{any, least, carriedCount, ca
 use Rattle.arbitration_rules.specs.Outcome.{allAcknowledged, unsettled}
 use Rattle.arbitration_rules.specs.Run.{through, run}
 use Rattle.arbitration_rules.specs.Final.{finalMaster}
-use Rattle.arbitration_rules.proofs.Lists.{Everyone, everyone-so, someone-so, any-map, any-none, any-one, zipWith-map}
+use Rattle.arbitration_rules.proofs.Lists.{Everyone, everyone-so, someone-so, any-map, any-none, any-one}
+use Rattle.arbitration_rules.proofs.Lists.{zipWith-map}
 use Rattle.arbitration_rules.proofs.Carried.{carried-count}
 use Rattle.arbitration_rules.proofs.Unsettled.{CutShort, whole, ends-together, torn as torn-apart}
 use Rattle.arbitration_rules.proofs.Demand.{Arbitration}
@@ -30,11 +32,11 @@ behind messages sent masters =
 -- a test on each final master and its message
 ask : (test : List ℕ → Bool) (carried : List ℕ) (messages : List (List ℕ))
     → any (λ (b : Bool). b)
-        (zipWith (λ (master : Master) message. master .contending && test message) (map (finalMaster carried) messages) messages)
-      ≡ any (λ message. fate (lossFrom 0 carried message) .contending && test message) messages
+    (zipWith (λ (master : Master) message. master .contending && test message) (map (finalMaster carried) messages) messages)
+    ≡ any (λ message. fate (lossFrom 0 carried message) .contending && test message) messages
 ask test carried messages =
     ap (any (λ (b : Bool). b))
-      (zipWith-map (λ (master : Master) message. master .contending && test message) (finalMaster carried) messages)
+    (zipWith-map (λ (master : Master) message. master .contending && test message) (finalMaster carried) messages)
     ∙ any-map (λ (b : Bool). b) (λ message. fate (lossFrom 0 carried message) .contending && test message) messages
 
 -- a message loses nothing against itself
@@ -61,7 +63,7 @@ module _ (messages : List (List ℕ)) (acknowledges : List ℕ) (given : Arbitra
 
   pub together : unsettled messages acknowledges ≡ false
       → CutShort (least messages) acknowledges
-        ⊎ (behind messages (carriedCount (least messages) acknowledges) (run messages acknowledges .masters) ≡ false)
+      ⊎ (behind messages (carriedCount (least messages) acknowledges) (run messages acknowledges .masters) ≡ false)
   together settled = go (ends-together messages acknowledges (given .bits) settled)
     where
       nothing-more : (own : List ℕ) (loss : Option ℕ) → (loss ≡ none → own ≡ least messages)
@@ -70,11 +72,12 @@ module _ (messages : List (List ℕ)) (acknowledges : List ℕ) (given : Arbitra
           let same : length own ≡ length (least messages) = ap length (ends refl) in
           le-ltb (length (least messages)) (length own) (omega arith)
       nothing-more own (some position) ends = refl
+
       go : CutShort (least messages) acknowledges
           ⊎ ((allAcknowledged (least messages) acknowledges ≡ true)
-            × Everyone (λ own. lossFrom 0 (least messages) own ≡ none → own ≡ least messages) messages)
+          × Everyone (λ own. lossFrom 0 (least messages) own ≡ none → own ≡ least messages) messages)
           → CutShort (least messages) acknowledges
-            ⊎ (behind messages (carriedCount (least messages) acknowledges) (run messages acknowledges .masters) ≡ false)
+          ⊎ (behind messages (carriedCount (least messages) acknowledges) (run messages acknowledges .masters) ≡ false)
       go (inl cut) = inl cut
       go (inr (all, ends)) =
           inr
@@ -84,26 +87,28 @@ module _ (messages : List (List ℕ)) (acknowledges : List ℕ) (given : Arbitra
 
   pub torn : unsettled messages acknowledges ≡ true
       → (allAcknowledged (least messages) acknowledges ≡ true)
-        × (through messages (carriedCount (least messages) acknowledges) (run messages acknowledges .masters) ≡ true)
-        × (behind messages (carriedCount (least messages) acknowledges) (run messages acknowledges .masters) ≡ true)
+      × (through messages (carriedCount (least messages) acknowledges) (run messages acknowledges .masters) ≡ true)
+      × (behind messages (carriedCount (least messages) acknowledges) (run messages acknowledges .masters) ≡ true)
   unfolding through
   torn applies =
-      let apart = torn-apart messages acknowledges applies in
-      (apart .acknowledged,
-      ap₂ (λ (count : ℕ) masters. through messages count masters) (sent-whole (apart .acknowledged)) (masters-whole (apart .acknowledged))
-      ∙ ask (λ message. leb (length message) (length (least messages))) (least messages) messages
-      ∙ any-one (someone-so ends-with-it (apart .ends)),
-      ap₂ (λ (count : ℕ) masters. behind messages count masters) (sent-whole (apart .acknowledged)) (masters-whole (apart .acknowledged))
-      ∙ ask (λ message. ltb (length (least messages)) (length message)) (least messages) messages
-      ∙ any-one (someone-so goes-on-after (apart .goes-on)))
+      let apart = torn-apart messages acknowledges applies in (
+        apart .acknowledged,
+        ap₂ (λ (count : ℕ) masters. through messages count masters) (sent-whole (apart .acknowledged)) (masters-whole (apart .acknowledged))
+            ∙ ask (λ message. leb (length message) (length (least messages))) (least messages) messages
+            ∙ any-one (someone-so ends-with-it (apart .ends)),
+        ap₂ (λ (count : ℕ) masters. behind messages count masters) (sent-whole (apart .acknowledged)) (masters-whole (apart .acknowledged))
+            ∙ ask (λ message. ltb (length (least messages)) (length message)) (least messages) messages
+            ∙ any-one (someone-so goes-on-after (apart .goes-on)),
+      )
     where
       ends-with-it : (own : List ℕ) → own ≡ least messages
           → fate (lossFrom 0 (least messages) own) .contending && leb (length own) (length (least messages)) ≡ true
       ends-with-it own same =
           let size : length own ≡ length (least messages) = ap length same in
           ap₂ (λ loss within. fate loss .contending && within)
-            (ap (lossFrom 0 (least messages)) same ∙ no-loss 0 (least messages))
-            (le-leb (length own) (length (least messages)) (omega arith))
+          (ap (lossFrom 0 (least messages)) same ∙ no-loss 0 (least messages))
+          (le-leb (length own) (length (least messages)) (omega arith))
+
       goes-on-after : (own : List ℕ)
           → (lossFrom 0 (least messages) own ≡ none) × (length (least messages) < length own)
           → fate (lossFrom 0 (least messages) own) .contending && ltb (length (least messages)) (length own) ≡ true

@@ -1,5 +1,7 @@
--- One module through one bit turn. A module that clocks goes through it by the rules alone, whatever its count, its register
--- and the byte's other masters: it pulls SCL while low, drives the first bit of USISRL, and at the rise takes the bus's bit.
+-- One module through one bit turn. A module that clocks goes through it by the rules alone, whatever its count, its
+-- register
+-- and the byte's other masters: it pulls SCL while low, drives the first bit of USISRL, and at the rise takes the
+-- bus's bit.
 use Prim.Native.Nat.{ℕ}
 use mathlib.Core.Path.{_≡_, ap, ap₂, _∙_}
 use mathlib.Core.Bool.{Bool, cond, true, false, not, _&&_, _||_}
@@ -8,7 +10,8 @@ use Rattle.usi_rules.specs.Rules.{conditionFlags, conditionCount, phaseAfter}
 use Rattle.usi.specs.declared.Usi.{Usi}
 use Rattle.usi.specs.declared.Step.the-variants.{Next, Refused}
 use Rattle.usi.specs.Module.{fits, pullsScl, pullsSda}
-use Rattle.usi.specs.Step.{moduleOf, latched, followed, bitTaken, risen, fallen, stretched, recorded, edged, sampled, sample, ticked, tick}
+use Rattle.usi.specs.Step.{moduleOf, latched, followed, bitTaken, risen, fallen, stretched, recorded, edged}
+use Rattle.usi.specs.Step.{sampled, sample, ticked, tick}
 use Rattle.arbitration_rules.specs.Run.{levelOf}
 
 -- a module that has seen the lines and stretches nothing
@@ -35,7 +38,8 @@ abbrev pub between : (control flags count register : ℕ) (latch enable sda : Bo
 between control flags count register latch enable sda =
     state control flags count register latch enable true true sda
 
--- the instants of a turn: the tick and the first low sample, at which SDA is still what it was; the second low sample, with
+-- the instants of a turn: the tick and the first low sample, at which SDA is still what it was; the second low
+-- sample, with
 -- the bit, and the tick; the high sample
 abbrev pub ticks : Usi → Usi
 ticks usi = moduleOf (tick usi)
@@ -52,7 +56,8 @@ raised bit before usi = ticks (samples false bit (lowered before usi))
 abbrev pub turned : Bool → Bool → Usi → Usi
 turned bit before usi = samples true bit (raised bit before usi)
 
--- through a turn at the bus's bit: whether it pulls SCL low, whether SDA, and what becomes of it, whatever SDA was before
+-- through a turn at the bus's bit: whether it pulls SCL low, whether SDA, and what becomes of it, whatever SDA was
+-- before
 pub record Turns (usi : Usi) (clocks drives bit : Bool) (after : Usi) : Type 0 where
   pub falls : pullsScl (ticks usi) ≡ clocks
   pub low : (before : Bool) → pullsScl (lowered before usi) ≡ clocks
@@ -103,17 +108,17 @@ after control flags count register latch enable bit lost =
 module _ (control flags count register : ℕ) (clocking : Clocking control flags count) where
   tick-down : (latch enable sda : Bool)
       → ticks (between control flags count register latch enable sda)
-        ≡ state control flags count register latch enable false true sda
+      ≡ state control flags count register latch enable false true sda
   unfolding phaseAfter
   tick-down latch enable sda =
       tick-fits _ (clocking .fitting) ∙ held _ (clocking .opaque)
       ∙ ap (λ runs. state control flags count register latch enable (phaseAfter runs true true true) true sda)
-        (clocking .clocks)
+      (clocking .clocks)
 
   -- SCL falls: the latch takes the first bit of USISRL, the enable takes OE
   fall : (latch enable sda before : Bool)
       → samples false before (state control flags count register latch enable false true sda)
-        ≡ state control flags count register (rules.firstBit register) (rules.outputEnable control) false false before
+      ≡ state control flags count register (rules.firstBit register) (rules.outputEnable control) false false before
   unfolding conditionFlags conditionCount risen fallen edged
   fall latch enable sda before =
       sample-fits false before _ (clocking .fitting)
@@ -126,23 +131,23 @@ module _ (control flags count register : ℕ) (clocking : Clocking control flags
   -- SCL stays low
   stay : (latch enable sda bit : Bool)
       → samples false bit (state control flags count register latch enable false false sda)
-        ≡ state control flags count register latch enable false false bit
+      ≡ state control flags count register latch enable false false bit
   unfolding conditionFlags conditionCount risen fallen edged
   stay latch enable sda bit = sample-fits false bit _ (clocking .fitting) ∙ held _ (clocking .opaque)
 
   tick-up : (latch enable sda : Bool)
       → ticks (state control flags count register latch enable false false sda)
-        ≡ state control flags count register latch enable true false sda
+      ≡ state control flags count register latch enable true false sda
   unfolding phaseAfter
   tick-up latch enable sda =
       tick-fits _ (clocking .fitting) ∙ held _ (clocking .opaque)
       ∙ ap (λ runs. state control flags count register latch enable (phaseAfter runs false true false) false sda)
-        (clocking .clocks)
+      (clocking .clocks)
 
   -- SCL rises: arbitration, then the bit is taken
   rise : (latch enable sda bit : Bool)
       → samples true bit (state control flags count register latch enable true false sda)
-        ≡ after control flags count register latch enable bit (rules.loses control enable latch bit)
+      ≡ after control flags count register latch enable bit (rules.loses control enable latch bit)
   unfolding conditionFlags conditionCount risen fallen edged
   rise latch enable sda bit =
       sample-fits true bit _ (clocking .fitting)

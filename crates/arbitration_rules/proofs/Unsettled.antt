@@ -100,20 +100,21 @@ pub ends-together : (messages : List (List ℕ)) (acknowledges : List ℕ)
     → Everyone (λ acknowledge. acknowledge ≤ 1) acknowledges → unsettled messages acknowledges ≡ false
     → CutShort (least messages) acknowledges
     ⊎ ((allAcknowledged (least messages) acknowledges ≡ true)
-      × Everyone (λ own. lossFrom 0 (least messages) own ≡ none → own ≡ least messages) messages)
+    × Everyone (λ own. lossFrom 0 (least messages) own ≡ none → own ≡ least messages) messages)
 unfolding unsettled
 ends-together messages acknowledges bits settled = go (allAcknowledged (least messages) acknowledges) refl
   where
     go : (all : Bool) → allAcknowledged (least messages) acknowledges ≡ all
         → CutShort (least messages) acknowledges
         ⊎ ((allAcknowledged (least messages) acknowledges ≡ true)
-          × Everyone (λ own. lossFrom 0 (least messages) own ≡ none → own ≡ least messages) messages)
+        × Everyone (λ own. lossFrom 0 (least messages) own ≡ none → own ≡ least messages) messages)
     go false refused = inl (cut-short (least messages) bits refused)
     go true all =
-        inr
-        (all,
-        everyone-so (λ own both. ends-with 0 (at-most (least messages) own (both .0)) (both .1))
-        (everyone-both (least-at-most messages) (any-false (begins (least messages)) messages (rw all at settled))))
+        inr (
+          all,
+          everyone-so (λ own both. ends-with 0 (at-most (least messages) own (both .0)) (both .1))
+              (everyone-both (least-at-most messages) (any-false (begins (least messages)) messages (rw all at settled))),
+        )
 
 -- 16 applies: no byte of the least message is refused, one master ends with it, and another, still in, goes on
 pub record Torn (messages : List (List ℕ)) (acknowledges : List ℕ) : Type 0 where
