@@ -53,7 +53,8 @@ good-length count counts good = go (eqb count 0) (ltb maxLength count) refl good
         (omega arith, omega arith)
 
 -- the messages cut from bytes that their lengths sum to
-cut-sendable : (acknowledges lengths bytes : List ℕ) → length lengths ≤ firstBadLength lengths → total lengths ≡ length bytes
+cut-sendable : (acknowledges lengths bytes : List ℕ) → length lengths ≤ firstBadLength lengths
+    → total lengths ≡ length bytes
     → longest lengths ≤ length acknowledges → Bytes bytes → Everyone (Sendable acknowledges) (messagesOf lengths bytes)
 cut-sendable acknowledges [] bytes good sum long small = nobody
 cut-sendable acknowledges (count ∷ counts) bytes good sum long small =
@@ -65,26 +66,34 @@ cut-sendable acknowledges (count ∷ counts) bytes good sum long small =
       some = omega (arith, lengths .0);
       answered = omega arith;
     })
-    (cut-sendable acknowledges counts (drop count bytes) (lengths .1) (omega (arith, length-drop count bytes)) (omega arith) (left-over small count))
+    (cut-sendable acknowledges counts (drop count bytes) (lengths .1) (omega (arith, length-drop count bytes))
+    (omega arith) (left-over small count))
 
 cut-count : (lengths bytes : List ℕ) → length (messagesOf lengths bytes) ≡ length lengths
 cut-count [] bytes = refl
 cut-count (count ∷ counts) bytes = ap suc (cut-count counts (drop count bytes))
 
 -- 12, 13 and 15 do not apply
-pub arbitration : (bytes lengths acknowledges : List ℕ) → Bytes bytes → badCount lengths ≡ false → badLengths bytes lengths ≡ false
+pub arbitration : (bytes lengths acknowledges : List ℕ) → Bytes bytes → badCount lengths ≡ false
+    → badLengths bytes lengths ≡ false
     → badAcknowledges lengths acknowledges ≡ false → Arbitration (messagesOf lengths bytes) acknowledges
 arbitration bytes lengths acknowledges small count sizes answers =
     let counted = neither (eqb (length lengths) 0) (ltb 8 (length lengths)) count in
-    let sized = neither (ltb (firstBadLength lengths) (length lengths)) (not (eqb (total lengths) (length bytes))) sizes in
-    let answered = neither (not (eqb (length acknowledges) (longest lengths))) (any (λ a. ltb 1 a) acknowledges) answers in
+    let sized =
+    neither (ltb (firstBadLength lengths) (length lengths)) (not (eqb (total lengths) (length bytes))) sizes in
+    let answered =
+    neither (not (eqb (length acknowledges) (longest lengths))) (any (λ a. ltb 1 a) acknowledges) answers in
     let many : length lengths ≡ 0 → ⊥ = eqb-false (length lengths) 0 (counted .0) in
-    let sum : total lengths ≡ length bytes = eqb-true (total lengths) (length bytes) (not-false (eqb (total lengths) (length bytes)) (sized .1)) in
+    let sum : total lengths ≡ length bytes =
+    eqb-true (total lengths) (length bytes) (not-false (eqb (total lengths) (length bytes)) (sized .1)) in
     let long : length acknowledges ≡ longest lengths =
-    eqb-true (length acknowledges) (longest lengths) (not-false (eqb (length acknowledges) (longest lengths)) (answered .0)) in
+    eqb-true (length acknowledges) (longest lengths)
+    (not-false (eqb (length acknowledges) (longest lengths)) (answered .0)) in
     record {
       someone = omega (arith, cut-count lengths bytes);
-      sendable = cut-sendable acknowledges lengths bytes (ltb-false (firstBadLength lengths) (length lengths) (sized .0)) sum (omega arith) small;
+      sendable =
+          cut-sendable acknowledges lengths bytes (ltb-false (firstBadLength lengths) (length lengths) (sized .0))
+          sum (omega arith) small;
       bits = none-above acknowledges (answered .1);
     }
 

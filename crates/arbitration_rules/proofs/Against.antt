@@ -27,13 +27,15 @@ pub in-has-byte : (index : ℕ) (carried : List ℕ) (byte : ℕ) (more message 
     → atMost (carried ++ byte ∷ more) message ≡ true → isIn (against index carried message) ≡ true
     → (length carried < length message) × (byte ≤ getD message (length carried) 0)
 in-has-byte index [] byte more [] least still = absurd (false≢true least)
-in-has-byte index [] byte more (own ∷ message) least still = (omega arith, first-at-most (at-most (byte ∷ more) (own ∷ message) least))
+in-has-byte index [] byte more (own ∷ message) least still =
+    (omega arith, first-at-most (at-most (byte ∷ more) (own ∷ message) least))
 in-has-byte index (first ∷ carried) byte more [] least still = absurd (false≢true least)
 in-has-byte index (first ∷ carried) byte more (own ∷ message) least still =
     go (eqb own first) refl still (λ rest in-rest. in-has-byte (suc index) carried byte more message rest in-rest)
   where
     go : (same : Bool) → eqb own first ≡ same
-        → isIn (cond same (against (suc index) carried message) (out first (bitAt 0 own) (positionIn first own index))) ≡ true
+        → isIn (cond same (against (suc index) carried message)
+        (out first (bitAt 0 own) (positionIn first own index))) ≡ true
         → (atMost (carried ++ byte ∷ more) message ≡ true → isIn (against (suc index) carried message) ≡ true
         → (length carried < length message) × (byte ≤ getD message (length carried) 0))
         → (length (first ∷ carried) < length (own ∷ message))
@@ -48,7 +50,9 @@ in-has-byte index (first ∷ carried) byte more (own ∷ message) least still =
 pub owner-in : (index : ℕ) (carried more : List ℕ) → isIn (against index carried (carried ++ more)) ≡ true
 owner-in index [] more = refl
 owner-in index (byte ∷ carried) more =
-    ap (λ same. isIn (cond same (against (suc index) carried (carried ++ more)) (out byte (bitAt 0 byte) (positionIn byte byte index))))
+    ap (λ same. isIn
+    (cond same (against (suc index) carried (carried ++ more))
+    (out byte (bitAt 0 byte) (positionIn byte byte index))))
     (eq-eqb byte byte refl)
     ∙ owner-in (suc index) carried more
 
@@ -65,15 +69,19 @@ against-next index (first ∷ carried) byte (own ∷ message) long =
     go (eqb own first) long (λ l. against-next (suc index) carried byte message l)
   where
     go : (same : Bool)
-        → (isIn (cond same (against (suc index) carried message) (out first (bitAt 0 own) (positionIn first own index))) ≡ true
+        → (isIn (cond same (against (suc index) carried message)
+        (out first (bitAt 0 own) (positionIn first own index))) ≡ true
         → length (first ∷ carried) < length (own ∷ message))
         → ((isIn (against (suc index) carried message) ≡ true → length carried < length message)
-        → standingAfter (suc index + length carried) byte (getD message (length carried) 0) (against (suc index) carried message)
+        → standingAfter (suc index + length carried) byte (getD message (length carried) 0)
+        (against (suc index) carried message)
         ≡ against (suc index) (carried ++ byte ∷ []) message)
         → standingAfter (index + length (first ∷ carried)) byte (getD (own ∷ message) (length (first ∷ carried)) 0)
         (cond same (against (suc index) carried message) (out first (bitAt 0 own) (positionIn first own index)))
-        ≡ cond same (against (suc index) (carried ++ byte ∷ []) message) (out first (bitAt 0 own) (positionIn first own index))
+        ≡ cond same (against (suc index) (carried ++ byte ∷ []) message)
+        (out first (bitAt 0 own) (positionIn first own index))
     go true long next =
-        ap (λ (i : ℕ). standingAfter i byte (getD message (length carried) 0) (against (suc index) carried message)) (omega arith)
+        ap (λ (i : ℕ). standingAfter i byte (getD message (length carried) 0) (against (suc index) carried message))
+        (omega arith)
         ∙ next (λ still. let more = long still in omega arith)
     go false long next = refl

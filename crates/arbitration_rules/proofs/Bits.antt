@@ -26,10 +26,12 @@ twice value digit power = rw (add-mul, mul-comm 2 value, mul-assoc value 2 power
 number-after : (value : ℕ) (bits : List Bool) → numberFrom value bits ≡ value * 2 ^ length bits + number bits
 number-after value [] = omega arith
 number-after value (true ∷ bits) =
-    let power : value * 2 ^ suc (length bits) ≡ value * (2 ^ length bits * 2) = ap (λ (x : ℕ). value * x) (pow-suc 2 (length bits)) in
+    let power : value * 2 ^ suc (length bits) ≡ value * (2 ^ length bits * 2) =
+    ap (λ (x : ℕ). value * x) (pow-suc 2 (length bits)) in
     omega (arith, number-after (2 * value + 1) bits, number-after 1 bits, twice value 1 (2 ^ length bits))
 number-after value (false ∷ bits) =
-    let power : value * 2 ^ suc (length bits) ≡ value * (2 ^ length bits * 2) = ap (λ (x : ℕ). value * x) (pow-suc 2 (length bits)) in
+    let power : value * 2 ^ suc (length bits) ≡ value * (2 ^ length bits * 2) =
+    ap (λ (x : ℕ). value * x) (pow-suc 2 (length bits)) in
     omega (arith, number-after (2 * value + 0) bits, twice value 0 (2 ^ length bits))
 
 number-below : (bits : List Bool) → number bits < 2 ^ length bits
@@ -39,14 +41,16 @@ number-below (true ∷ bits) =
 number-below (false ∷ bits) = let less = number-below bits in omega (arith, pow-suc 2 (length bits))
 
 -- a bit behind them
-pub number-snoc : (value : ℕ) (bits : List Bool) (bit : Bool) → numberFrom value (bits ++ bit ∷ []) ≡ 2 * numberFrom value bits + boolByte bit
+pub number-snoc : (value : ℕ) (bits : List Bool) (bit : Bool)
+    → numberFrom value (bits ++ bit ∷ []) ≡ 2 * numberFrom value bits + boolByte bit
 number-snoc value [] bit = refl
 number-snoc value (first ∷ bits) bit = number-snoc (2 * value + boolByte first) bits bit
 
 -- a byte is the number of its bits
 pub number-bits : (byte : ℕ) → byte < 256 → number (byteBits byte) ≡ byte
 unfolding byteBits
-number-bits byte small = let bits : number (byteBits byte) ≡ 0 * 256 + byte % 256 = number-of-bits 8 0 byte in omega arith
+number-bits byte small =
+    let bits : number (byteBits byte) ≡ 0 * 256 + byte % 256 = number-of-bits 8 0 byte in omega arith
 
 -- eight bits in a register: the first is bit 7, and the shift brings in another behind the last
 module _ (bit : Bool) (rest : List Bool) (seven : length rest ≡ 7) where
@@ -54,7 +58,8 @@ module _ (bit : Bool) (rest : List Bool) (seven : length rest ≡ 7) where
   small = subst (λ (k : ℕ). number rest < 2 ^ k) seven (number-below rest)
 
   high : number (bit ∷ rest) ≡ boolByte bit * 128 + number rest
-  high = number-after (0 + boolByte bit) rest ∙ ap (λ (k : ℕ). (0 + boolByte bit) * 2 ^ k + number rest) seven ∙ either bit
+  high =
+      number-after (0 + boolByte bit) rest ∙ ap (λ (k : ℕ). (0 + boolByte bit) * 2 ^ k + number rest) seven ∙ either bit
     where
       either : (bit : Bool) → (0 + boolByte bit) * 128 + number rest ≡ boolByte bit * 128 + number rest
       either true = refl
@@ -65,10 +70,13 @@ module _ (bit : Bool) (rest : List Bool) (seven : length rest ≡ 7) where
     where
       either : (bit : Bool) → eqb ((boolByte bit * 128 + number rest) / 128 % 2) 1 ≡ bit
       either true = eq-eqb ((1 * 128 + number rest) / 128 % 2) 1 (omega (arith, small))
-      either false = ne-eqb ((0 * 128 + number rest) / 128 % 2) 1 (λ (e : (0 * 128 + number rest) / 128 % 2 ≡ 1). omega (arith, small))
+      either false =
+          ne-eqb ((0 * 128 + number rest) / 128 % 2) 1
+          (λ (e : (0 * 128 + number rest) / 128 % 2 ≡ 1). omega (arith, small))
 
   pub shift-is : (next : Bool) → shifted (number (bit ∷ rest)) next ≡ number (rest ++ next ∷ [])
-  shift-is next = ap (λ (x : ℕ). x + boolByte next) (ap (λ (x : ℕ). x * 2 % 256) high ∙ either bit) ∙ sym (number-snoc 0 rest next)
+  shift-is next =
+      ap (λ (x : ℕ). x + boolByte next) (ap (λ (x : ℕ). x * 2 % 256) high ∙ either bit) ∙ sym (number-snoc 0 rest next)
     where
       either : (bit : Bool) → (boolByte bit * 128 + number rest) * 2 % 256 ≡ 2 * number rest
       either true = omega (arith, small)
@@ -108,7 +116,8 @@ at-most (false ∷ bits) (false ∷ others) size less =
     let rest : length others ≡ length bits = omega arith in
     at-most bits others rest less
 
-pub at-most-bits : (byte other : ℕ) → byte < 256 → other < 256 → byte ≤ other → BitsAtMost (byteBits byte) (byteBits other)
+pub at-most-bits : (byte other : ℕ) → byte < 256 → other < 256 → byte ≤ other
+    → BitsAtMost (byteBits byte) (byteBits other)
 unfolding byteBits
 at-most-bits byte other small fits less =
     at-most (byteBits byte) (byteBits other) refl (omega (arith, number-bits byte small, number-bits other fits))
@@ -140,7 +149,8 @@ same-bits byte own small fits = go (same (byteBits byte) (byteBits own)) refl
     go : (b : Bool) → same (byteBits byte) (byteBits own) ≡ b → b ≡ eqb own byte
     go true h =
         sym (eq-eqb own byte
-        (sym (number-bits own fits) ∙ ap number (sym (same-equal (byteBits byte) (byteBits own) h)) ∙ number-bits byte small))
+        (sym (number-bits own fits) ∙ ap number (sym (same-equal (byteBits byte) (byteBits own) h))
+        ∙ number-bits byte small))
     go false h =
         sym (ne-eqb own byte
         (λ e. false≢true (sym h ∙ ap (λ k. same (byteBits byte) (byteBits k)) e ∙ same-refl (byteBits byte))))

@@ -33,7 +33,8 @@ shown true = refl
 shown false = refl
 
 -- a data turn of masters in their roles
-data-turn : (n : ℕ) (taken : List Bool) → suc n + length taken ≡ 8 → (at : ℕ) (roles : List Role) (before pull bit : Bool)
+data-turn : (n : ℕ) (taken : List Bool) → suc n + length taken ≡ 8
+    → (at : ℕ) (roles : List Role) (before pull bit : Bool)
     (level byte : ℕ) (levels carried : List ℕ)
     → Everyone (Sending (suc n)) roles → any clocks roles ≡ true → not (any pulls roles) ≡ bit
     → dataTurn at (busOf (map (masterOf (suc n) taken before) roles) pull level byte levels carried)
@@ -42,15 +43,20 @@ data-turn : (n : ℕ) (taken : List Bool) → suc n + length taken ≡ 8 → (at
 unfolding dataTurn
 data-turn n taken eight at roles before pull bit level byte levels carried sending clocked line =
     ap (λ bus. bitTaken (every (Judge at) bus))
-    (turn-is (masterOf (suc n) taken before) roles (λ role. usiOf n (taken ++ bit ∷ []) bit (turnOf at bit role)) clocks pulls
+    (turn-is (masterOf (suc n) taken before) roles (λ role. usiOf n (taken ++ bit ∷ []) bit (turnOf at bit role))
+    clocks pulls
     pull false bit level byte levels carried
     (everyone-so (role-turn n taken eight before bit at) sending) clocked line)
-    ∙ ap₂ (λ masters b. busOf masters false (levelOf true bit) (2 * byte + boolByte b) (levels ++ levelOf false bit ∷ levelOf true bit ∷ []) carried)
-    (map-map (judged at) (λ role. withUsi (usiOf n (taken ++ bit ∷ []) bit (turnOf at bit role)) (masterOf (suc n) taken before role)) roles
+    ∙ ap₂ (λ masters b. busOf masters false (levelOf true bit) (2 * byte + boolByte b)
+    (levels ++ levelOf false bit ∷ levelOf true bit ∷ []) carried)
+    (map-map (judged at)
+    (λ role. withUsi (usiOf n (taken ++ bit ∷ []) bit (turnOf at bit role)) (masterOf (suc n) taken before role))
+    roles
     ∙ map-alike (everyone-so (role-judged n taken eight before bit at) sending)
     ∙ sym (map-map (masterOf n (taken ++ bit ∷ []) bit) (turnOf at bit) roles))
     (shown bit)
-    ∙ ap (λ recording. busOf (map (masterOf n (taken ++ bit ∷ []) bit) (map (turnOf at bit) roles)) false (levelOf true bit) (2 * byte + boolByte bit) (levels ++ recording) carried)
+    ∙ ap (λ recording. busOf (map (masterOf n (taken ++ bit ∷ []) bit) (map (turnOf at bit) roles)) false
+    (levelOf true bit) (2 * byte + boolByte bit) (levels ++ recording) carried)
     (drawn bit)
 
 -- against bits to come: who drives has bits not below them; the winner has these very bits
@@ -94,7 +100,8 @@ bus-bit true bits roles all some = ap not (any-none (everyone-so (nobody-pulls b
 bus-bit false bits roles all some = ap not (any-one (someone-so (leader-pulls bits) some))
 
 -- and both claims hold of the bits that are left
-within-turn : (at : ℕ) (bit : Bool) (bits : List Bool) (role : Role) → Within (bit ∷ bits) role → Within bits (turnOf at bit role)
+within-turn : (at : ℕ) (bit : Bool) (bits : List Bool) (role : Role) → Within (bit ∷ bits) role
+    → Within bits (turnOf at bit role)
 within-turn at bit bits (drives [] latch enable) h = absurd h
 within-turn at true bits (drives (true ∷ rest) latch enable) h = h
 within-turn at true bits (drives (false ∷ rest) latch enable) h = absurd h
@@ -104,7 +111,8 @@ within-turn at bit bits (lost [] latch position) h = absurd (omega arith)
 within-turn at bit bits (lost (sent ∷ rest) latch position) h = omega arith
 within-turn at bit bits (gone register latch position) h = tt
 
-leads-turn : (at : ℕ) (bit : Bool) (bits : List Bool) (role : Role) → Leads (bit ∷ bits) role → Leads bits (turnOf at bit role)
+leads-turn : (at : ℕ) (bit : Bool) (bits : List Bool) (role : Role) → Leads (bit ∷ bits) role
+    → Leads bits (turnOf at bit role)
 leads-turn at bit bits (drives rest latch enable) h =
     subst (λ sent. Leads bits (turnOf at bit (drives sent latch enable))) (sym h) (own bit)
   where
@@ -140,14 +148,16 @@ map-same : {A : Type 0} (l : List A) → map (λ a. a) l ≡ l
 map-same [] = refl
 map-same (a ∷ l) = ap (λ k. a ∷ k) (map-same l)
 
-pub turns : (bits taken : List Bool) → length bits + length taken ≡ 8 → (at : ℕ) (roles : List Role) (line : Line) (byte : ℕ)
+pub turns : (bits taken : List Bool) → length bits + length taken ≡ 8
+    → (at : ℕ) (roles : List Role) (line : Line) (byte : ℕ)
     (levels carried : List ℕ) → Everyone (Within bits) roles → Someone (Leads bits) roles
     → dataTurns (length bits) at (inByte (length bits) taken line roles byte levels carried)
     ≡ inByte 0 (taken ++ bits) (lineAfter line bits) (map (turnsOf at bits) roles) (numberFrom byte bits)
     (levels ++ drawBits bits) carried
 turns [] taken eight at roles line byte levels carried all some =
     ap₂ (λ bits masters. inByte 0 bits line masters byte levels carried) (sym (append-nil taken)) (sym (map-same roles))
-    ∙ ap (λ recording. inByte 0 (taken ++ []) line (map (λ role. role) roles) byte recording carried) (sym (append-nil levels))
+    ∙ ap (λ recording. inByte 0 (taken ++ []) line (map (λ role. role) roles) byte recording carried)
+    (sym (append-nil levels))
 turns (bit ∷ bits) taken eight at roles line byte levels carried all some =
     ap (dataTurns (length bits) (suc at))
     (data-turn (length bits) taken eight at roles (line .sda) (line .pull) bit (line .level) byte levels carried

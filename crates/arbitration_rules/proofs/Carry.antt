@@ -37,7 +37,8 @@ pub record Contest (messages : List (List ℕ)) (winner : List ℕ) : Type 0 whe
   pub bytes : Everyone Bytes messages
 
 -- someone's byte is below 256
-winner-below : {messages : List (List ℕ)} {winner : List ℕ} → Contest messages winner → (index : ℕ) → byteAt index winner < 256
+winner-below : {messages : List (List ℕ)} {winner : List ℕ} → Contest messages winner → (index : ℕ)
+    → byteAt index winner < 256
 winner-below {messages} {winner} contest index = go (contest .bytes) (contest .sent)
   where
     go : {l : List (List ℕ)} → Everyone Bytes l → Someone (λ message. message ≡ winner) l → byteAt index winner < 256
@@ -52,7 +53,8 @@ module _ (messages : List (List ℕ)) (carried : List ℕ) (byte : ℕ) (more : 
   small : byte < 256
   small = subst (λ (b : ℕ). b < 256) here (winner-below contest (length carried))
 
-  leader : Someone (λ message. (isIn (against 0 carried message) ≡ true) × (byteAt (length carried) message ≡ byte)) messages
+  leader : Someone (λ message. (isIn (against 0 carried message) ≡ true) × (byteAt (length carried) message ≡ byte))
+      messages
   leader =
       someone-so
       (λ message same. (
@@ -62,8 +64,10 @@ module _ (messages : List (List ℕ)) (carried : List ℕ) (byte : ℕ) (more : 
       (contest .sent)
 
   -- one byte of it
-  pub carry-byte : (acknowledge : ℕ) (pause : Pause) (pull : Bool) (level old : ℕ) (levels bytes : List ℕ) → acknowledge ≤ 1
-      → byteTurn messages (length carried) acknowledge (busOf (waits pause (against 0 carried) messages) pull level old levels bytes)
+  pub carry-byte : (acknowledge : ℕ) (pause : Pause) (pull : Bool) (level old : ℕ) (levels bytes : List ℕ)
+      → acknowledge ≤ 1
+      → byteTurn messages (length carried) acknowledge
+      (busOf (waits pause (against 0 carried) messages) pull level old levels bytes)
       ≡ busOf (waits (afterByte byte (ninthBit acknowledge)) (against 0 (carried ++ byte ∷ [])) messages)
       (eqb acknowledge 0) (levelOf true (ninthBit acknowledge)) byte (levels ++ drawEvent (byte + 256 * acknowledge))
       (bytes ++ byte ∷ [])
@@ -72,15 +76,18 @@ module _ (messages : List (List ℕ)) (carried : List ℕ) (byte : ℕ) (more : 
       (everyone-so (λ message small. byte-below small (length carried)) (contest .bytes))
       (everyone-so (λ message least still. in-has-byte 0 carried byte more message least still .1) (contest .least))
       leader
-      ∙ ap₂ (λ masters recording. busOf masters (eqb acknowledge 0) (levelOf true (ninthBit acknowledge)) byte (levels ++ recording) (bytes ++ byte ∷ []))
-      (map-alike (everyone-so (λ message least. ap (masterAt (afterByte byte (ninthBit acknowledge))) (next message least)) (contest .least)))
+      ∙ ap₂ (λ masters recording. busOf masters (eqb acknowledge 0) (levelOf true (ninthBit acknowledge)) byte
+      (levels ++ recording) (bytes ++ byte ∷ []))
+      (map-alike (everyone-so
+      (λ message least. ap (masterAt (afterByte byte (ninthBit acknowledge))) (next message least)) (contest .least)))
       (byte-drawn byte acknowledge small one)
     where
       next : (message : List ℕ) → atMost (carried ++ byte ∷ more) message ≡ true
           → standingAfter (length carried) byte (byteAt (length carried) message) (against 0 carried message)
           ≡ against 0 (carried ++ byte ∷ []) message
       next message least =
-          ap (λ (i : ℕ). standingAfter i byte (byteAt (length carried) message) (against 0 carried message)) (omega arith)
+          ap (λ (i : ℕ). standingAfter i byte (byteAt (length carried) message) (against 0 carried message))
+          (omega arith)
           ∙ against-next 0 carried byte message (λ still. in-has-byte 0 carried byte more message least still .0)
 
 through-is : (messages : List (List ℕ)) (standing : List ℕ → Standing) (pause : Pause) (count : ℕ)
@@ -98,7 +105,8 @@ pub all-sent : (messages : List (List ℕ)) (carried : List ℕ) (pause : Pause)
     → through messages (length carried) (waits pause (against 0 carried) messages) ≡ true
 all-sent messages carried pause contest =
     through-is messages (against 0 carried) pause (length carried)
-    ∙ any-one (someone-so (λ message same. ap (λ m. isIn (against 0 carried m) && leb (length m) (length carried)) same ∙ owner)
+    ∙ any-one (someone-so
+    (λ message same. ap (λ m. isIn (against 0 carried m) && leb (length m) (length carried)) same ∙ owner)
     (contest .sent))
   where
     owner : isIn (against 0 carried carried) && leb (length carried) (length carried) ≡ true
@@ -112,9 +120,11 @@ pub more-to-send : (messages : List (List ℕ)) (carried : List ℕ) (byte : ℕ
     → through messages (length carried) (waits pause (against 0 carried) messages) ≡ false
 more-to-send messages carried byte more pause contest =
     through-is messages (against 0 carried) pause (length carried)
-    ∙ any-none (everyone-so (λ message least. go message least (isIn (against 0 carried message)) refl) (contest .least))
+    ∙ any-none (everyone-so (λ message least. go message least (isIn (against 0 carried message)) refl)
+    (contest .least))
   where
     go : (message : List ℕ) → atMost (carried ++ byte ∷ more) message ≡ true → (still : Bool)
         → isIn (against 0 carried message) ≡ still → still && leb (length message) (length carried) ≡ false
-    go message least true still = lt-leb (length message) (length carried) (in-has-byte 0 carried byte more message least still .0)
+    go message least true still =
+        lt-leb (length message) (length carried) (in-has-byte 0 carried byte more message least still .0)
     go message least false still = refl

@@ -30,7 +30,8 @@ narrow n small =
 
 -- CNT is above 0
 pub counts : (n : ℕ) → suc n < 32 → counting (suc n) ≡ true
-counts n small = ap not (ne-eqb (bitCount (suc n)) 0 (λ (e : bitCount (suc n) ≡ 0). omega (arith, count-is (suc n) small)))
+counts n small =
+    ap not (ne-eqb (bitCount (suc n)) 0 (λ (e : bitCount (suc n) ≡ 0). omega (arith, count-is (suc n) small)))
 
 -- CNT falls by 1
 pub count-down : (n : ℕ) → suc n < 32 → countDown (suc n) ≡ n
@@ -48,4 +49,5 @@ unfolding endFlags
 end-flags usictl1 zero small = refl
 end-flags usictl1 (suc n) small =
     ap (λ last. cond last (raise usictl1 USIIFG) usictl1)
-    (ne-eqb (bitCount (suc (suc n))) 1 (λ (e : bitCount (suc (suc n)) ≡ 1). omega (arith, count-is (suc (suc n)) small)))
+    (ne-eqb (bitCount (suc (suc n))) 1
+    (λ (e : bitCount (suc (suc n)) ≡ 1). omega (arith, count-is (suc (suc n)) small)))

@@ -48,7 +48,8 @@ winner-in messages winner k some =
     ∙ owner-in 0 (take k winner) (drop k winner))
     some
 
-run-ends : (messages : List (List ℕ)) (acknowledges winner : List ℕ) → Contest messages winner → Sendable acknowledges winner
+run-ends : (messages : List (List ℕ)) (acknowledges winner : List ℕ) → Contest messages winner
+    → Sendable acknowledges winner
     → Everyone (λ acknowledge. acknowledge ≤ 1) acknowledges
     → Ended (run messages acknowledges) messages (take (carriedCount winner acknowledges) winner) acknowledges
 unfolding run
@@ -63,7 +64,9 @@ run-ends messages acknowledges (byte ∷ more) contest sendable bits =
     carried : List ℕ
     carried = take (carriedCount (byte ∷ more) acknowledges) (byte ∷ more)
 
-    over : Carried (bytesTurn messages acknowledges 0 (busOf (map (λ message. masterAt afterStart stays) messages) false 1 0 (3 ∷ 1 ∷ []) []))
+    over : Carried
+        (bytesTurn messages acknowledges 0
+        (busOf (map (λ message. masterAt afterStart stays) messages) false 1 0 (3 ∷ 1 ∷ []) []))
         messages carried (3 ∷ 1 ∷ drawEvents (byteEvents carried acknowledges)) carried
     over =
         carries messages acknowledges 0 [] byte more afterStart false 1 0 (3 ∷ 1 ∷ []) [] contest refl bits
@@ -79,7 +82,8 @@ run-ends messages acknowledges (byte ∷ more) contest sendable bits =
         (3 ∷ 1 ∷ drawEvents (byteEvents carried acknowledges)) carried
         (winner-in messages (byte ∷ more) (carriedCount (byte ∷ more) acknowledges) (contest .sent))
 
-contest : (messages : List (List ℕ)) {acknowledges : List ℕ} → Arbitration messages acknowledges → Contest messages (least messages)
+contest : (messages : List (List ℕ)) {acknowledges : List ℕ} → Arbitration messages acknowledges
+    → Contest messages (least messages)
 contest [] given = absurd (omega (arith, given .someone))
 contest (message ∷ messages) given =
     record {
@@ -98,14 +102,17 @@ pub ended : (messages : List (List ℕ)) (acknowledges : List ℕ) → Arbitrati
     → Ended (run messages acknowledges) messages (carriedOf messages acknowledges) acknowledges
 unfolding carriedOf
 ended messages acknowledges given =
-    run-ends messages acknowledges (least messages) (contest messages given) (least-sendable messages given) (given .bits)
+    run-ends messages acknowledges (least messages) (contest messages given) (least-sendable messages given)
+    (given .bits)
 
 pub demand3 : (messages : List (List ℕ)) (acknowledges : List ℕ) → Arbitration messages acknowledges
     → observed (run messages acknowledges) ≡ outcome messages acknowledges
 unfolding observed outcome
 demand3 messages acknowledges given =
     let end = ended messages acknowledges given in
-    ap₂ (λ carried levels. record { carried = carried; levels = levels; fates = map fateOf (run messages acknowledges .masters) })
+    ap₂
+    (λ carried levels.
+    record { carried = carried; levels = levels; fates = map fateOf (run messages acknowledges .masters) })
     (end .bytes) (end .levels)
     ∙ ap (λ fates. record { carried = carried; levels = drawing (frame carried acknowledges); fates = fates })
     (ap (map fateOf) (end .masters)

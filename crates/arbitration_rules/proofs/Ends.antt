@@ -54,10 +54,12 @@ module _ {P : List ℕ → Type 0} (messages : List (List ℕ)) (one : Someone P
   start-is =
       ap (λ bus. writes ((USICTL1, 0x41) ∷ [])
       (recorded (writes ((USISRL, 0x00) ∷ (USICTL0, 0xce) ∷ (USICTL0, 0xca) ∷ []) (recorded bus))))
-      (writes-all ((USICKCTL, 0x22) ∷ (USICTL1, 0x41) ∷ (USICTL0, 0xc8) ∷ []) (λ message. entering) messages false 0 0 [] [])
+      (writes-all ((USICKCTL, 0x22) ∷ (USICTL1, 0x41) ∷ (USICTL0, 0xc8) ∷ []) (λ message. entering) messages
+      false 0 0 [] [])
       ∙ ap (λ bus. writes ((USICTL1, 0x41) ∷ [])
       (recorded (writes ((USISRL, 0x00) ∷ (USICTL0, 0xce) ∷ (USICTL0, 0xca) ∷ []) bus)))
-      (record-all (alike ready) messages (λ message. ready) false 0 0 [] [] true true (ap not nobody-pulls) (ap not nobody-pulls))
+      (record-all (alike ready) messages (λ message. ready) false 0 0 [] [] true true (ap not nobody-pulls)
+      (ap not nobody-pulls))
       ∙ ap (λ bus. writes ((USICTL1, 0x41) ∷ []) (recorded bus))
       (writes-all ((USISRL, 0x00) ∷ (USICTL0, 0xce) ∷ (USICTL0, 0xca) ∷ []) (alike seen) messages false 3 0 (3 ∷ []) [])
       ∙ ap (writes ((USICTL1, 0x41) ∷ []))
@@ -119,27 +121,34 @@ sees-stop (out register latch position) = refl
 pub stop-is : (messages : List (List ℕ)) (standing : List ℕ → Standing) (byte : ℕ) (ninth pull : Bool) (level old : ℕ)
     (levels carried : List ℕ) → Someone (λ message. isIn (standing message) ≡ true) messages
     → stopped (busOf (waits (afterByte byte ninth) standing messages) pull level old levels carried)
-    ≡ busOf (map (λ message. standingAs finalUsi (standing message)) messages) false 3 old (levels ++ 0 ∷ 1 ∷ 3 ∷ []) carried
+    ≡ busOf (map (λ message. standingAs finalUsi (standing message)) messages) false 3 old (levels ++ 0 ∷ 1 ∷ 3 ∷ [])
+    carried
 unfolding stopped
 stop-is messages standing byte ninth pull level old levels carried one =
     ap (λ bus. writes last (recorded (writes rise (bitTurn false bus))))
-    (writes-all low (λ message. masterAt (afterByte byte ninth) (standing message)) messages pull level old levels carried
+    (writes-all low (λ message. masterAt (afterByte byte ninth) (standing message)) messages pull level old levels
+    carried
     ∙ ap (λ masters. busOf masters pull level old levels carried)
     (map-alike (everyone (λ message. prepares-stop byte ninth (standing message)) messages)))
     ∙ ap (λ bus. writes last (recorded (writes rise bus)))
-    (turn-is (λ message. standingAs (lastBit (afterByte byte ninth)) (standing message)) messages (λ message. lowBit (standing message))
+    (turn-is (λ message. standingAs (lastBit (afterByte byte ninth)) (standing message)) messages
+    (λ message. lowBit (standing message))
     (λ message. isIn (standing message)) (λ message. isIn (standing message)) pull false false level old levels carried
-    (everyone (λ message. stop-turn (afterByte byte ninth) (standing message)) messages) (any-one one) (ap not (any-one one)))
+    (everyone (λ message. stop-turn (afterByte byte ninth) (standing message)) messages) (any-one one)
+    (ap not (any-one one)))
     ∙ ap (λ bus. writes last (recorded bus))
-    (writes-all rise (λ message. standingAs lowBit (standing message)) messages false 1 old (levels ++ 0 ∷ 1 ∷ []) carried
+    (writes-all rise (λ message. standingAs lowBit (standing message)) messages false 1 old (levels ++ 0 ∷ 1 ∷ [])
+    carried
     ∙ ap (λ masters. busOf masters false 1 old (levels ++ 0 ∷ 1 ∷ []) carried)
     (map-alike (everyone (λ message. releases (standing message)) messages)))
     ∙ ap (writes last)
-    (record-all (λ message. standingAs letsRise (standing message)) messages (λ message. letsRise (standing message)) false 1 old
+    (record-all (λ message. standingAs letsRise (standing message)) messages (λ message. letsRise (standing message))
+    false 1 old
     (levels ++ 0 ∷ 1 ∷ []) carried true true
     (ap not (any-none (everyone (λ message. quiet-scl (standing message)) messages)))
     (ap not (any-none (everyone (λ message. quiet-sda (standing message)) messages))))
-    ∙ writes-all last (λ message. withUsi (samples true true (letsRise (standing message))) (standingAs letsRise (standing message)))
+    ∙ writes-all last
+    (λ message. withUsi (samples true true (letsRise (standing message))) (standingAs letsRise (standing message)))
     messages false 3 old (levels ++ 0 ∷ 1 ∷ [] ++ 3 ∷ []) carried
     ∙ ap₂ (λ masters recording. busOf masters false 3 old recording carried)
     (map-alike (everyone (λ message. sees-stop (standing message)) messages))

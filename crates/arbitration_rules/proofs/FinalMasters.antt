@@ -39,10 +39,12 @@ byte-of-position byte own index = omega (arith, unequal-within (byteBits byte) (
 abbrev Rest : ℕ → List ℕ → List ℕ → Type 0
 Rest index all rest = (i : ℕ) → getD all (index + i) 0 ≡ getD rest i 0
 
-rest-on : (index : ℕ) (all : List ℕ) (byte : ℕ) (rest : List ℕ) → Rest index all (byte ∷ rest) → Rest (suc index) all rest
+rest-on : (index : ℕ) (all : List ℕ) (byte : ℕ) (rest : List ℕ) → Rest index all (byte ∷ rest)
+    → Rest (suc index) all rest
 rest-on index all byte rest is i = ap (λ (k : ℕ). getD all k 0) (omega arith) ∙ is (suc i)
 
-at-index : (index : ℕ) (all : List ℕ) (byte : ℕ) (rest : List ℕ) → Rest index all (byte ∷ rest) → getD all index 0 ≡ byte
+at-index : (index : ℕ) (all : List ℕ) (byte : ℕ) (rest : List ℕ) → Rest index all (byte ∷ rest)
+    → getD all index 0 ≡ byte
 at-index index all byte rest is = ap (λ (k : ℕ). getD all k 0) (omega arith) ∙ is 0
 
 module _ (carried message : List ℕ) where
@@ -51,27 +53,35 @@ module _ (carried message : List ℕ) where
   final-from index [] own c m = refl
   final-from index (byte ∷ bytes) [] c m = refl
   final-from index (byte ∷ bytes) (first ∷ own) c m =
-      go (eqb first byte) (final-from (suc index) bytes own (rest-on index carried byte bytes c) (rest-on index message first own m))
+      go (eqb first byte)
+      (final-from (suc index) bytes own (rest-on index carried byte bytes c) (rest-on index message first own m))
     where
       go : (same : Bool)
-          → standingAs usiAtEnd (against (suc index) bytes own) ≡ finalAs carried message (lossFrom (suc index) bytes own)
-          → standingAs usiAtEnd (cond same (against (suc index) bytes own) (out byte (bitAt 0 first) (positionIn byte first index)))
+          → standingAs usiAtEnd (against (suc index) bytes own)
+          ≡ finalAs carried message (lossFrom (suc index) bytes own)
+          → standingAs usiAtEnd
+          (cond same (against (suc index) bytes own) (out byte (bitAt 0 first) (positionIn byte first index)))
           ≡ finalAs carried message (cond same (lossFrom (suc index) bytes own) (some (positionIn byte first index)))
       go true rest = rest
       go false rest =
           ap₂
           (λ register own-byte. standingAs usiAtEnd (out register (bitAt 0 own-byte) (positionIn byte first index)))
-          (sym (ap (λ (k : ℕ). getD carried k 0) (byte-of-position byte first index) ∙ at-index index carried byte bytes c))
-          (sym (ap (λ (k : ℕ). getD message k 0) (byte-of-position byte first index) ∙ at-index index message first own m))
+          (sym (ap (λ (k : ℕ). getD carried k 0) (byte-of-position byte first index)
+          ∙ at-index index carried byte bytes c))
+          (sym (ap (λ (k : ℕ). getD message k 0) (byte-of-position byte first index)
+          ∙ at-index index message first own m))
 
   final-is : standingAs usiAtEnd (against 0 carried message) ≡ finalMaster carried message
-  final-is = final-from 0 carried message (λ i. ap (λ (k : ℕ). getD carried k 0) (omega arith)) (λ i. ap (λ (k : ℕ). getD message k 0) (omega arith))
+  final-is =
+      final-from 0 carried message (λ i. ap (λ (k : ℕ). getD carried k 0) (omega arith))
+      (λ i. ap (λ (k : ℕ). getD message k 0) (omega arith))
 
 -- the masters at the end of a run
 pub final-masters : (messages : List (List ℕ)) (acknowledges : List ℕ) → Arbitration messages acknowledges
     → run messages acknowledges .masters ≡ map (finalMaster (carriedOf messages acknowledges)) messages
 final-masters messages acknowledges given =
-    ended messages acknowledges given .masters ∙ map-alike (everyone (final-is (carriedOf messages acknowledges)) messages)
+    ended messages acknowledges given .masters
+    ∙ map-alike (everyone (final-is (carriedOf messages acknowledges)) messages)
 
 -- after the STOP both lines are released
 quiet : (carried message : List ℕ) (loss : Option ℕ)

@@ -26,7 +26,8 @@ module _ (messages : List (List ℕ)) (acknowledge : ℕ) (acknowledges : List �
       ≡ cond (eqb acknowledge 1 || through messages (suc index) (after .masters)) after
       (bytesTurn messages acknowledges (suc index) after)
   unrolled =
-      ap (λ b. cond (eqb acknowledge 1 || through messages (suc index) (b .masters)) b (bytesTurn messages acknowledges (suc index) b))
+      ap (λ b. cond (eqb acknowledge 1 || through messages (suc index) (b .masters)) b
+      (bytesTurn messages acknowledges (suc index) b))
       turn
 
   stops-here : eqb acknowledge 1 || through messages (suc index) (after .masters) ≡ true
@@ -48,7 +49,8 @@ pub record Carried (bus : Bus) (messages : List (List ℕ)) (carried levels byte
 -- it ends with this byte
 ends : (messages : List (List ℕ)) (carried : List ℕ) (byte acknowledge : ℕ) (acknowledges levels bytes : List ℕ)
     → Carried
-    (busOf (waits (afterByte byte (ninthBit acknowledge)) (against 0 (carried ++ byte ∷ [])) messages) (eqb acknowledge 0)
+    (busOf (waits (afterByte byte (ninthBit acknowledge)) (against 0 (carried ++ byte ∷ [])) messages)
+    (eqb acknowledge 0)
     (levelOf true (ninthBit acknowledge)) byte (levels ++ drawEvent (byte + 256 * acknowledge)) (bytes ++ byte ∷ []))
     messages (carried ++ byte ∷ []) (levels ++ drawEvents (byteEvents (byte ∷ []) (acknowledge ∷ acknowledges)))
     (bytes ++ byte ∷ [])
@@ -59,19 +61,24 @@ ends messages carried byte acknowledge acknowledges levels bytes =
       pull = eqb acknowledge 0;
       level = levelOf true (ninthBit acknowledge);
       is =
-          ap (λ recording. busOf (waits (afterByte byte (ninthBit acknowledge)) (against 0 (carried ++ byte ∷ [])) messages)
+          ap (λ recording. busOf
+          (waits (afterByte byte (ninthBit acknowledge)) (against 0 (carried ++ byte ∷ [])) messages)
           (eqb acknowledge 0) (levelOf true (ninthBit acknowledge)) byte (levels ++ recording) (bytes ++ byte ∷ []))
           (sym (append-nil (drawEvent (byte + 256 * acknowledge))));
     }
 
 -- it goes on after it
-goes-on : {bus : Bus} {messages : List (List ℕ)} (carried : List ℕ) (byte acknowledge : ℕ) (rest acknowledges levels bytes : List ℕ)
+goes-on : {bus : Bus} {messages : List (List ℕ)} (carried : List ℕ) (byte acknowledge : ℕ)
+    (rest acknowledges levels bytes : List ℕ)
     → Carried bus messages (carried ++ byte ∷ [] ++ rest)
-    (levels ++ drawEvent (byte + 256 * acknowledge) ++ drawEvents (byteEvents rest acknowledges)) (bytes ++ byte ∷ [] ++ rest)
-    → Carried bus messages (carried ++ byte ∷ rest) (levels ++ drawEvents (byteEvents (byte ∷ rest) (acknowledge ∷ acknowledges)))
+    (levels ++ drawEvent (byte + 256 * acknowledge) ++ drawEvents (byteEvents rest acknowledges))
+    (bytes ++ byte ∷ [] ++ rest)
+    → Carried bus messages (carried ++ byte ∷ rest)
+    (levels ++ drawEvents (byteEvents (byte ∷ rest) (acknowledge ∷ acknowledges)))
     (bytes ++ byte ∷ rest)
 goes-on {bus} {messages} carried byte acknowledge rest acknowledges levels bytes more =
-    subst (λ c. Carried bus messages c (levels ++ drawEvents (byteEvents (byte ∷ rest) (acknowledge ∷ acknowledges))) (bytes ++ byte ∷ rest))
+    subst (λ c. Carried bus messages c (levels ++ drawEvents (byteEvents (byte ∷ rest) (acknowledge ∷ acknowledges)))
+    (bytes ++ byte ∷ rest))
     (append-assoc carried (byte ∷ []) rest)
     (subst (λ l. Carried bus messages (carried ++ byte ∷ [] ++ rest) l (bytes ++ byte ∷ rest))
     (append-assoc levels (drawEvent (byte + 256 * acknowledge)) (drawEvents (byteEvents rest acknowledges)))
@@ -96,10 +103,12 @@ longer carried byte index at = length-append carried (byte ∷ []) ∙ add-one (
 
 on : {messages : List (List ℕ)} (carried : List ℕ) (byte next : ℕ) (more : List ℕ)
     → Contest messages (carried ++ byte ∷ next ∷ more) → Contest messages (carried ++ byte ∷ [] ++ next ∷ more)
-on {messages} carried byte next more contest = subst (Contest messages) (sym (append-assoc carried (byte ∷ []) (next ∷ more))) contest
+on {messages} carried byte next more contest =
+    subst (Contest messages) (sym (append-assoc carried (byte ∷ []) (next ∷ more))) contest
 
 -- the byte at an index, which is how many have been carried
-turn-at : (messages : List (List ℕ)) (carried : List ℕ) (byte : ℕ) (more : List ℕ) → Contest messages (carried ++ byte ∷ more)
+turn-at : (messages : List (List ℕ)) (carried : List ℕ) (byte : ℕ) (more : List ℕ)
+    → Contest messages (carried ++ byte ∷ more)
     → (index : ℕ) → length carried ≡ index
     → (acknowledge : ℕ) (pause : Pause) (pull : Bool) (level old : ℕ) (levels bytes : List ℕ) → acknowledge ≤ 1
     → byteTurn messages index acknowledge (busOf (waits pause (against 0 carried) messages) pull level old levels bytes)
@@ -107,39 +116,51 @@ turn-at : (messages : List (List ℕ)) (carried : List ℕ) (byte : ℕ) (more :
     (eqb acknowledge 0) (levelOf true (ninthBit acknowledge)) byte (levels ++ drawEvent (byte + 256 * acknowledge))
     (bytes ++ byte ∷ [])
 turn-at messages carried byte more contest index at acknowledge pause pull level old levels bytes one =
-    ap (λ (i : ℕ). byteTurn messages i acknowledge (busOf (waits pause (against 0 carried) messages) pull level old levels bytes)) (sym at)
+    ap (λ (i : ℕ). byteTurn messages i acknowledge
+    (busOf (waits pause (against 0 carried) messages) pull level old levels bytes)) (sym at)
     ∙ carry-byte messages carried byte more contest acknowledge pause pull level old levels bytes one
 
-pub carries : (messages : List (List ℕ)) (acknowledges : List ℕ) (index : ℕ) (carried : List ℕ) (byte : ℕ) (more : List ℕ)
+pub carries : (messages : List (List ℕ)) (acknowledges : List ℕ) (index : ℕ) (carried : List ℕ) (byte : ℕ)
+    (more : List ℕ)
     (pause : Pause) (pull : Bool) (level old : ℕ) (levels bytes : List ℕ)
     → Contest messages (carried ++ byte ∷ more) → length carried ≡ index
     → Everyone (λ acknowledge. acknowledge ≤ 1) acknowledges → length more < length acknowledges
-    → Carried (bytesTurn messages acknowledges index (busOf (waits pause (against 0 carried) messages) pull level old levels bytes))
+    → Carried (bytesTurn messages acknowledges index
+    (busOf (waits pause (against 0 carried) messages) pull level old levels bytes))
     messages
     (carried ++ take (carriedCount (byte ∷ more) acknowledges) (byte ∷ more))
     (levels ++ drawEvents (byteEvents (take (carriedCount (byte ∷ more) acknowledges) (byte ∷ more)) acknowledges))
     (bytes ++ take (carriedCount (byte ∷ more) acknowledges) (byte ∷ more))
-carries messages [] index carried byte more pause pull level old levels bytes contest at ones enough = absurd (omega arith)
-carries messages (zero ∷ acknowledges) index carried byte [] pause pull level old levels bytes contest at (also one ones) enough =
+carries messages [] index carried byte more pause pull level old levels bytes contest at ones enough =
+    absurd (omega arith)
+carries messages (zero ∷ acknowledges) index carried byte [] pause pull level old levels bytes contest at
+    (also one ones) enough =
     from
-    (stops-here messages 0 acknowledges index _ _ (turn-at messages carried byte [] contest index at 0 pause pull level old levels bytes one)
+    (stops-here messages 0 acknowledges index _ _
+    (turn-at messages carried byte [] contest index at 0 pause pull level old levels bytes one)
     (ap (λ (i : ℕ). through messages i (waits (afterByte byte false) (against 0 (carried ++ byte ∷ [])) messages))
     (sym (longer carried byte index at))
     ∙ all-sent messages (carried ++ byte ∷ []) (afterByte byte false) contest))
     (ends messages carried byte 0 acknowledges levels bytes)
-carries messages (zero ∷ acknowledges) index carried byte (next ∷ more) pause pull level old levels bytes contest at (also one ones) enough =
+carries messages (zero ∷ acknowledges) index carried byte (next ∷ more) pause pull level old levels bytes contest at
+    (also one ones) enough =
     from
     (continues messages 0 acknowledges index _ _
     (turn-at messages carried byte (next ∷ more) contest index at 0 pause pull level old levels bytes one)
     (ap (λ (i : ℕ). through messages i (waits (afterByte byte false) (against 0 (carried ++ byte ∷ [])) messages))
     (sym (longer carried byte index at))
-    ∙ more-to-send messages (carried ++ byte ∷ []) next more (afterByte byte false) (on carried byte next more contest)))
+    ∙ more-to-send messages (carried ++ byte ∷ []) next more (afterByte byte false)
+    (on carried byte next more contest)))
     (goes-on carried byte 0 (take (carriedCount (next ∷ more) acknowledges) (next ∷ more)) acknowledges levels bytes
     (carries messages acknowledges (suc index) (carried ++ byte ∷ []) next more (afterByte byte false) true 1 byte
-    (levels ++ drawEvent (byte + 256 * 0)) (bytes ++ byte ∷ []) (on carried byte next more contest) (longer carried byte index at) ones (omega arith)))
-carries messages (suc zero ∷ acknowledges) index carried byte more pause pull level old levels bytes contest at (also one ones) enough =
+    (levels ++ drawEvent (byte + 256 * 0)) (bytes ++ byte ∷ []) (on carried byte next more contest)
+    (longer carried byte index at) ones (omega arith)))
+carries messages (suc zero ∷ acknowledges) index carried byte more pause pull level old levels bytes contest at
+    (also one ones) enough =
     from
-    (stops-here messages 1 acknowledges index _ _ (turn-at messages carried byte more contest index at 1 pause pull level old levels bytes one) refl)
+    (stops-here messages 1 acknowledges index _ _
+    (turn-at messages carried byte more contest index at 1 pause pull level old levels bytes one) refl)
     (ends messages carried byte 1 acknowledges levels bytes)
-carries messages (suc (suc acknowledge) ∷ acknowledges) index carried byte more pause pull level old levels bytes contest at (also one ones) enough =
+carries messages (suc (suc acknowledge) ∷ acknowledges) index carried byte more pause pull level old levels bytes
+    contest at (also one ones) enough =
     absurd (omega arith)

@@ -94,7 +94,8 @@ listener byte sda role =
     }
 
 pub listens : (taken : List Bool) (sda : Bool) (role : Role) → Sending 0 role
-    → written USICNT 0x01 (written USICTL0 0xc8 (withdrawn (masterOf 0 taken sda role))) ≡ listener (number taken) sda role
+    → written USICNT 0x01 (written USICTL0 0xc8 (withdrawn (masterOf 0 taken sda role)))
+    ≡ listener (number taken) sda role
 unfolding written withdrawn writeByte settled followed countFlags
 listens taken sda (drives [] latch enable) sent = refl
 listens taken sda (drives (bit ∷ rest) latch enable) sent = absurd (omega arith)
@@ -104,7 +105,8 @@ listens taken sda (gone register latch position) sent = refl
 
 -- the turn of the acknowledge: nobody drives
 pub hears : (byte : ℕ) (sda ninth : Bool) (role : Role)
-    → Turns (listener byte sda role .usi) (contends role) false ninth (usiAt (afterByte byte ninth) (standingOf byte role))
+    → Turns (listener byte sda role .usi) (contends role) false ninth
+    (usiAt (afterByte byte ninth) (standingOf byte role))
 hears byte sda ninth (drives rest latch enable) = listening-turn byte latch enable sda ninth
 hears byte sda ninth (lost rest latch position) = released-turn byte latch sda ninth
 hears byte sda ninth (gone register latch position) = released-turn register latch sda ninth

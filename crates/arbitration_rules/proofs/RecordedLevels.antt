@@ -66,7 +66,8 @@ module _ (messages : List (List ℕ)) (acknowledges : List ℕ) (given : Arbitra
   bytes-small = carried-too (least-sendable messages given .bytes) (carriedCount (least messages) acknowledges)
 
   -- and 5 + 18k levels
-  pub levels-count : length (run messages acknowledges .levels) ≡ levelCount (carriedCount (least messages) acknowledges)
+  pub levels-count : length (run messages acknowledges .levels)
+      ≡ levelCount (carriedCount (least messages) acknowledges)
   unfolding carriedOf
   levels-count =
       ap length (ended messages acknowledges given .levels)

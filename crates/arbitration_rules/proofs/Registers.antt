@@ -27,17 +27,41 @@ record Ready (control flags : ℕ) : Type 0 where
 ready-to-drive : Ready 0xca 0x40
 unfolding lossControl
 ready-to-drive =
-    record { fitting = λ count. refl; clocks = λ count. refl; drives = λ phase. refl; moves = λ count. refl; opaque = refl; opaque-lost = refl }
+    record {
+      fitting = λ count. refl;
+      clocks = λ count. refl;
+      drives = λ phase. refl;
+      moves = λ count. refl;
+      opaque =
+          refl;
+      opaque-lost = refl;
+    }
 
 ready-though-beaten : Ready 0xc8 0x48
 unfolding lossControl
 ready-though-beaten =
-    record { fitting = λ count. refl; clocks = λ count. refl; drives = λ phase. refl; moves = λ count. refl; opaque = refl; opaque-lost = refl }
+    record {
+      fitting = λ count. refl;
+      clocks = λ count. refl;
+      drives = λ phase. refl;
+      moves = λ count. refl;
+      opaque =
+          refl;
+      opaque-lost = refl;
+    }
 
 ready-to-listen : Ready 0xc8 0x40
 unfolding lossControl
 ready-to-listen =
-    record { fitting = λ count. refl; clocks = λ count. refl; drives = λ phase. refl; moves = λ count. refl; opaque = refl; opaque-lost = refl }
+    record {
+      fitting = λ count. refl;
+      clocks = λ count. refl;
+      drives = λ phase. refl;
+      moves = λ count. refl;
+      opaque =
+          refl;
+      opaque-lost = refl;
+    }
 
 clocking : {control flags : ℕ} → Ready control flags → (n : ℕ) → suc n < 32 → Clocking control flags (suc n)
 unfolding lossControl
@@ -77,7 +101,8 @@ released register latch sda = between 0xc0 0x49 0x80 register latch false sda
 abbrev pub listening : (n register : ℕ) (latch enable sda : Bool) → Usi
 listening n register latch enable sda = between 0xc8 (ended n 0x40) n register latch enable sda
 
-pub turns-to : {usi v w : Usi} {clocks drives bit : Bool} → Turns usi clocks drives bit v → v ≡ w → Turns usi clocks drives bit w
+pub turns-to : {usi v w : Usi} {clocks drives bit : Bool} → Turns usi clocks drives bit v → v ≡ w
+    → Turns usi clocks drives bit w
 turns-to turns same =
     record {
       falls = turns .falls;
@@ -96,7 +121,8 @@ pub driving-turn : (n register : ℕ) (latch enable sda sent bit : Bool) → suc
 unfolding lossControl lossFlags
 driving-turn n register latch enable sda sent bit small first =
     turns-to
-    (clocking-turn 0xca 0x40 (suc n) register (clocking ready-to-drive n small) latch enable sda bit sent true first refl)
+    (clocking-turn 0xca 0x40 (suc n) register (clocking ready-to-drive n small) latch enable sda bit sent true first
+    refl)
     (settles 0xca 0x40 n register sent true bit (not (Bool·beq sent bit)) small ∙ shape sent bit)
   where
     shape : (sent bit : Bool)
@@ -114,7 +140,8 @@ pub beaten-turn : (n register : ℕ) (latch sda sent bit : Bool) → suc n < 32 
 unfolding lossControl lossFlags
 beaten-turn n register latch sda sent bit small first =
     turns-to
-    (clocking-turn 0xc8 0x48 (suc n) register (clocking ready-though-beaten n small) latch false sda bit sent false first refl)
+    (clocking-turn 0xc8 0x48 (suc n) register (clocking ready-though-beaten n small) latch false sda bit sent false
+    first refl)
     (settles 0xc8 0x48 n register sent false bit false small)
 
 pub listening-turn : (register : ℕ) (latch enable sda bit : Bool)
@@ -123,7 +150,8 @@ pub listening-turn : (register : ℕ) (latch enable sda bit : Bool)
 unfolding lossControl lossFlags
 listening-turn register latch enable sda bit =
     turns-to
-    (clocking-turn 0xc8 0x40 1 register (clocking ready-to-listen 0 (lit< tt)) latch enable sda bit (rules.firstBit register)
+    (clocking-turn 0xc8 0x40 1 register (clocking ready-to-listen 0 (lit< tt)) latch enable sda bit
+    (rules.firstBit register)
     false refl refl)
     (settles 0xc8 0x40 0 register (rules.firstBit register) false bit false (lit< tt))
 

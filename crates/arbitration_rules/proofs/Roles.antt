@@ -47,7 +47,13 @@ where-lost (gone register latch position) = position
 
 abbrev pub masterOf : ℕ → List Bool → Bool → Role → Master
 masterOf n taken sda role =
-    record { usi = usiOf n taken sda role; contending = contends role; lost = justLost role; position = where-lost role }
+    record {
+      usi = usiOf n taken sda role;
+      contending = contends role;
+      lost = justLost role;
+      position = where-lost
+          role;
+    }
 
 -- whether it pulls SCL low, and whether SDA
 abbrev pub clocks : Role → Bool
@@ -85,7 +91,8 @@ module _ (n : ℕ) (taken : List Bool) (eight : suc n + length taken ≡ 8) (sda
 
   shift : (sent : Bool) (rest : List Bool) → length rest ≡ n
       → rules.shifted (number (sent ∷ rest ++ taken)) bit ≡ number (rest ++ (taken ++ bit ∷ []))
-  shift sent rest size = shift-is sent (rest ++ taken) (seven rest size) bit ∙ ap number (append-assoc rest taken (bit ∷ []))
+  shift sent rest size =
+      shift-is sent (rest ++ taken) (seven rest size) bit ∙ ap number (append-assoc rest taken (bit ∷ []))
 
   small : suc n < 32
   small = omega arith

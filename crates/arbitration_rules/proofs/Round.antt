@@ -39,7 +39,8 @@ abbrev pub waits : Pause → (List ℕ → Standing) → List (List ℕ) → Lis
 waits pause standing messages = map (λ message. masterAt pause (standing message)) messages
 
 abbrev enters : Pause → (List ℕ → Standing) → ℕ → List ℕ → Role
-enters pause standing index message = entersAs (latchAt pause) (enableAt pause) (byteAt index message) (standing message)
+enters pause standing index message =
+    entersAs (latchAt pause) (enableAt pause) (byteAt index message) (standing message)
 
 opened-is : (messages : List (List ℕ)) (standing : List ℕ → Standing) (index : ℕ) (pause : Pause) (pull : Bool)
     (level byte : ℕ) (levels carried : List ℕ)
@@ -60,7 +61,8 @@ opened-is messages standing index pause pull level byte levels carried fits =
 closed-is : (taken : List Bool) (line : Line) (roles : List Role) (byte : ℕ) (levels carried : List ℕ)
     → Everyone (Sending 0) roles
     → closed (inByte 0 taken line roles byte levels carried)
-    ≡ busOf (map (listener (number taken) (line .sda)) roles) (line .pull) (line .level) byte levels (carried ++ byte ∷ [])
+    ≡ busOf (map (listener (number taken) (line .sda)) roles) (line .pull) (line .level) byte levels
+    (carried ++ byte ∷ [])
 unfolding closed
 closed-is taken line roles byte levels carried sent =
     ap (λ masters. busOf masters (line .pull) (line .level) byte levels (carried ++ byte ∷ []))
@@ -76,10 +78,12 @@ or-false false = refl
 acknowledge-turn : (byte : ℕ) (roles : List Role) (sda old pull : Bool) (level gathered : ℕ) (levels carried : List ℕ)
     → any contends roles ≡ true
     → bitTurn pull (busOf (map (listener byte sda) roles) old level gathered levels carried)
-    ≡ busOf (map (λ role. masterAt (afterByte byte (not pull)) (standingOf byte role)) roles) pull (levelOf true (not pull))
+    ≡ busOf (map (λ role. masterAt (afterByte byte (not pull)) (standingOf byte role)) roles) pull
+    (levelOf true (not pull))
     gathered (levels ++ drawBit (not pull)) carried
 acknowledge-turn byte roles sda old pull level gathered levels carried someone =
-    turn-is (listener byte sda) roles (λ role. usiAt (afterByte byte (not pull)) (standingOf byte role)) contends (λ role. false)
+    turn-is (listener byte sda) roles (λ role. usiAt (afterByte byte (not pull)) (standingOf byte role)) contends
+    (λ role. false)
     old pull (not pull) level gathered levels carried
     (everyone (hears byte sda (not pull)) roles) someone
     (ap (λ b. not (pull || b)) (any-none (everyone (λ role. refl) roles)) ∙ ap not (or-false pull))
@@ -120,20 +124,25 @@ byte-turn messages standing index byte acknowledge pause pull level old levels c
     ∙ ap (λ bus. bitTurn (eqb acknowledge 0) (closed bus))
     (turns (byteBits byte) [] refl (9 * index) entered line 0 levels carried all some)
     ∙ ap (bitTurn (eqb acknowledge 0))
-    (closed-is (byteBits byte) (lineAfter line (byteBits byte)) sent (number (byteBits byte)) (levels ++ drawBits (byteBits byte))
-    carried (everyone-map (turnsOf (9 * index) (byteBits byte)) (everyone-so (within-turns (9 * index) (byteBits byte)) all)))
+    (closed-is (byteBits byte) (lineAfter line (byteBits byte)) sent (number (byteBits byte))
+    (levels ++ drawBits (byteBits byte))
+    carried (everyone-map (turnsOf (9 * index) (byteBits byte))
+    (everyone-so (within-turns (9 * index) (byteBits byte)) all)))
     ∙ ap (λ b. bitTurn (eqb acknowledge 0)
     (busOf (map (listener b (lineAfter line (byteBits byte) .sda)) sent) false (lineAfter line (byteBits byte) .level) b
     (levels ++ drawBits (byteBits byte)) (carried ++ b ∷ [])))
     (number-bits byte small)
     ∙ acknowledge-turn byte sent (lineAfter line (byteBits byte) .sda) false (eqb acknowledge 0)
     (lineAfter line (byteBits byte) .level) byte (levels ++ drawBits (byteBits byte)) (carried ++ byte ∷ [])
-    (any-one (someone-map (turnsOf (9 * index) (byteBits byte)) (someone-so (leads-turns (9 * index) (byteBits byte)) some)))
-    ∙ ap₂ (λ masters recording. busOf masters (eqb acknowledge 0) (levelOf true (ninthBit acknowledge)) byte recording (carried ++ byte ∷ []))
+    (any-one (someone-map (turnsOf (9 * index) (byteBits byte))
+    (someone-so (leads-turns (9 * index) (byteBits byte)) some)))
+    ∙ ap₂ (λ masters recording. busOf masters (eqb acknowledge 0) (levelOf true (ninthBit acknowledge)) byte
+    recording (carried ++ byte ∷ []))
     (three-maps (λ role. masterAt (afterByte byte (ninthBit acknowledge)) (standingOf byte role))
     (turnsOf (9 * index) (byteBits byte)) (enters pause standing index) messages
     ∙ map-alike (everyone-so (λ message fit. ap (masterAt (afterByte byte (ninthBit acknowledge)))
-    (byte-decides index byte (byteAt index message) (latchAt pause) (enableAt pause) (standing message) small fit)) fits))
+    (byte-decides index byte (byteAt index message) (latchAt pause) (enableAt pause) (standing message) small fit))
+    fits))
     (append-assoc levels (drawBits (byteBits byte)) (drawBit (ninthBit acknowledge)))
   where
     line : Line
@@ -148,11 +157,14 @@ byte-turn messages standing index byte acknowledge pause pull level old levels c
     all : Everyone (Within (byteBits byte)) entered
     all =
         everyone-map (enters pause standing index)
-        (everyone-so (λ message both. fair-enters byte (byteAt index message) (latchAt pause) (enableAt pause) (standing message) small
+        (everyone-so
+        (λ message both. fair-enters byte (byteAt index message) (latchAt pause) (enableAt pause)
+        (standing message) small
         (both .0) (both .1)) (everyone-both fits fair))
 
     some : Someone (Leads (byteBits byte)) entered
     some =
         someone-map (enters pause standing index)
-        (someone-so (λ message both. leader-enters byte (byteAt index message) (latchAt pause) (enableAt pause) (standing message)
+        (someone-so (λ message both. leader-enters byte (byteAt index message) (latchAt pause) (enableAt pause)
+        (standing message)
         (both .0) (both .1)) leader)

@@ -32,7 +32,8 @@ behind messages sent masters =
 -- a test on each final master and its message
 ask : (test : List ℕ → Bool) (carried : List ℕ) (messages : List (List ℕ))
     → any (λ (b : Bool). b)
-    (zipWith (λ (master : Master) message. master .contending && test message) (map (finalMaster carried) messages) messages)
+    (zipWith (λ (master : Master) message. master .contending && test message) (map (finalMaster carried) messages)
+    messages)
     ≡ any (λ message. fate (lossFrom 0 carried message) .contending && test message) messages
 ask test carried messages =
     ap (any (λ (b : Bool). b))
@@ -43,18 +44,21 @@ ask test carried messages =
 no-loss : (index : ℕ) (message : List ℕ) → lossFrom index message message ≡ none
 no-loss index [] = refl
 no-loss index (byte ∷ message) =
-    ap (λ same. cond same (lossFrom (suc index) message message) (some (positionIn byte byte index))) (eq-eqb byte byte refl)
+    ap (λ same. cond same (lossFrom (suc index) message message) (some (positionIn byte byte index)))
+    (eq-eqb byte byte refl)
     ∙ no-loss (suc index) message
 
 module _ (messages : List (List ℕ)) (acknowledges : List ℕ) (given : Arbitration messages acknowledges) where
   -- where every byte of the least message is acknowledged it is carried whole
-  carried-whole : allAcknowledged (least messages) acknowledges ≡ true → carriedOf messages acknowledges ≡ least messages
+  carried-whole : allAcknowledged (least messages) acknowledges ≡ true
+      → carriedOf messages acknowledges ≡ least messages
   unfolding carriedOf
   carried-whole all = whole (least messages) acknowledges all
 
   sent-whole : allAcknowledged (least messages) acknowledges ≡ true
       → carriedCount (least messages) acknowledges ≡ length (least messages)
-  sent-whole all = sym (carried-count (least messages) acknowledges) ∙ ap length (whole (least messages) acknowledges all)
+  sent-whole all =
+      sym (carried-count (least messages) acknowledges) ∙ ap length (whole (least messages) acknowledges all)
 
   masters-whole : allAcknowledged (least messages) acknowledges ≡ true
       → run messages acknowledges .masters ≡ map (finalMaster (least messages)) messages
@@ -93,10 +97,12 @@ module _ (messages : List (List ℕ)) (acknowledges : List ℕ) (given : Arbitra
   torn applies =
       let apart = torn-apart messages acknowledges applies in (
         apart .acknowledged,
-        ap₂ (λ (count : ℕ) masters. through messages count masters) (sent-whole (apart .acknowledged)) (masters-whole (apart .acknowledged))
+        ap₂ (λ (count : ℕ) masters. through messages count masters) (sent-whole (apart .acknowledged))
+            (masters-whole (apart .acknowledged))
             ∙ ask (λ message. leb (length message) (length (least messages))) (least messages) messages
             ∙ any-one (someone-so ends-with-it (apart .ends)),
-        ap₂ (λ (count : ℕ) masters. behind messages count masters) (sent-whole (apart .acknowledged)) (masters-whole (apart .acknowledged))
+        ap₂ (λ (count : ℕ) masters. behind messages count masters) (sent-whole (apart .acknowledged))
+            (masters-whole (apart .acknowledged))
             ∙ ask (λ message. ltb (length (least messages)) (length message)) (least messages) messages
             ∙ any-one (someone-so goes-on-after (apart .goes-on)),
       )
@@ -113,4 +119,5 @@ module _ (messages : List (List ℕ)) (acknowledges : List ℕ) (given : Arbitra
           → (lossFrom 0 (least messages) own ≡ none) × (length (least messages) < length own)
           → fate (lossFrom 0 (least messages) own) .contending && ltb (length (least messages)) (length own) ≡ true
       goes-on-after own both =
-          ap₂ (λ loss more. fate loss .contending && more) (both .0) (lt-ltb (length (least messages)) (length own) (both .1))
+          ap₂ (λ loss more. fate loss .contending && more) (both .0)
+          (lt-ltb (length (least messages)) (length own) (both .1))

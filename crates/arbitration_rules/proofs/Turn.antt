@@ -73,10 +73,14 @@ tick-fits usi fitting = ap (λ fit. moduleOf (cond fit (Next (ticked usi)) (Refu
 
 sample-fits : (scl sda : Bool) (usi : Usi) → fits usi ≡ true → samples scl sda usi ≡ sampled scl sda usi
 unfolding sample
-sample-fits true true usi fitting = ap (λ fit. moduleOf (cond fit (Next (sampled true true usi)) (Refused 3 usi))) fitting
-sample-fits true false usi fitting = ap (λ fit. moduleOf (cond fit (Next (sampled true false usi)) (Refused 3 usi))) fitting
-sample-fits false true usi fitting = ap (λ fit. moduleOf (cond fit (Next (sampled false true usi)) (Refused 3 usi))) fitting
-sample-fits false false usi fitting = ap (λ fit. moduleOf (cond fit (Next (sampled false false usi)) (Refused 3 usi))) fitting
+sample-fits true true usi fitting =
+    ap (λ fit. moduleOf (cond fit (Next (sampled true true usi)) (Refused 3 usi))) fitting
+sample-fits true false usi fitting =
+    ap (λ fit. moduleOf (cond fit (Next (sampled true false usi)) (Refused 3 usi))) fitting
+sample-fits false true usi fitting =
+    ap (λ fit. moduleOf (cond fit (Next (sampled false true usi)) (Refused 3 usi))) fitting
+sample-fits false false usi fitting =
+    ap (λ fit. moduleOf (cond fit (Next (sampled false false usi)) (Refused 3 usi))) fitting
 
 -- with GE=0 the latch holds
 held : (usi : Usi) → rules.transparent (usi .usictl0) ≡ false → followed usi ≡ usi
@@ -122,7 +126,8 @@ module _ (control flags count register : ℕ) (clocking : Clocking control flags
   unfolding conditionFlags conditionCount risen fallen edged
   fall latch enable sda before =
       sample-fits false before _ (clocking .fitting)
-      ∙ ap (λ moves. followed (recorded false before (stretched false (cond moves (latched low) low)))) (clocking .moves)
+      ∙ ap (λ moves. followed (recorded false before (stretched false (cond moves (latched low) low))))
+      (clocking .moves)
       ∙ held _ (clocking .opaque)
     where
       low : Usi
@@ -151,7 +156,8 @@ module _ (control flags count register : ℕ) (clocking : Clocking control flags
   unfolding conditionFlags conditionCount risen fallen edged
   rise latch enable sda bit =
       sample-fits true bit _ (clocking .fitting)
-      ∙ ap (λ takes. followed (recorded true bit (stretched true (fallen true (cond takes (bitTaken bit high) high))))) (clocking .counting)
+      ∙ ap (λ takes. followed
+      (recorded true bit (stretched true (fallen true (cond takes (bitTaken bit high) high))))) (clocking .counting)
       ∙ held _ (clocking .opaque-after (rules.loses control enable latch bit))
     where
       high : Usi

@@ -113,7 +113,8 @@ ends-together messages acknowledges bits settled = go (allAcknowledged (least me
         inr (
           all,
           everyone-so (λ own both. ends-with 0 (at-most (least messages) own (both .0)) (both .1))
-              (everyone-both (least-at-most messages) (any-false (begins (least messages)) messages (rw all at settled))),
+              (everyone-both (least-at-most messages)
+              (any-false (begins (least messages)) messages (rw all at settled))),
         )
 
 -- 16 applies: no byte of the least message is refused, one master ends with it, and another, still in, goes on

@@ -26,7 +26,9 @@ module _ {A : Type 0} (master : A → Master) (l : List A) where
   module _ (usi : A → Usi) (pull : Bool) (level byte : ℕ) (levels carried : List ℕ) where
     tick-all : every Tick (busOf (stage usi) pull level byte levels carried)
         ≡ busOf (stage (λ a. ticks (usi a))) pull level byte levels carried
-    tick-all = ap (λ masters. busOf masters pull level byte levels carried) (map-map (applied Tick) (λ a. withUsi (usi a) (master a)) l)
+    tick-all =
+        ap (λ masters. busOf masters pull level byte levels carried)
+        (map-map (applied Tick) (λ a. withUsi (usi a) (master a)) l)
 
     -- the level of the wire, from who pulls it, and the sample of it
     module _ (scl sda : Bool) (clock : not (any (λ a. pullsScl (usi a)) l) ≡ scl)
@@ -36,7 +38,8 @@ module _ {A : Type 0} (master : A → Master) (l : List A) where
       wire-is =
           ap₂ levelOf
           (ap not (any-map (λ (m : Master). pullsScl (m .usi)) (λ a. withUsi (usi a) (master a)) l) ∙ clock)
-          (ap (λ drive. not (pull || drive)) (any-map (λ (m : Master). pullsSda (m .usi)) (λ a. withUsi (usi a) (master a)) l)
+          (ap (λ drive. not (pull || drive))
+          (any-map (λ (m : Master). pullsSda (m .usi)) (λ a. withUsi (usi a) (master a)) l)
           ∙ line)
 
       sample-all : sampled (busOf (stage usi) pull level byte levels carried)
@@ -48,12 +51,14 @@ module _ {A : Type 0} (master : A → Master) (l : List A) where
           (map-map (applied (Sample (levelOf scl sda))) (λ a. withUsi (usi a) (master a)) l)
 
       pub record-all : recorded (busOf (stage usi) pull level byte levels carried)
-          ≡ busOf (stage (λ a. samples scl sda (usi a))) pull (levelOf scl sda) byte (levels ++ levelOf scl sda ∷ []) carried
+          ≡ busOf (stage (λ a. samples scl sda (usi a))) pull (levelOf scl sda) byte (levels ++ levelOf scl sda ∷ [])
+          carried
       unfolding recorded
       record-all = ap noted sample-all
 
   -- the turn: someone clocks, and SDA is pulled by who drives and by the acknowledge
-  pub turn-is : (after : A → Usi) (clocks drives : A → Bool) (old pull bit : Bool) (level byte : ℕ) (levels carried : List ℕ)
+  pub turn-is : (after : A → Usi) (clocks drives : A → Bool) (old pull bit : Bool) (level byte : ℕ)
+      (levels carried : List ℕ)
       → Everyone (λ a. Turns (master a .usi) (clocks a) (drives a) bit (after a)) l
       → any clocks l ≡ true → not (pull || any drives l) ≡ bit
       → bitTurn pull (busOf (map master l) old level byte levels carried)
@@ -72,7 +77,8 @@ module _ {A : Type 0} (master : A → Master) (l : List A) where
       ∙ ap recorded
       (tick-all (λ a. samples false bit (lowered before (master a .usi))) pull (levelOf false bit) byte
       (levels ++ levelOf false bit ∷ []) carried)
-      ∙ record-all (λ a. raised bit before (master a .usi)) pull (levelOf false bit) byte (levels ++ levelOf false bit ∷ []) carried
+      ∙ record-all (λ a. raised bit before (master a .usi)) pull (levelOf false bit) byte
+      (levels ++ levelOf false bit ∷ []) carried
       true bit
       (ap not (any-none (everyone-so (λ a t. t .high before) turns)))
       (ap (λ drive. not (pull || drive)) (any-alike (everyone-so (λ a t. t .drives-high before) turns)) ∙ shown)
@@ -94,5 +100,6 @@ pub writes-all : {A : Type 0} (list : List (ℕ × ℕ)) (master : A → Master)
     ≡ busOf (map (λ a. writesOf list (master a)) l) pull level byte levels carried
 writes-all [] master l pull level byte levels carried = refl
 writes-all (write ∷ more) master l pull level byte levels carried =
-    ap (λ masters. writes more (busOf masters pull level byte levels carried)) (map-map (written (write .0) (write .1)) master l)
+    ap (λ masters. writes more (busOf masters pull level byte levels carried))
+    (map-map (written (write .0) (write .1)) master l)
     ∙ writes-all more (λ a. written (write .0) (write .1) (master a)) l pull level byte levels carried
