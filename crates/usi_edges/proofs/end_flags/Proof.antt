@@ -1,7 +1,7 @@
 use Rattle.bits.proofs.Branches.{branches}
 use Rattle.usi_rules.specs.Rules.{endFlags}
-use Rattle.usi_rules.proofs.end_flags.Statement.{statement}
-use Rattle.usi_rules.proofs.end_flags.Tie as tie
+use Rattle.usi_edges.proofs.end_flags.Statement.{statement}
+use Rattle.usi_edges.proofs.end_flags.Tie as tie
 
 returns : tie.Need-returns
 unfolding endFlags

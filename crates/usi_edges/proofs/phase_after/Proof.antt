@@ -1,7 +1,7 @@
 use Rattle.bits.proofs.Branches.{branches}
 use Rattle.usi_rules.specs.Rules.{phaseAfter}
-use Rattle.usi_rules.proofs.phase_after.Statement.{statement}
-use Rattle.usi_rules.proofs.phase_after.Tie as tie
+use Rattle.usi_edges.proofs.phase_after.Statement.{statement}
+use Rattle.usi_edges.proofs.phase_after.Tie as tie
 
 returns : tie.Need-returns
 unfolding phaseAfter

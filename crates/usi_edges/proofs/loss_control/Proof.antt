@@ -1,7 +1,7 @@
 use Rattle.bits.proofs.Branches.{branches}
 use Rattle.usi_rules.specs.Rules.{lossControl}
-use Rattle.usi_rules.proofs.loss_control.Statement.{statement}
-use Rattle.usi_rules.proofs.loss_control.Tie as tie
+use Rattle.usi_edges.proofs.loss_control.Statement.{statement}
+use Rattle.usi_edges.proofs.loss_control.Tie as tie
 
 returns : tie.Need-returns
 unfolding lossControl

@@ -3,8 +3,8 @@ use mathlib.Core.Path.{sym, ap, _∙_}
 use Prim.Native.Nat.{ℕ, _-_}
 use lib.Bits.{bitAnd, bitOr, or-zero-r}
 use borrow.Author.Needs.{needs}
-use Rattle.usi_rules.proofs.count_down.Statement.{statement}
-use Rattle.usi_rules.proofs.count_down.Tie as tie
+use Rattle.usi_edges.proofs.count_down.Statement.{statement}
+use Rattle.usi_edges.proofs.count_down.Tie as tie
 
 returns : tie.Need-returns
 returns c =
