@@ -11,7 +11,7 @@ use lib.Dec.{eqb}
 use lib.Bits.{bitAnd, bitOr, and-step, or-step, and-shr, or-shr, and-mask, and-high, or-shifted}
 use borrow.Author.Tests.{eq-eqb, ne-eqb}
 use mir.Val.{boolByte}
-use Rattle.bits.specs.Positions.{digit, isSet, field, bit, lowest, on, off, shiftIn}
+use Rattle.bits.specs.Positions.{digit, isSet, field, bit, lowest, on, off, raise, clear, shiftIn}
 
 -- a digit is 0 or 1: a claim about it is checked at both
 at-digit : (P : ℕ → Type 0) → P 0 → P 1 → (d : ℕ) → d < 2 → P d
@@ -77,7 +77,8 @@ off-bit x p =
 pub field-mask : (position width x : ℕ) → bitAnd (x / 2 ^ position) (lowest width) ≡ field position width x
 field-mask position width x = and-mask (x / 2 ^ position) width
 
-bool-lt : (b : Bool) → boolByte b < 2
+-- a bit as a number
+pub bool-lt : (b : Bool) → boolByte b < 2
 bool-lt true = omega arith
 bool-lt false = omega arith
 
@@ -88,8 +89,41 @@ shift-or x low =
     ap (λ (a : ℕ). bitOr a (boolByte low)) even ∙ or-shifted (x % 128) 1 (boolByte low) (bool-lt low)
     ∙ ap (λ (a : ℕ). a + boolByte low) (sym even)
 
+-- a number below 2^p has no bit at p
+pub small-unset : (x position : ℕ) → x < 2 ^ position → isSet position x ≡ false
+small-unset x p small = ap (λ (q : ℕ). eqb (q % 2) 1) (div-eq-of-lt small)
+
 -- a byte has no bit from position 8 on
 pub past-byte : (position x : ℕ) → 8 ≤ position → x < 256 → isSet position x ≡ false
-past-byte position x past small =
-    let above : x < 2 ^ position = lt-of-lt-of-le small (pow-mono past) in
-    ap (λ (q : ℕ). eqb (q % 2) 1) (div-eq-of-lt above)
+past-byte position x past small = small-unset x position (lt-of-lt-of-le small (pow-mono past))
+
+or-false : (b : Bool) → b || false ≡ b
+or-false true = refl
+or-false false = refl
+
+and-true : (b : Bool) → b && true ≡ b
+and-true true = refl
+and-true false = refl
+
+-- setting or clearing the bits of a mask leaves a bit outside it
+isSet-raised : (x mask position : ℕ) → isSet position mask ≡ false → isSet position (raise x mask) ≡ isSet position x
+isSet-raised x mask p outside =
+    isSet-or p x mask ∙ ap (λ (b : Bool). isSet p x || b) outside ∙ or-false (isSet p x)
+
+isSet-cleared : (x mask position : ℕ) → isSet position (255 - mask) ≡ true → isSet position (clear x mask) ≡ isSet position x
+isSet-cleared x mask p outside =
+    isSet-and p x (255 - mask) ∙ ap (λ (b : Bool). isSet p x && b) outside ∙ and-true (isSet p x)
+
+pub on-raised : (x mask position : ℕ) → isSet position mask ≡ false → on (raise x mask) (bit position) ≡ on x (bit position)
+on-raised x mask p outside = on-bit (raise x mask) p ∙ isSet-raised x mask p outside ∙ sym (on-bit x p)
+
+pub off-raised : (x mask position : ℕ) → isSet position mask ≡ false → off (raise x mask) (bit position) ≡ off x (bit position)
+off-raised x mask p outside =
+    off-bit (raise x mask) p ∙ ap not (isSet-raised x mask p outside) ∙ sym (off-bit x p)
+
+pub on-cleared : (x mask position : ℕ) → isSet position (255 - mask) ≡ true → on (clear x mask) (bit position) ≡ on x (bit position)
+on-cleared x mask p outside = on-bit (clear x mask) p ∙ isSet-cleared x mask p outside ∙ sym (on-bit x p)
+
+pub off-cleared : (x mask position : ℕ) → isSet position (255 - mask) ≡ true → off (clear x mask) (bit position) ≡ off x (bit position)
+off-cleared x mask p outside =
+    off-bit (clear x mask) p ∙ ap not (isSet-cleared x mask p outside) ∙ sym (off-bit x p)

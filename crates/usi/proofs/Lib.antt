@@ -1,1 +1,4 @@
 pub mod Registers
+pub mod SetUp
+pub mod Resting
+pub mod Worked

@@ -2,7 +2,7 @@
 ghost use mathlib.Core.Path.{_≡_};
 ghost use Prim.Native.Nat.{_+_, _*_};
 ghost use Rattle.usi.specs.Module.{powerUp, atRest, fits as fitsRule, pullsSda, pullsScl};
-ghost use Rattle.usi.specs.Step.{refusal as refusalOf, moduleOf, latched as latchedRule, followed as followedRule, settled as settledRule, readByte, writeByte, readWord, writeWord, conditioned as conditionedRule, arbitrated as arbitratedRule, clocked as clockedRule, bitTaken, risen as risenRule, fallen as fallenRule, recorded as recordedRule, edged as edgedRule, sampled as sampledRule, sample as sampleRule, ticked as tickedRule, tick as tickRule};
+ghost use Rattle.usi.specs.Step.{refusal as refusalOf, moduleOf, latched as latchedRule, followed as followedRule, settled as settledRule, readByte, writeByte, readWord, writeWord, conditioned as conditionedRule, arbitrated as arbitratedRule, clocked as clockedRule, bitTaken, risen as risenRule, fallen as fallenRule, stretched as stretchedRule, recorded as recordedRule, edged as edgedRule, sampled as sampledRule, sample as sampleRule, ticked as tickedRule, tick as tickRule};
 
 pub struct Usi {
     pub usictl0: u8,
@@ -305,16 +305,23 @@ impl Usi {
         self
     }
 
+    // Whether SCL was pulled low by another.
+    fn stretched(mut self, scl: bool) -> Usi
+        ensures { λ r. ⌜ r ≡ stretchedRule scl self ⌝ }
+    {
+        let fell = usi_rules::falls(self.scl, scl);
+        let stretch = usi_rules::stretch_after(self.stretch, fell, self.phase, scl);
+        self.stretch = stretch;
+        self
+    }
+
     // The levels are remembered.
     fn recorded(mut self, scl: bool, sda: bool) -> Usi
         ensures { λ r. ⌜ r ≡ recordedRule scl sda self ⌝ }
     {
-        let fell = self.seen & usi_rules::falls(self.scl, scl);
-        let stretch = usi_rules::stretch_after(self.stretch, fell, self.phase, scl);
         self.seen = true;
         self.scl = scl;
         self.sda = sda;
-        self.stretch = stretch;
         self
     }
 
@@ -323,7 +330,10 @@ impl Usi {
         ensures { λ r. ⌜ r ≡ edgedRule scl sda self ⌝ }
     {
         if self.seen {
-            return self.conditioned(scl, sda).risen(scl, sda).fallen(scl);
+            return self.conditioned(scl, sda)
+                .risen(scl, sda)
+                .fallen(scl)
+                .stretched(scl);
         }
         self
     }

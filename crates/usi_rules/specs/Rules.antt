@@ -68,7 +68,7 @@ abbrev pub shifted : ℕ → Bool → ℕ
 shifted usisrl sda = shiftIn usisrl sda
 
 abbrev pub countDown : ℕ → ℕ
-countDown usicnt = clear usicnt USICNTx + (bitCount usicnt - 1)
+countDown usicnt = raise (clear usicnt USICNTx) (bitCount usicnt - 1)
 
 unfoldable pub endFlags : ℕ → ℕ → ℕ
 endFlags usictl1 usicnt = cond (eqb (bitCount usicnt) 1) (raise usictl1 USIIFG) usictl1

@@ -186,7 +186,7 @@ pub fn count_down(usicnt: u8) -> u8
     if count == 0 {
         return usicnt & !USICNTX;
     }
-    (usicnt & !USICNTX) + (count - 1)
+    (usicnt & !USICNTX) | (count - 1)
 }
 
 // USICTL1 as CNT falls from 1 to 0.

@@ -1,7 +1,7 @@
 -- The composition of what the calls answer.
 use borrow.Author.Needs.{needs}
-use Rattle.usi.proofs.Usi.recorded.Statement.{statement}
-use Rattle.usi.proofs.Usi.recorded.Tie as tie
+use Rattle.usi.proofs.Usi.stretched.Statement.{statement}
+use Rattle.usi.proofs.Usi.stretched.Tie as tie
 
 falls-requires : tie.Need-falls-requires
 falls-requires c κs = search needs
@@ -12,5 +12,5 @@ stretch-after-requires c κs = search needs
 returns : tie.Need-returns
 returns c = cc
 
-pub recorded-spec : {M : Type 1} → statement M
-recorded-spec = tie.close (tie.spec falls-requires stretch-after-requires returns)
+pub stretched-spec : {M : Type 1} → statement M
+stretched-spec = tie.close (tie.spec falls-requires stretch-after-requires returns)

@@ -1,0 +1,13 @@
+pub mod Picks
+pub mod Sound
+pub mod Filled
+pub mod Writing
+pub mod Passes
+pub mod Scans
+pub mod Decodes
+pub mod EventLists
+pub mod Drawn
+pub mod Stamps
+pub mod Samples
+pub mod Encodes
+pub mod Worked

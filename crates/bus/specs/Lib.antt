@@ -1,0 +1,10 @@
+pub mod Limits
+pub mod Buffer
+pub mod Levels
+pub mod Events
+pub mod Decode
+pub mod Listing
+pub mod DecodeReply
+pub mod Complete
+pub mod Encode
+pub mod EncodeReply

@@ -1,0 +1,34 @@
+// The first bad level and the first bad stamp of a trace.
+ghost use mathlib.Core.Path.{_≡_};
+ghost use Rattle.bus.specs.DecodeReply.{badLevel, badStamp};
+
+// The place of the first level above 3, or the length.
+pub(crate) fn bad_level(levels: &[u8]) -> usize
+    ensures { λ r. ⌜ r ≡ badLevel (now (levels .entry)) ⌝ }
+{
+    let mut i: usize = 0;
+    while i < levels.len() {
+        if levels[i] > 3 {
+            return i;
+        }
+        i += 1;
+    }
+    i
+}
+
+// The place of the first stamp not above the one before, or the length.
+pub(crate) fn bad_stamp(stamps: &[u32]) -> usize
+    ensures { λ r. ⌜ r ≡ badStamp (now (stamps .entry)) ⌝ }
+{
+    if stamps.len() == 0 {
+        return 0;
+    }
+    let mut i: usize = 1;
+    while i < stamps.len() {
+        if stamps[i] <= stamps[i - 1] {
+            return i;
+        }
+        i += 1;
+    }
+    i
+}

@@ -1,0 +1,19 @@
+-- The composition of what the calls answer.
+use borrow.Author.Needs.{needs}
+use Rattle.export.proofs.usi_write.Statement.{statement}
+use Rattle.export.proofs.usi_write.Tie as tie
+
+unpacked-requires : tie.Need-unpacked-requires
+unpacked-requires c κs = search needs
+
+write-requires : tie.Need-write-requires
+write-requires c κs = search needs
+
+answer-requires : tie.Need-answer-requires
+answer-requires c κs = search needs
+
+returns : tie.Need-returns
+returns c = rw (c .answer .ensures, c .before .write .ensures, c .before .before .unpacked .ensures)
+
+pub usi-write-spec : {M : Type 1} → statement M
+usi-write-spec = tie.close (tie.spec unpacked-requires write-requires answer-requires returns)

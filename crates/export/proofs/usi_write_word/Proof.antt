@@ -1,0 +1,20 @@
+-- The composition of what the calls answer.
+use borrow.Author.Needs.{needs}
+use Rattle.export.proofs.usi_write_word.Statement.{statement}
+use Rattle.export.proofs.usi_write_word.Tie as tie
+
+unpacked-requires : tie.Need-unpacked-requires
+unpacked-requires c κs = search needs
+
+write-word-requires : tie.Need-write-word-requires
+write-word-requires c κs = search needs
+
+answer-requires : tie.Need-answer-requires
+answer-requires c κs = search needs
+
+returns : tie.Need-returns
+returns c = rw (c .answer .ensures, c .before .write-word .ensures, c .before .before .unpacked .ensures)
+
+pub usi-write-word-spec : {M : Type 1} → statement M
+usi-write-word-spec =
+    tie.close (tie.spec unpacked-requires write-word-requires answer-requires returns)
