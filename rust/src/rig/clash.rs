@@ -31,8 +31,7 @@ struct Loads<'a> {
 }
 
 pub fn clash(text: &[u8], options: &Options) -> Vec<u8> {
-    let mut loads =
-        Loads { options, current: None, finished: 0, refused: Vec::new(), output: Vec::new() };
+    let mut loads = Loads { options, current: None, finished: 0, refused: Vec::new(), output: Vec::new() };
     let read = each_statement(text, |line, words| loads.line(line, words).map(|()| Next::Line));
     let last = match read {
         Ok(()) => {

@@ -8,8 +8,7 @@ use crate::bus::{self, CUT, REPEATED_START, SAMPLES, START, STOP};
 /// The most events of a list.
 const EVENTS: usize = 4096;
 
-const EXPECTED: &str =
-    "expected START, repeated START, STOP, cut byte, HH ACK, HH NACK or event numbers";
+const EXPECTED: &str = "expected START, repeated START, STOP, cut byte, HH ACK, HH NACK or event numbers";
 
 /// What the file asks for.
 struct List {

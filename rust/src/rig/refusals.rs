@@ -19,9 +19,7 @@ fn words(reason: Reason) -> &'static str {
         Reason::MasterCount => "no board, or more than eight",
         Reason::MessageLength => "a board has no bytes or more than 32",
         Reason::ReadMessage => "a board's first byte is odd, a read",
-        Reason::Acknowledges => {
-            "there is not one acknowledge, 0 or 1, for each byte of the longest board"
-        }
+        Reason::Acknowledges => "there is not one acknowledge, 0 or 1, for each byte of the longest board",
         Reason::Undecided => "the least message is acknowledged to its end and begins another",
     }
 }

@@ -1,0 +1,83 @@
+//! `rig_differ PROGRAM [--seed S] [--count N] [--kind KIND] [--status-by-last-line]`: runs PROGRAM, a `rig`, on N
+//! pseudo-random inputs of each kind and compares its standard output with the mirror's.
+
+use rehearsal_model::compare::Counts;
+use rehearsal_model::rig::differ::{Differ, Difference};
+use rehearsal_model::rig::inputs::{Kind, KINDS};
+use std::process::ExitCode;
+use std::time::Instant;
+
+const USAGE: &str = "usage: rig_differ PROGRAM [--seed S] [--count N] [--kind KIND] [--status-by-last-line]";
+
+/// What the command line asks for.
+struct Options {
+    program: String,
+    seed: u64,
+    count: u64,
+    kinds: Vec<Kind>,
+    status_by_last_line: bool,
+}
+
+fn main() -> ExitCode {
+    match options().and_then(|options| compare(&options)) {
+        Ok(true) => ExitCode::SUCCESS,
+        Ok(false) => ExitCode::FAILURE,
+        Err(problem) => {
+            eprintln!("rig_differ: {problem}\n{USAGE}");
+            ExitCode::FAILURE
+        }
+    }
+}
+
+fn options() -> Result<Options, String> {
+    let mut arguments = std::env::args().skip(1);
+    let program = arguments.next().ok_or("no program")?;
+    let mut options =
+        Options { program, seed: 1, count: 1000, kinds: KINDS.to_vec(), status_by_last_line: false };
+    while let Some(name) = arguments.next() {
+        if name == "--status-by-last-line" {
+            options.status_by_last_line = true;
+            continue;
+        }
+        let value = arguments.next().ok_or(format!("nothing after `{name}`"))?;
+        let number = value.parse().map_err(|_| format!("no number after `{name}`"));
+        match name.as_str() {
+            "--seed" => options.seed = number?,
+            "--count" => options.count = number?,
+            "--kind" => options.kinds = vec![Kind::named(&value).ok_or(format!("no kind `{value}`"))?],
+            _ => return Err(format!("no option `{name}`")),
+        }
+    }
+    Ok(options)
+}
+
+/// True if all runs are equal.
+fn compare(options: &Options) -> Result<bool, String> {
+    let differ = Differ::new(options.program.clone().into(), options.status_by_last_line)
+        .map_err(|problem| format!("{}: {problem}", options.program))?;
+    println!("seed {}", options.seed);
+    let begin = Instant::now();
+    let mut counts = Counts::default();
+    for kind in &options.kinds {
+        for index in 0..options.count {
+            let seed = options.seed.wrapping_add(index);
+            if let Err(difference) = differ.compare(kind, seed, &mut counts) {
+                report(options, kind, seed, &difference);
+                return Ok(false);
+            }
+        }
+    }
+    differ.remove_folder().map_err(|problem| problem.to_string())?;
+    print!("{}", counts.lines());
+    println!("{:.1} s", begin.elapsed().as_secs_f64());
+    println!("compared {} runs: all equal", options.count * options.kinds.len() as u64);
+    Ok(true)
+}
+
+fn report(options: &Options, kind: &Kind, seed: u64, difference: &Difference) {
+    let folder = difference.folder.display();
+    println!("DIFFERENCE in {}: {}", kind.word, difference.problem);
+    println!("arguments: {} ({:?})", difference.arguments, difference.source);
+    println!("input:     {folder}/input, with expected, output and errors beside it");
+    println!("again:     rig_differ {} --seed {seed} --count 1 --kind {}", options.program, kind.word);
+}
