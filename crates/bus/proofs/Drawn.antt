@@ -51,7 +51,8 @@ bit-below (suc n) zero number h = let e : suc n - 1 - zero ≡ n = omega arith i
 bit-below (suc n) (suc k) number h =
     let e : suc n - 1 - suc k ≡ n - 1 - k = omega arith in rw e (bit-below n k number (omega arith))
 
-pub bit-from-first : (byte k : ℕ) (ninth : Bool) → k < 8 → getD (byteBits byte ++ ninth ∷ []) k false ≡ bitAt (7 - k) byte
+pub bit-from-first : (byte k : ℕ) (ninth : Bool) → k < 8
+    → getD (byteBits byte ++ ninth ∷ []) k false ≡ bitAt (7 - k) byte
 unfolding byteBits
 bit-from-first byte k ninth h = List·getD-append (bitsBelow 8 byte) (ninth ∷ []) false k h ∙ bit-below 8 k byte h
 

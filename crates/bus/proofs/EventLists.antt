@@ -19,7 +19,8 @@ pub complete-more : (events : List ℕ) (position : Position) (i : ℕ) → i < 
 complete-more events position i h = rw add-one (ap (completeFrom position) (drop-cons events i 0 h))
 
 -- an event adds its own samples
-pub samples-cons : (event : ℕ) (events : List ℕ) → sampleCount (event ∷ events) ≡ eventSamples event + sampleCount events
+pub samples-cons : (event : ℕ) (events : List ℕ)
+    → sampleCount (event ∷ events) ≡ eventSamples event + sampleCount events
 unfolding eventSamples
 samples-cons event events =
     omega (arith, at-most-one (isStart event), at-most-one (isByte event), at-most-one (isRepeatedStart event))

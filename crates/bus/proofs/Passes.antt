@@ -42,7 +42,8 @@ module _ (levels : List ℕ) (decoder : Decoder) (i : ℕ) where
         }
 
     -- what is left to list is what this sample lists, and what is left then
-    pub left-more : listed decoder (drop i levels) ≡ listOf step ++ listed (next decoder (getD levels i 0)) (drop (i + 1) levels)
+    pub left-more : listed decoder (drop i levels)
+        ≡ listOf step ++ listed (next decoder (getD levels i 0)) (drop (i + 1) levels)
     left-more = rw (e, add-one) (ap (listed decoder) (drop-cons levels i 0 h))
 
   -- after the last sample nothing is left

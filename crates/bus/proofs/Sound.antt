@@ -20,7 +20,8 @@ at-most-one false = omega arith
 -- fewer than eight bits leave room for one more in a byte
 pub below-128 : (decoder : Decoder) → decoder .pending < 8 → Sound decoder → decoder .value < 128
 below-128 decoder fewer sound =
-    let bound : 2 ^ decoder .pending ≤ 2 ^ 7 = pow-le-pow-right {n = 2} (omega arith) {i = decoder .pending} {j = 7} (omega arith) in
+    let few : decoder .pending ≤ 7 = omega arith in
+    let bound : 2 ^ decoder .pending ≤ 2 ^ 7 = pow-le-pow-right {n = 2} (omega arith) few in
     omega (arith, bound)
 
 pub idle-sound : Sound idle
