@@ -1,11 +1,10 @@
 -- What decode answers in each case, from the tests that lead to it.
-use mathlib.Core.Path.{_≡_, refl, sym, ap, ap₂, _∙_}
+use mathlib.Core.Path.{_≡_}
 use mathlib.Core.List.{List}
 use Prim.Native.Nat.{ℕ, _≤_, _<_}
 use borrow.Author.Tests.{eq-eqb, ne-eqb, lt-ltb, le-ltb}
 use lib.ListN.{length}
 use Rattle.bus.specs.declared.Decoder.{Decoder}
-use Rattle.bus.specs.declared.Decoded.{Decoded}
 use Rattle.bus.specs.declared.Decoded.the-variants.{Events, Refused}
 use Rattle.bus.specs.Limits.{maxSamples}
 use Rattle.bus.specs.Decode.{events, final}

@@ -1,14 +1,13 @@
 -- What encode answers in each case, from the tests that lead to it.
-use mathlib.Core.Path.{_≡_, refl, sym, ap, _∙_}
+use mathlib.Core.Path.{_≡_, refl, sym, _∙_}
 use mathlib.Core.Bool.{Bool, true, false, not, _||_, true≢false}
 use mathlib.Core.List.{List}
 use Prim.Native.Nat.{ℕ, min, _+_, _*_, _-_, _≤_, _<_}
 use native.Mathlib.Nat.{mul-le-mul}
 use native.Mathlib.Omega.{arith}
-use borrow.Author.Tests.{lt-ltb, le-ltb, ltb-false, not-true, not-false}
+use borrow.Author.Tests.{lt-ltb, le-ltb, ltb-false, not-false}
 use lib.Dec.{eqb, ltb}
 use lib.ListN.{length}
-use Rattle.bus.specs.declared.Encoded.{Encoded}
 use Rattle.bus.specs.declared.Encoded.the-variants.{Drawn, Refused}
 use Rattle.bus.specs.Limits.{maxSamples, maxGap, largestStamp}
 use Rattle.bus.specs.Complete.{complete}

@@ -1,6 +1,6 @@
 -- What decode answers, refusals in 01's order, and what the lent slice holds after it.
 use Prim.Native.Nat.{ℕ, suc}
-use mathlib.Core.Bool.{Bool, cond, not}
+use mathlib.Core.Bool.{cond, not}
 use mathlib.Core.List.{List, [], _∷_}
 use mir.Val.{boolByte}
 use lib.Dec.{eqb, ltb}

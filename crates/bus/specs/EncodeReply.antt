@@ -1,6 +1,6 @@
 -- What encode answers, refusals in 01's order, and what the two lent slices hold after it.
 use Prim.Native.Nat.{ℕ}
-use mathlib.Core.Bool.{Bool, cond, not, _||_}
+use mathlib.Core.Bool.{cond, not, _||_}
 use mathlib.Core.List.{List}
 use lib.Dec.{eqb, ltb}
 use Rattle.bus.specs.declared.Encoded.{Encoded}

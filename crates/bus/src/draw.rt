@@ -4,7 +4,7 @@ ghost use mathlib.Core.List.{[], _∷_, _++_};
 ghost use Prim.Native.Nat.{_+_, _*_, _≤_};
 ghost use lib.ListN.{length};
 ghost use lib.Seq.{sets};
-ghost use Rattle.bus.specs.Limits.{maxSamples, maxGap, largestStamp};
+ghost use Rattle.bus.specs.Limits.{maxSamples, largestStamp};
 ghost use Rattle.bus.specs.Buffer.{filled};
 ghost use Rattle.bus.specs.Encode.{byteBits, drawBit, drawBits, drawEvent, drawing, stampsFrom, lastStamp};
 
