@@ -1,14 +1,13 @@
 -- What an event draws, and levels that are stored bit by bit.
-use mathlib.Core.Path.{_≡_, refl, sym, ap, ap₂, _∙_}
-use mathlib.Core.Bool.{Bool, true, false, cond}
+use mathlib.Core.Path.{_≡_, refl, ap, _∙_}
+use mathlib.Core.Bool.{Bool, true, false}
 use mathlib.Core.List.{List, [], _∷_, _++_}
 use Prim.Native.Nat.{ℕ, zero, suc, _+_, _*_, _-_, _/_, _%_, _^_, _≤_, _<_}
 use native.Mathlib.Nat.{mul-add-div, mul-assoc, pow-suc}
 use native.Mathlib.Numerals.{add-one}
 use native.Mathlib.Omega.{arith}
-use borrow.Author.Tests.{eq-eqb, ne-eqb, lt-ltb, le-ltb}
+use borrow.Author.Tests.{ne-eqb, lt-ltb, le-ltb}
 use mir.Val.{boolByte}
-use lib.Dec.{eqb}
 use lib.ListN.{length, getD, take, set, List·getD-append}
 use lib.Pow.{pow-pos}
 use lib.Seq.{sets, take-suc, length-take-le}
@@ -51,7 +50,8 @@ bit-below (suc n) zero number h = let e : suc n - 1 - zero ≡ n = omega arith i
 bit-below (suc n) (suc k) number h =
     let e : suc n - 1 - suc k ≡ n - 1 - k = omega arith in rw e (bit-below n k number (omega arith))
 
-pub bit-from-first : (byte k : ℕ) (ninth : Bool) → k < 8 → getD (byteBits byte ++ ninth ∷ []) k false ≡ bitAt (7 - k) byte
+pub bit-from-first : (byte k : ℕ) (ninth : Bool) → k < 8
+    → getD (byteBits byte ++ ninth ∷ []) k false ≡ bitAt (7 - k) byte
 unfolding byteBits
 bit-from-first byte k ninth h = List·getD-append (bitsBelow 8 byte) (ninth ∷ []) false k h ∙ bit-below 8 k byte h
 

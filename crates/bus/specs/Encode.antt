@@ -6,10 +6,11 @@ use mir.Val.{boolByte}
 use lib.Dec.{eqb}
 use Rattle.bus.specs.Events.{isByte, startEvent, repeatedStartEvent, stopEvent}
 
--- bit k of a number, and its bits below n, most significant first
+-- bit k of a number
 abbrev pub bitAt : ℕ → ℕ → Bool
 bitAt k number = eqb (number / 2 ^ k % 2) 1
 
+-- its bits below n, most significant first
 abbrev pub bitsBelow : ℕ → ℕ → List Bool
 bitsBelow zero number = []
 bitsBelow (suc k) number = bitAt k number ∷ bitsBelow k number
@@ -26,6 +27,7 @@ eventBits event = byteBits event ++ bitAt 8 event ∷ []
 abbrev pub drawBit : Bool → List ℕ
 drawBit b = 2 * boolByte b ∷ (2 * boolByte b + 1) ∷ []
 
+-- bits, one after the other
 abbrev pub drawBits : List Bool → List ℕ
 drawBits [] = []
 drawBits (b ∷ bits) = drawBit b ++ drawBits bits
@@ -38,6 +40,7 @@ drawEvent event =
     (cond (eqb event repeatedStartEvent) (2 ∷ 3 ∷ 1 ∷ [])
     (cond (eqb event stopEvent) (0 ∷ 1 ∷ 3 ∷ []) [])))
 
+-- events, one after the other
 abbrev pub drawEvents : List ℕ → List ℕ
 drawEvents [] = []
 drawEvents (event ∷ events) = drawEvent event ++ drawEvents events
@@ -51,9 +54,11 @@ abbrev pub howMany : (ℕ → Bool) → List ℕ → ℕ
 howMany kind [] = 0
 howMany kind (event ∷ events) = boolByte (kind event) + howMany kind events
 
+-- the frames of a list are its STARTs
 abbrev pub isStart : ℕ → Bool
 isStart event = eqb event startEvent
 
+-- the repeated STARTs
 abbrev pub isRepeatedStart : ℕ → Bool
 isRepeatedStart event = eqb event repeatedStartEvent
 

@@ -1,3 +1,4 @@
+-- `next` goes by the conditions of the sample.
 use Rattle.bus.proofs.Picks.{picks}
 use Rattle.bus.specs.Decode.{next}
 use borrow.Author.Needs.{needs}
