@@ -1,5 +1,4 @@
 -- The laws that the functions' proofs cite, in the order in which they build on one another.
-pub mod Picks
 pub mod Sound
 pub mod Filled
 pub mod Writing

@@ -4,16 +4,13 @@ use mathlib.Core.Bool.{Bool, cond}
 use mathlib.Core.List.{List, [], _∷_, _++_}
 use mir.Val.{boolByte}
 use lib.Dec.{eqb}
+use Rattle.bits.specs.Positions.{isSet}
 use Rattle.bus.specs.Events.{isByte, startEvent, repeatedStartEvent, stopEvent}
 
--- bit k of a number
-abbrev pub bitAt : ℕ → ℕ → Bool
-bitAt k number = eqb (number / 2 ^ k % 2) 1
-
--- its bits below n, most significant first
+-- a number's bits below n, most significant first
 abbrev pub bitsBelow : ℕ → ℕ → List Bool
 bitsBelow zero number = []
-bitsBelow (suc k) number = bitAt k number ∷ bitsBelow k number
+bitsBelow (suc k) number = isSet k number ∷ bitsBelow k number
 
 -- a byte's eight bits, most significant first
 unfoldable pub byteBits : ℕ → List Bool
@@ -21,7 +18,7 @@ byteBits byte = bitsBelow 8 byte
 
 -- the nine bits of a byte's event
 abbrev pub eventBits : ℕ → List Bool
-eventBits event = byteBits event ++ bitAt 8 event ∷ []
+eventBits event = byteBits event ++ isSet 8 event ∷ []
 
 -- a bit b draws 2b, 2b+1
 abbrev pub drawBit : Bool → List ℕ

@@ -85,8 +85,8 @@ fn event_text(event: u16, before: Option<u16>) -> String {
     match event {
         0..=511 => {
             let direction = match before {
-                Some(START | REPEATED_START) if event % 2 == 0 => " write",
-                Some(START | REPEATED_START) => " read",
+                Some(START | REPEATED_START) if event % 2 == 1 => " read",
+                Some(START | REPEATED_START) => " write",
                 _ => "",
             };
             let ack = if event < 256 { "ACK" } else { "NACK" };

@@ -47,7 +47,7 @@ fn worked_numbers_in_full() {
 fn one_board_alone_draws_p7() {
     let output = rig("clash -", "load one\nboard a0");
     assert!(output.contains("\n  scl:\"\"\\/\\/\\/\\/\\/\\/\\/\\/\\/\\/\"\n"), "{output}");
-    assert!(output.contains("\n  sda:\"\\/\\/\\............../\n"), "{output}");
+    assert!(output.contains("\n  sda:\"\\/\"\\./\"\\............./\n"), "{output}");
     assert!(output.ends_with("\nok 1 load\n"));
     assert_eq!(last("clash -", "load a\nboard 0\nload b\nboard 2\nload c\nboard 4"), "ok 3 loads");
 }

@@ -55,36 +55,11 @@ fn the_limit_of_events() {
 #[test]
 fn errors() {
     let event = "line 1: expected START, repeated START, STOP, cut byte, HH ACK, HH NACK or event numbers";
-    for line in [
-        "5:",
-        ":",
-        "5: start 1",
-        "5: gap 1",
-        "5: ok",
-        "5: 6: START",
-        "START STOP",
-        "START ACK",
-        "STOP 1",
-        "repeated",
-        "repeated STOP",
-        "cut",
-        "cut byte 5",
-        "ACK",
-        "A0 write",
-        "A0 read",
-        "A0 write ack",
-        "A0 ACK 5",
-        "100 ACK",
-        "G0 ACK",
-        "write ACK",
-        "x",
-        "512 x",
-        "512 -1",
-        "A0",
-        "A1 write foo",
-        "start:",
-        "ok: ok",
-    ] {
+    let lines = "\
+        5:; :; 5: start 1; 5: gap 1; 5: ok; 5: 6: START; START STOP; START ACK; STOP 1; repeated; \
+        repeated STOP; cut; cut byte 5; ACK; A0 write; A0 read; A0 write ack; A0 ACK 5; 100 ACK; \
+        G0 ACK; write ACK; x; 512 x; 512 -1; A0; A1 write foo; start:; ok: ok";
+    for line in lines.split("; ") {
         check_errors("encode", &[(line, event)]);
     }
     let direction = "line 1: an even address byte is a write, an odd one a read";

@@ -59,17 +59,17 @@ fn every_line_is_answered() {
 #[test]
 fn lines_not_understood() {
     let forms = [
-        ("power", "power or power LL HH", "power 1;power 100 0;power 0 x;power 1 2 3"),
-        ("read", "read AAA", "read;read 10000;read USI;read 78 78;read 0x78"),
-        ("write", "write AAA VV", "write;write 78;write 78 100;write 78 g;write 1FFFF 0"),
-        ("readw", "readw AAA", "readw;readw 1 1"),
-        ("writew", "writew AAA VVVV", "writew;writew 78;writew 78 10000"),
-        ("sample", "sample L", "sample;sample 100;sample 1 1"),
-        ("tick", "tick", "tick 1"),
-        ("lines", "lines", "lines 1"),
-        ("help", "help", "help me"),
+        ("power or power LL HH", "power 1;power 100 0;power 0 x;power 1 2 3"),
+        ("read AAA", "read;read 10000;read USI;read 78 78;read 0x78"),
+        ("write AAA VV", "write;write 78;write 78 100;write 78 g;write 1FFFF 0"),
+        ("readw AAA", "readw;readw 1 1"),
+        ("writew AAA VVVV", "writew;writew 78;writew 78 10000"),
+        ("sample L", "sample;sample 100;sample 1 1"),
+        ("tick", "tick 1"),
+        ("lines", "lines 1"),
+        ("help", "help me"),
     ];
-    for (_, form, lines) in forms {
+    for (form, lines) in forms {
         for line in lines.split(';') {
             assert_eq!(answers(line), [format!("error expected {form}")], "{line}");
         }

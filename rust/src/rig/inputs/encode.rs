@@ -85,7 +85,7 @@ fn event_line(page: &mut Page, event: u16) {
         _ => {
             words.push(page.hex(event as u8));
             if page.random.once_in(3) {
-                words.push(if event % 2 == 0 { "write" } else { "read" }.to_string());
+                words.push(if event % 2 == 1 { "read" } else { "write" }.to_string());
             }
             words.push(if event < 256 { "ACK" } else { "NACK" }.to_string());
         }
