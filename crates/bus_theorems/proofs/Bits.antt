@@ -27,7 +27,7 @@ bit-digit : (position number : ℕ) → boolByte (isSet position number) ≡ num
 bit-digit position number = is-digit (number / 2 ^ position % 2) (mod-lt (number / 2 ^ position) (omega arith))
 
 -- after a value, a number's lowest bits make the value shifted up by the width, plus the number's lowest digits
-number-of-bits : (width value number : ℕ)
+pub number-of-bits : (width value number : ℕ)
     → numberFrom value (bitsBelow width number) ≡ value * 2 ^ width + number % 2 ^ width
 number-of-bits zero value number = omega arith
 number-of-bits (suc width) value number =

@@ -1,0 +1,94 @@
+-- A message against the bytes that the bus has carried, those of the least message: its master is in as long as they are its
+-- own, and then has a byte to come that is not below the bus's next one.
+use Prim.Native.Nat.{ℕ, zero, suc, _+_, _≤_, _<_}
+use native.Mathlib.Omega.{arith}
+use mathlib.Core.Path.{_≡_, refl, ap, ap₂, sym, _∙_}
+use mathlib.Core.Bool.{Bool, cond, true, false, _&&_, _||_, false≢true}
+use mathlib.Core.List.{List, [], _∷_, _++_}
+use lib.Dec.{eqb, ltb}
+use lib.ListN.{length, getD}
+use borrow.Author.Tests.{eq-eqb, ne-eqb, eqb-true, ltb-true, le-ltb}
+use Rattle.bus.specs.Encode.{bitAt}
+use Rattle.arbitration_rules.specs.Outcome.{atMost, positionIn}
+use Rattle.arbitration_rules.proofs.Standing.{Standing, stays, out, standingAfter}
+use Rattle.arbitration_rules.proofs.Pause.{isIn}
+
+-- how a master stands after carried bytes, the first at an index
+abbrev pub against : ℕ → List ℕ → List ℕ → Standing
+against index [] message = stays
+against index (byte ∷ bytes) [] = stays
+against index (byte ∷ bytes) (own ∷ message) =
+    cond (eqb own byte) (against (suc index) bytes message) (out byte (bitAt 0 own) (positionIn byte own index))
+
+-- the order, taken apart at its first byte
+at-most-first : (byte own : ℕ) (bytes message : List ℕ) → atMost (byte ∷ bytes) (own ∷ message) ≡ true → byte ≤ own
+at-most-first byte own bytes message h = go (ltb byte own) (eqb byte own) refl refl
+  where
+    go : (less equal : Bool) → ltb byte own ≡ less → eqb byte own ≡ equal → byte ≤ own
+    go true equal l e = let below : byte < own = ltb-true byte own l in omega arith
+    go false true l e = omega (arith, eqb-true byte own e)
+    go false false l e = absurd (false≢true (sym (ap₂ (λ a b. a || b && atMost bytes message) l e) ∙ h))
+
+at-most-rest : (byte own : ℕ) (bytes message : List ℕ) → eqb own byte ≡ true → atMost (byte ∷ bytes) (own ∷ message) ≡ true
+    → atMost bytes message ≡ true
+at-most-rest byte own bytes message same h =
+    sym (ap₂ (λ a b. a || b && atMost bytes message) (not-less own (eqb-true own byte same))
+      (eq-eqb byte own (sym (eqb-true own byte same))))
+    ∙ h
+  where
+    not-less : (own : ℕ) → own ≡ byte → ltb byte own ≡ false
+    not-less own e = le-ltb byte own (omega arith)
+
+-- who is in has a byte to come, not below the next one of the least message
+pub in-has-byte : (index : ℕ) (carried : List ℕ) (byte : ℕ) (more message : List ℕ)
+    → atMost (carried ++ byte ∷ more) message ≡ true → isIn (against index carried message) ≡ true
+    → (length carried < length message) × (byte ≤ getD message (length carried) 0)
+in-has-byte index [] byte more [] least still = absurd (false≢true least)
+in-has-byte index [] byte more (own ∷ message) least still = (omega arith, at-most-first byte own more message least)
+in-has-byte index (first ∷ carried) byte more [] least still = absurd (false≢true least)
+in-has-byte index (first ∷ carried) byte more (own ∷ message) least still =
+    go (eqb own first) refl still (λ rest in-rest. in-has-byte (suc index) carried byte more message rest in-rest)
+  where
+    go : (same : Bool) → eqb own first ≡ same
+        → isIn (cond same (against (suc index) carried message) (out first (bitAt 0 own) (positionIn first own index))) ≡ true
+        → (atMost (carried ++ byte ∷ more) message ≡ true → isIn (against (suc index) carried message) ≡ true
+          → (length carried < length message) × (byte ≤ getD message (length carried) 0))
+        → (length (first ∷ carried) < length (own ∷ message)) × (byte ≤ getD (own ∷ message) (length (first ∷ carried)) 0)
+    go true same still rest =
+        let found = rest (at-most-rest first own (carried ++ byte ∷ more) message same least) still in
+        (omega (arith, found .0), found .1)
+    go false same still rest = absurd (false≢true still)
+
+-- the least message's own master is in
+pub owner-in : (index : ℕ) (carried more : List ℕ) → isIn (against index carried (carried ++ more)) ≡ true
+owner-in index [] more = refl
+owner-in index (byte ∷ carried) more =
+    ap (λ same. isIn (cond same (against (suc index) carried (carried ++ more)) (out byte (bitAt 0 byte) (positionIn byte byte index))))
+      (eq-eqb byte byte refl)
+    ∙ owner-in (suc index) carried more
+
+-- one more byte decides how a master stands
+pub against-next : (index : ℕ) (carried : List ℕ) (byte : ℕ) (message : List ℕ)
+    → (isIn (against index carried message) ≡ true → length carried < length message)
+    → standingAfter (index + length carried) byte (getD message (length carried) 0) (against index carried message)
+      ≡ against index (carried ++ byte ∷ []) message
+against-next index [] byte [] long = absurd (omega (arith, long refl))
+against-next index [] byte (own ∷ message) long =
+    ap (λ (i : ℕ). cond (eqb own byte) stays (out byte (bitAt 0 own) (positionIn byte own i))) (omega arith)
+against-next index (first ∷ carried) byte [] long = absurd (omega (arith, long refl))
+against-next index (first ∷ carried) byte (own ∷ message) long =
+    go (eqb own first) long (λ l. against-next (suc index) carried byte message l)
+  where
+    go : (same : Bool)
+        → (isIn (cond same (against (suc index) carried message) (out first (bitAt 0 own) (positionIn first own index))) ≡ true
+          → length (first ∷ carried) < length (own ∷ message))
+        → ((isIn (against (suc index) carried message) ≡ true → length carried < length message)
+          → standingAfter (suc index + length carried) byte (getD message (length carried) 0) (against (suc index) carried message)
+            ≡ against (suc index) (carried ++ byte ∷ []) message)
+        → standingAfter (index + length (first ∷ carried)) byte (getD (own ∷ message) (length (first ∷ carried)) 0)
+            (cond same (against (suc index) carried message) (out first (bitAt 0 own) (positionIn first own index)))
+          ≡ cond same (against (suc index) (carried ++ byte ∷ []) message) (out first (bitAt 0 own) (positionIn first own index))
+    go true long next =
+        ap (λ (i : ℕ). standingAfter i byte (getD message (length carried) 0) (against (suc index) carried message)) (omega arith)
+        ∙ next (λ still. let more = long still in omega arith)
+    go false long next = refl

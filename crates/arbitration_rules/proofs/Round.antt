@@ -1,0 +1,149 @@
+-- A whole byte with its acknowledge: it is loaded, carried in eight turns and acknowledged in a ninth; the bus carries the least
+-- byte of those still in, and each master stands as that byte decides.
+use Prim.Native.Nat.{ℕ, zero, suc, _*_, _≤_, _<_}
+use mathlib.Core.Path.{_≡_, refl, ap, ap₂, sym, _∙_}
+use mathlib.Core.Bool.{Bool, cond, true, false, not, _||_, false≢true}
+use mathlib.Core.List.{List, [], _∷_, _++_, map, map-map, append-assoc}
+use lib.Dec.{eqb}
+use lib.ListN.{length, getD}
+use Rattle.usi_rules.specs.Registers.{USICTL0, USICNT, USISRL}
+use Rattle.bus.specs.Encode.{byteBits, drawBit, drawBits}
+use Rattle.arbitration_rules.specs.declared.Master.{Master}
+use Rattle.arbitration_rules.specs.Masters.{written, withdrawn}
+use Rattle.arbitration_rules.specs.Outcome.{any}
+use Rattle.arbitration_rules.specs.Run.{levelOf, bitTurn, dataTurns, loaded, opened, closed, byteTurn}
+use Rattle.arbitration_rules.proofs.Lists.{Everyone, Someone, everyone, everyone-so, everyone-both, everyone-map, someone-so}
+use Rattle.arbitration_rules.proofs.Lists.{someone-map, map-alike, any-none, any-one, zipWith-map}
+use Rattle.arbitration_rules.proofs.Bits.{number, number-bits, at-most-bits}
+use Rattle.arbitration_rules.proofs.Wire.{busOf, turn-is}
+use Rattle.arbitration_rules.proofs.Roles.{Role, contends, masterOf, Sending}
+use Rattle.arbitration_rules.proofs.Byte.{Within, Leads, turnsOf, Line, shows, lineAfter, inByte, turns, within-turns, leads-turns, drawn}
+use Rattle.arbitration_rules.proofs.Standing.{Standing, stays, out, standingOf, standingAfter, entersAs, byte-decides}
+use Rattle.arbitration_rules.proofs.Pause.{Pause, afterByte, sdaAt, latchAt, enableAt, usiAt, isIn, masterAt, loads, listener, listens, hears, heard}
+
+three-maps : {A B C D : Type 0} (f : C → D) (g : B → C) (h : A → B) (l : List A)
+    → map f (map g (map h l)) ≡ map (λ a. f (g (h a))) l
+three-maps f g h l = ap (map f) (map-map g h l) ∙ map-map f (λ a. g (h a)) l
+
+-- a message's byte at an index
+abbrev pub byteAt : ℕ → List ℕ → ℕ
+byteAt index message = getD message index 0
+
+-- masters with messages, each as it stands
+abbrev pub waits : Pause → (List ℕ → Standing) → List (List ℕ) → List Master
+waits pause standing messages = map (λ message. masterAt pause (standing message)) messages
+
+abbrev enters : Pause → (List ℕ → Standing) → ℕ → List ℕ → Role
+enters pause standing index message = entersAs (latchAt pause) (enableAt pause) (byteAt index message) (standing message)
+
+opened-is : (messages : List (List ℕ)) (standing : List ℕ → Standing) (index : ℕ) (pause : Pause) (pull : Bool)
+    (level byte : ℕ) (levels carried : List ℕ)
+    → Everyone (λ message. byteAt index message < 256) messages
+    → opened messages index (busOf (waits pause standing messages) pull level byte levels carried)
+      ≡ busOf (map (masterOf 8 [] (sdaAt pause)) (map (enters pause standing index) messages)) pull level 0 levels carried
+unfolding opened loaded
+opened-is messages standing index pause pull level byte levels carried fits =
+    ap (λ masters. busOf masters pull level 0 levels carried)
+    (ap (λ masters. map (written USICNT 0x08) (map (written USICTL0 0xca) masters))
+      (zipWith-map (λ master message. written USISRL (byteAt index message) master)
+        (λ message. masterAt pause (standing message)) messages)
+    ∙ three-maps (written USICNT 0x08) (written USICTL0 0xca)
+      (λ message. written USISRL (byteAt index message) (masterAt pause (standing message))) messages
+    ∙ map-alike (everyone-so (λ message fit. loads pause (byteAt index message) (standing message) fit) fits)
+    ∙ sym (map-map (masterOf 8 [] (sdaAt pause)) (enters pause standing index) messages))
+
+closed-is : (taken : List Bool) (line : Line) (roles : List Role) (byte : ℕ) (levels carried : List ℕ)
+    → Everyone (Sending 0) roles
+    → closed (inByte 0 taken line roles byte levels carried)
+      ≡ busOf (map (listener (number taken) (line .sda)) roles) (line .pull) (line .level) byte levels (carried ++ byte ∷ [])
+unfolding closed
+closed-is taken line roles byte levels carried sent =
+    ap (λ masters. busOf masters (line .pull) (line .level) byte levels (carried ++ byte ∷ []))
+    (ap (map (written USICNT 0x01)) (three-maps (written USICTL0 0xc8) withdrawn (masterOf 0 taken (line .sda)) roles)
+    ∙ map-map (written USICNT 0x01) (λ role. written USICTL0 0xc8 (withdrawn (masterOf 0 taken (line .sda) role))) roles
+    ∙ map-alike (everyone-so (listens taken (line .sda)) sent))
+
+or-false : (b : Bool) → b || false ≡ b
+or-false true = refl
+or-false false = refl
+
+-- the acknowledge's turn shows its pull
+acknowledge-turn : (byte : ℕ) (roles : List Role) (sda old pull : Bool) (level gathered : ℕ) (levels carried : List ℕ)
+    → any contends roles ≡ true
+    → bitTurn pull (busOf (map (listener byte sda) roles) old level gathered levels carried)
+      ≡ busOf (map (λ role. masterAt (afterByte byte (not pull)) (standingOf byte role)) roles) pull (levelOf true (not pull))
+          gathered (levels ++ drawBit (not pull)) carried
+acknowledge-turn byte roles sda old pull level gathered levels carried someone =
+    turn-is (listener byte sda) roles (λ role. usiAt (afterByte byte (not pull)) (standingOf byte role)) contends (λ role. false)
+      old pull (not pull) level gathered levels carried
+      (everyone (hears byte sda (not pull)) roles) someone
+      (ap (λ b. not (pull || b)) (any-none (everyone (λ role. refl) roles)) ∙ ap not (or-false pull))
+    ∙ ap₂ (λ masters recording. busOf masters pull (levelOf true (not pull)) gathered (levels ++ recording) carried)
+      (map-alike (everyone (heard byte sda (not pull)) roles))
+      (drawn (not pull))
+
+-- against the byte to come: a master that is in has no lesser one; the winner has this very byte
+fair-enters : (byte own : ℕ) (latch enable : Bool) (standing : Standing) → byte < 256 → own < 256
+    → (isIn standing ≡ true → byte ≤ own) → Within (byteBits byte) (entersAs latch enable own standing)
+fair-enters byte own latch enable stays small fits fair = at-most-bits byte own small fits (fair refl)
+fair-enters byte own latch enable (out register latched position) small fits fair = tt
+
+leader-enters : (byte own : ℕ) (latch enable : Bool) (standing : Standing) → isIn standing ≡ true → own ≡ byte
+    → Leads (byteBits byte) (entersAs latch enable own standing)
+leader-enters byte own latch enable stays still same = ap byteBits same
+leader-enters byte own latch enable (out register latched position) still same = absurd (false≢true still)
+
+-- the ninth bit shows the acknowledge
+abbrev pub ninthBit : ℕ → Bool
+ninthBit acknowledge = not (eqb acknowledge 0)
+
+pub byte-turn : (messages : List (List ℕ)) (standing : List ℕ → Standing) (index byte acknowledge : ℕ) (pause : Pause)
+    (pull : Bool) (level old : ℕ) (levels carried : List ℕ) → byte < 256
+    → Everyone (λ message. byteAt index message < 256) messages
+    → Everyone (λ message. isIn (standing message) ≡ true → byte ≤ byteAt index message) messages
+    → Someone (λ message. (isIn (standing message) ≡ true) × (byteAt index message ≡ byte)) messages
+    → byteTurn messages index acknowledge (busOf (waits pause standing messages) pull level old levels carried)
+      ≡ busOf
+          (waits (afterByte byte (ninthBit acknowledge))
+            (λ message. standingAfter index byte (byteAt index message) (standing message)) messages)
+          (eqb acknowledge 0) (levelOf true (ninthBit acknowledge)) byte
+          (levels ++ drawBits (byteBits byte ++ ninthBit acknowledge ∷ [])) (carried ++ byte ∷ [])
+unfolding byteTurn byteBits
+byte-turn messages standing index byte acknowledge pause pull level old levels carried small fits fair leader =
+    ap (λ bus. bitTurn (eqb acknowledge 0) (closed (dataTurns 8 (9 * index) bus)))
+      (opened-is messages standing index pause pull level old levels carried fits)
+    ∙ ap (λ bus. bitTurn (eqb acknowledge 0) (closed bus))
+      (turns (byteBits byte) [] refl (9 * index) entered line 0 levels carried all some)
+    ∙ ap (bitTurn (eqb acknowledge 0))
+      (closed-is (byteBits byte) (lineAfter line (byteBits byte)) sent (number (byteBits byte)) (levels ++ drawBits (byteBits byte))
+        carried (everyone-map (turnsOf (9 * index) (byteBits byte)) (everyone-so (within-turns (9 * index) (byteBits byte)) all)))
+    ∙ ap (λ b. bitTurn (eqb acknowledge 0)
+        (busOf (map (listener b (lineAfter line (byteBits byte) .sda)) sent) false (lineAfter line (byteBits byte) .level) b
+          (levels ++ drawBits (byteBits byte)) (carried ++ b ∷ [])))
+      (number-bits byte small)
+    ∙ acknowledge-turn byte sent (lineAfter line (byteBits byte) .sda) false (eqb acknowledge 0)
+        (lineAfter line (byteBits byte) .level) byte (levels ++ drawBits (byteBits byte)) (carried ++ byte ∷ [])
+        (any-one (someone-map (turnsOf (9 * index) (byteBits byte)) (someone-so (leads-turns (9 * index) (byteBits byte)) some)))
+    ∙ ap₂ (λ masters recording. busOf masters (eqb acknowledge 0) (levelOf true (ninthBit acknowledge)) byte recording (carried ++ byte ∷ []))
+      (three-maps (λ role. masterAt (afterByte byte (ninthBit acknowledge)) (standingOf byte role))
+        (turnsOf (9 * index) (byteBits byte)) (enters pause standing index) messages
+      ∙ map-alike (everyone-so (λ message fit. ap (masterAt (afterByte byte (ninthBit acknowledge)))
+          (byte-decides index byte (byteAt index message) (latchAt pause) (enableAt pause) (standing message) small fit)) fits))
+      (append-assoc levels (drawBits (byteBits byte)) (drawBit (ninthBit acknowledge)))
+  where
+    line : Line
+    line = record { sda = sdaAt pause; pull = pull; level = level }
+    entered : List Role
+    entered = map (enters pause standing index) messages
+    sent : List Role
+    sent = map (turnsOf (9 * index) (byteBits byte)) entered
+    all : Everyone (Within (byteBits byte)) entered
+    all =
+        everyone-map (enters pause standing index)
+        (everyone-so (λ message both. fair-enters byte (byteAt index message) (latchAt pause) (enableAt pause) (standing message) small
+          (both .0) (both .1)) (everyone-both fits fair))
+    some : Someone (Leads (byteBits byte)) entered
+    some =
+        someone-map (enters pause standing index)
+        (someone-so (λ message both. leader-enters byte (byteAt index message) (latchAt pause) (enableAt pause) (standing message)
+          (both .0) (both .1)) leader)

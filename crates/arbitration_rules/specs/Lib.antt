@@ -1,0 +1,5 @@
+pub mod Limits
+pub mod Masters
+pub mod Outcome
+pub mod Run
+pub mod Reply
