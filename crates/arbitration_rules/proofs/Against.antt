@@ -8,7 +8,7 @@ use mathlib.Core.List.{List, [], _∷_, _++_}
 use lib.Dec.{eqb, ltb}
 use lib.ListN.{length, getD}
 use borrow.Author.Tests.{eq-eqb, ne-eqb, eqb-true, ltb-true, le-ltb}
-use Rattle.bus.specs.Encode.{bitAt}
+use Rattle.bits.specs.Positions.{isSet}
 use Rattle.arbitration_rules.specs.Outcome.{atMost, positionIn}
 use Rattle.arbitration_rules.proofs.Standing.{Standing, stays, out, standingAfter}
 use Rattle.arbitration_rules.proofs.Pause.{isIn}
@@ -18,7 +18,7 @@ abbrev pub against : ℕ → List ℕ → List ℕ → Standing
 against index [] message = stays
 against index (byte ∷ bytes) [] = stays
 against index (byte ∷ bytes) (own ∷ message) =
-    cond (eqb own byte) (against (suc index) bytes message) (out byte (bitAt 0 own) (positionIn byte own index))
+    cond (eqb own byte) (against (suc index) bytes message) (out byte (isSet 0 own) (positionIn byte own index))
 
 -- the order, taken apart at its first byte
 at-most-first : (byte own : ℕ) (bytes message : List ℕ) → atMost (byte ∷ bytes) (own ∷ message) ≡ true → byte ≤ own
@@ -50,7 +50,7 @@ in-has-byte index (first ∷ carried) byte more (own ∷ message) least still =
     go (eqb own first) refl still (λ rest in-rest. in-has-byte (suc index) carried byte more message rest in-rest)
   where
     go : (same : Bool) → eqb own first ≡ same
-        → isIn (cond same (against (suc index) carried message) (out first (bitAt 0 own) (positionIn first own index))) ≡ true
+        → isIn (cond same (against (suc index) carried message) (out first (isSet 0 own) (positionIn first own index))) ≡ true
         → (atMost (carried ++ byte ∷ more) message ≡ true → isIn (against (suc index) carried message) ≡ true
           → (length carried < length message) × (byte ≤ getD message (length carried) 0))
         → (length (first ∷ carried) < length (own ∷ message)) × (byte ≤ getD (own ∷ message) (length (first ∷ carried)) 0)
@@ -63,7 +63,7 @@ in-has-byte index (first ∷ carried) byte more (own ∷ message) least still =
 pub owner-in : (index : ℕ) (carried more : List ℕ) → isIn (against index carried (carried ++ more)) ≡ true
 owner-in index [] more = refl
 owner-in index (byte ∷ carried) more =
-    ap (λ same. isIn (cond same (against (suc index) carried (carried ++ more)) (out byte (bitAt 0 byte) (positionIn byte byte index))))
+    ap (λ same. isIn (cond same (against (suc index) carried (carried ++ more)) (out byte (isSet 0 byte) (positionIn byte byte index))))
       (eq-eqb byte byte refl)
     ∙ owner-in (suc index) carried more
 
@@ -74,20 +74,20 @@ pub against-next : (index : ℕ) (carried : List ℕ) (byte : ℕ) (message : Li
       ≡ against index (carried ++ byte ∷ []) message
 against-next index [] byte [] long = absurd (omega (arith, long refl))
 against-next index [] byte (own ∷ message) long =
-    ap (λ (i : ℕ). cond (eqb own byte) stays (out byte (bitAt 0 own) (positionIn byte own i))) (omega arith)
+    ap (λ (i : ℕ). cond (eqb own byte) stays (out byte (isSet 0 own) (positionIn byte own i))) (omega arith)
 against-next index (first ∷ carried) byte [] long = absurd (omega (arith, long refl))
 against-next index (first ∷ carried) byte (own ∷ message) long =
     go (eqb own first) long (λ l. against-next (suc index) carried byte message l)
   where
     go : (same : Bool)
-        → (isIn (cond same (against (suc index) carried message) (out first (bitAt 0 own) (positionIn first own index))) ≡ true
+        → (isIn (cond same (against (suc index) carried message) (out first (isSet 0 own) (positionIn first own index))) ≡ true
           → length (first ∷ carried) < length (own ∷ message))
         → ((isIn (against (suc index) carried message) ≡ true → length carried < length message)
           → standingAfter (suc index + length carried) byte (getD message (length carried) 0) (against (suc index) carried message)
             ≡ against (suc index) (carried ++ byte ∷ []) message)
         → standingAfter (index + length (first ∷ carried)) byte (getD (own ∷ message) (length (first ∷ carried)) 0)
-            (cond same (against (suc index) carried message) (out first (bitAt 0 own) (positionIn first own index)))
-          ≡ cond same (against (suc index) (carried ++ byte ∷ []) message) (out first (bitAt 0 own) (positionIn first own index))
+            (cond same (against (suc index) carried message) (out first (isSet 0 own) (positionIn first own index)))
+          ≡ cond same (against (suc index) (carried ++ byte ∷ []) message) (out first (isSet 0 own) (positionIn first own index))
     go true long next =
         ap (λ (i : ℕ). standingAfter i byte (getD message (length carried) 0) (against (suc index) carried message)) (omega arith)
         ∙ next (λ still. let more = long still in omega arith)

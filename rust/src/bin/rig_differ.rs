@@ -4,10 +4,19 @@
 use rehearsal_model::compare::Counts;
 use rehearsal_model::rig::differ::{Differ, Difference};
 use rehearsal_model::rig::inputs::{Kind, KINDS};
+use std::io;
 use std::process::ExitCode;
+use std::sync::atomic::{AtomicBool, Ordering};
+use std::thread;
 use std::time::Instant;
 
 const USAGE: &str = "usage: rig_differ PROGRAM [--seed S] [--count N] [--kind KIND] [--status-by-last-line]";
+
+/// How many programs run at a time.
+const THREADS: usize = 2;
+
+/// What one thread counted, and the difference it found.
+type Share = (Counts, Option<(Kind, u64, Difference)>);
 
 /// What the command line asks for.
 struct Options {
@@ -51,27 +60,51 @@ fn options() -> Result<Options, String> {
     Ok(options)
 }
 
-/// True if all runs are equal.
+/// True if all runs are equal; the runs are shared out among threads.
 fn compare(options: &Options) -> Result<bool, String> {
-    let differ = Differ::new(options.program.clone().into(), options.status_by_last_line)
-        .map_err(|problem| format!("{}: {problem}", options.program))?;
     println!("seed {}", options.seed);
     let begin = Instant::now();
+    let stop = &AtomicBool::new(false);
+    let shares: Vec<Result<Share, io::Error>> = thread::scope(|scope| {
+        let threads: Vec<_> =
+            (0..THREADS).map(|thread| scope.spawn(move || share(options, thread, stop))).collect();
+        threads.into_iter().map(|thread| thread.join().expect("a thread of the comparison")).collect()
+    });
     let mut counts = Counts::default();
-    for kind in &options.kinds {
-        for index in 0..options.count {
-            let seed = options.seed.wrapping_add(index);
-            if let Err(difference) = differ.compare(kind, seed, &mut counts) {
-                report(options, kind, seed, &difference);
-                return Ok(false);
-            }
-        }
+    let mut found = Vec::new();
+    for share in shares {
+        let (counted, difference) = share.map_err(|problem| format!("{}: {problem}", options.program))?;
+        counts.merge(counted);
+        found.extend(difference);
     }
-    differ.remove_folder().map_err(|problem| problem.to_string())?;
+    if let Some((kind, seed, difference)) = found.first() {
+        report(options, kind, *seed, difference);
+        return Ok(false);
+    }
     print!("{}", counts.lines());
     println!("{:.1} s", begin.elapsed().as_secs_f64());
     println!("compared {} runs: all equal", options.count * options.kinds.len() as u64);
     Ok(true)
+}
+
+/// Every run of one thread, until a thread finds a difference; only then its folder is kept.
+fn share(options: &Options, thread: usize, stop: &AtomicBool) -> Result<Share, io::Error> {
+    let differ = Differ::new(&options.program, options.status_by_last_line, thread)?;
+    let mut counts = Counts::default();
+    for kind in &options.kinds {
+        for index in (thread as u64..options.count).step_by(THREADS) {
+            if stop.load(Ordering::Relaxed) {
+                break;
+            }
+            let seed = options.seed.wrapping_add(index);
+            if let Err(difference) = differ.compare(kind, seed, &mut counts) {
+                stop.store(true, Ordering::Relaxed);
+                return Ok((counts, Some((*kind, seed, difference))));
+            }
+        }
+    }
+    differ.remove_folder()?;
+    Ok((counts, None))
 }
 
 fn report(options: &Options, kind: &Kind, seed: u64, difference: &Difference) {

@@ -15,7 +15,7 @@ use std::time::Duration;
 /// How long one run may take.
 const PATIENCE: Duration = Duration::from_secs(20);
 
-/// The program, and the folder in which each input is written.
+/// The program, and the folder in which each input is written; one for each thread.
 pub struct Differ {
     program: PathBuf,
     folder: PathBuf,
@@ -38,10 +38,12 @@ pub struct Difference {
 }
 
 impl Differ {
-    pub fn new(program: PathBuf, status_by_last_line: bool) -> io::Result<Differ> {
-        let folder = std::env::temp_dir().join(format!("rig_differ.{}", std::process::id()));
+    /// Number `number` of this process.
+    pub fn new(program: &str, status_by_last_line: bool, number: usize) -> io::Result<Differ> {
+        let program = fs::canonicalize(program)?;
+        let folder = std::env::temp_dir().join(format!("rig_differ.{}.{number}", std::process::id()));
         fs::create_dir_all(&folder)?;
-        Ok(Differ { program: fs::canonicalize(program)?, folder, status_by_last_line })
+        Ok(Differ { program, folder, status_by_last_line })
     }
 
     /// The folder and all in it, once it is of no use.
