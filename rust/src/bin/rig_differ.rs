@@ -15,8 +15,11 @@ const USAGE: &str = "usage: rig_differ PROGRAM [--seed S] [--count N] [--kind KI
 /// How many programs run at a time.
 const THREADS: usize = 2;
 
-/// What one thread counted, and the difference it found.
-type Share = (Counts, Option<(Kind, u64, Difference)>);
+/// A difference, with the kind and the seed that repeat it.
+type Found = (Kind, u64, Difference);
+
+/// What one thread counted and found.
+type Share = (Counts, Option<Found>);
 
 /// What the command line asks for.
 struct Options {
@@ -77,8 +80,8 @@ fn compare(options: &Options) -> Result<bool, String> {
         counts.merge(counted);
         found.extend(difference);
     }
-    if let Some((kind, seed, difference)) = found.first() {
-        report(options, kind, *seed, difference);
+    if !found.is_empty() {
+        report(options, found)?;
         return Ok(false);
     }
     print!("{}", counts.lines());
@@ -107,10 +110,17 @@ fn share(options: &Options, thread: usize, stop: &AtomicBool) -> Result<Share, i
     Ok((counts, None))
 }
 
-fn report(options: &Options, kind: &Kind, seed: u64, difference: &Difference) {
+/// The difference of the least seed; the folders of the others are removed.
+fn report(options: &Options, mut found: Vec<Found>) -> Result<(), String> {
+    found.sort_by_key(|found| found.1);
+    for (_, _, other) in &found[1..] {
+        std::fs::remove_dir_all(&other.folder).map_err(|problem| problem.to_string())?;
+    }
+    let (kind, seed, difference) = &found[0];
     let folder = difference.folder.display();
     println!("DIFFERENCE in {}: {}", kind.word, difference.problem);
     println!("arguments: {} ({:?})", difference.arguments, difference.source);
     println!("input:     {folder}/input, with expected, output and errors beside it");
     println!("again:     rig_differ {} --seed {seed} --count 1 --kind {}", options.program, kind.word);
+    Ok(())
 }
