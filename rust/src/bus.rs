@@ -40,6 +40,17 @@ pub fn decode(stamps: &[u32], levels: &[u8], events: &mut [u16]) -> Result<Decod
     Ok(Decoded { count, open: reader.open, pending: reader.pending, value: reader.value as u8 })
 }
 
+/// For each event of a record, in order, the number of the sample that lists it.
+pub fn event_samples(levels: &[u8]) -> Vec<usize> {
+    let mut reader = Reader::default();
+    let mut samples = Vec::new();
+    for now in 1..levels.len() {
+        reader.sample(levels[now - 1], levels[now]);
+        samples.resize(reader.events.len(), now);
+    }
+    samples
+}
+
 /// Refusals 5, 6, 4, 7, each looked for in the whole record before the next.
 fn check_record(stamps: &[u32], levels: &[u8]) -> Result<(), Refusal> {
     if stamps.len() != levels.len() {

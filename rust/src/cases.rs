@@ -46,7 +46,7 @@ fn hex_byte(word: &str) -> Result<u8, String> {
 }
 
 /// A module whole, with the lines it pulls.
-fn module_text(module: &Module) -> String {
+pub(crate) fn module_text(module: &Module) -> String {
     let registers = module.registers.map(|register| format!("{register:02X}")).join(" ");
     let lines = module.lines();
     format!(

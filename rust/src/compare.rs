@@ -47,6 +47,12 @@ impl Counts {
         *self.0.entry(kind.into()).or_default() += 1;
     }
 
+    pub fn merge(&mut self, other: Counts) {
+        for (kind, count) in other.0 {
+            *self.0.entry(kind).or_default() += count;
+        }
+    }
+
     pub fn get(&self, kind: &str) -> usize {
         self.0.get(kind).copied().unwrap_or_default()
     }

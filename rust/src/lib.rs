@@ -1,5 +1,6 @@
 //! A second source for document 01: the USI module in I2C mode, the reader and writer of bus records,
-//! and arbitration, written from the document alone and compared with the proved library.
+//! and arbitration, written from the document alone and compared with the proved library; and of the
+//! program `rig`, from the description of its text.
 
 pub mod arbitration;
 pub mod bus;
@@ -11,3 +12,4 @@ pub mod module;
 pub mod packed;
 pub mod random;
 pub mod refusal;
+pub mod rig;

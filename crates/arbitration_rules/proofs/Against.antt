@@ -9,7 +9,7 @@ use mathlib.Core.List.{List, [], _∷_, _++_}
 use lib.Dec.{eqb}
 use lib.ListN.{length, getD}
 use borrow.Author.Tests.{eq-eqb, eqb-true}
-use Rattle.bus.specs.Encode.{bitAt}
+use Rattle.bits.specs.Positions.{isSet}
 use Rattle.arbitration_rules.specs.Outcome.{atMost, positionIn}
 use Rattle.arbitration_rules.proofs.LeastMessage.{at-most, at-most-holds, first-at-most, rest-at-most}
 use Rattle.arbitration_rules.proofs.Standing.{Standing, stays, out, standingAfter}
@@ -20,7 +20,7 @@ abbrev pub against : ℕ → List ℕ → List ℕ → Standing
 against index [] message = stays
 against index (byte ∷ bytes) [] = stays
 against index (byte ∷ bytes) (own ∷ message) =
-    cond (eqb own byte) (against (suc index) bytes message) (out byte (bitAt 0 own) (positionIn byte own index))
+    cond (eqb own byte) (against (suc index) bytes message) (out byte (isSet 0 own) (positionIn byte own index))
 
 -- who is in has a byte to come, not below the next one of the least message
 pub in-has-byte : (index : ℕ) (carried : List ℕ) (byte : ℕ) (more message : List ℕ)
@@ -35,7 +35,7 @@ in-has-byte index (first ∷ carried) byte more (own ∷ message) least still =
   where
     go : (same : Bool) → eqb own first ≡ same
         → isIn (cond same (against (suc index) carried message)
-        (out first (bitAt 0 own) (positionIn first own index))) ≡ true
+        (out first (isSet 0 own) (positionIn first own index))) ≡ true
         → (atMost (carried ++ byte ∷ more) message ≡ true → isIn (against (suc index) carried message) ≡ true
         → (length carried < length message) × (byte ≤ getD message (length carried) 0))
         → (length (first ∷ carried) < length (own ∷ message))
@@ -52,7 +52,7 @@ owner-in index [] more = refl
 owner-in index (byte ∷ carried) more =
     ap (λ same. isIn
     (cond same (against (suc index) carried (carried ++ more))
-    (out byte (bitAt 0 byte) (positionIn byte byte index))))
+    (out byte (isSet 0 byte) (positionIn byte byte index))))
     (eq-eqb byte byte refl)
     ∙ owner-in (suc index) carried more
 
@@ -63,23 +63,23 @@ pub against-next : (index : ℕ) (carried : List ℕ) (byte : ℕ) (message : Li
     ≡ against index (carried ++ byte ∷ []) message
 against-next index [] byte [] long = absurd (omega (arith, long refl))
 against-next index [] byte (own ∷ message) long =
-    ap (λ (i : ℕ). cond (eqb own byte) stays (out byte (bitAt 0 own) (positionIn byte own i))) (omega arith)
+    ap (λ (i : ℕ). cond (eqb own byte) stays (out byte (isSet 0 own) (positionIn byte own i))) (omega arith)
 against-next index (first ∷ carried) byte [] long = absurd (omega (arith, long refl))
 against-next index (first ∷ carried) byte (own ∷ message) long =
     go (eqb own first) long (λ l. against-next (suc index) carried byte message l)
   where
     go : (same : Bool)
         → (isIn (cond same (against (suc index) carried message)
-        (out first (bitAt 0 own) (positionIn first own index))) ≡ true
+        (out first (isSet 0 own) (positionIn first own index))) ≡ true
         → length (first ∷ carried) < length (own ∷ message))
         → ((isIn (against (suc index) carried message) ≡ true → length carried < length message)
         → standingAfter (suc index + length carried) byte (getD message (length carried) 0)
         (against (suc index) carried message)
         ≡ against (suc index) (carried ++ byte ∷ []) message)
         → standingAfter (index + length (first ∷ carried)) byte (getD (own ∷ message) (length (first ∷ carried)) 0)
-        (cond same (against (suc index) carried message) (out first (bitAt 0 own) (positionIn first own index)))
+        (cond same (against (suc index) carried message) (out first (isSet 0 own) (positionIn first own index)))
         ≡ cond same (against (suc index) (carried ++ byte ∷ []) message)
-        (out first (bitAt 0 own) (positionIn first own index))
+        (out first (isSet 0 own) (positionIn first own index))
     go true long next =
         ap (λ (i : ℕ). standingAfter i byte (getD message (length carried) 0) (against (suc index) carried message))
         (omega arith)

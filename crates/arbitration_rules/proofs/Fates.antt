@@ -5,7 +5,7 @@ use mathlib.Core.Bool.{Bool, cond, true, false}
 use mathlib.Core.List.{List, [], _∷_}
 use mathlib.Core.Option.{some}
 use lib.Dec.{eqb}
-use Rattle.bus.specs.Encode.{bitAt}
+use Rattle.bits.specs.Positions.{isSet}
 use Rattle.arbitration_rules.specs.Outcome.{positionIn, lossFrom, fate}
 use Rattle.arbitration_rules.specs.Run.{fateOf}
 use Rattle.arbitration_rules.proofs.Standing.{out}
@@ -23,7 +23,7 @@ final-fate index (byte ∷ bytes) (own ∷ message) = go (final-fate (suc index)
         → (same : Bool)
         → fateOf
         (standingAs finalUsi
-        (cond same (against (suc index) bytes message) (out byte (bitAt 0 own) (positionIn byte own index))))
+        (cond same (against (suc index) bytes message) (out byte (isSet 0 own) (positionIn byte own index))))
         ≡ fate (cond same (lossFrom (suc index) bytes message) (some (positionIn byte own index)))
     go rest true = rest
     go rest false = refl

@@ -8,7 +8,8 @@ use mathlib.Core.Option.{Option, none, some}
 use lib.Dec.{eqb}
 use lib.ListN.{length, getD}
 use Rattle.usi.specs.Module.{pullsScl, pullsSda}
-use Rattle.bus.specs.Encode.{bitAt, byteBits}
+use Rattle.bits.specs.Positions.{isSet}
+use Rattle.bus.specs.Encode.{byteBits}
 use Rattle.arbitration_rules.specs.declared.Master.{Master}
 use Rattle.arbitration_rules.specs.Outcome.{unequalBit, positionIn, lossFrom, carriedOf}
 use Rattle.arbitration_rules.specs.Run.{run}
@@ -60,12 +61,12 @@ module _ (carried message : List ℕ) where
           → standingAs usiAtEnd (against (suc index) bytes own)
           ≡ finalAs carried message (lossFrom (suc index) bytes own)
           → standingAs usiAtEnd
-          (cond same (against (suc index) bytes own) (out byte (bitAt 0 first) (positionIn byte first index)))
+          (cond same (against (suc index) bytes own) (out byte (isSet 0 first) (positionIn byte first index)))
           ≡ finalAs carried message (cond same (lossFrom (suc index) bytes own) (some (positionIn byte first index)))
       go true rest = rest
       go false rest =
           ap₂
-          (λ register own-byte. standingAs usiAtEnd (out register (bitAt 0 own-byte) (positionIn byte first index)))
+          (λ register own-byte. standingAs usiAtEnd (out register (isSet 0 own-byte) (positionIn byte first index)))
           (sym (ap (λ (k : ℕ). getD carried k 0) (byte-of-position byte first index)
           ∙ at-index index carried byte bytes c))
           (sym (ap (λ (k : ℕ). getD message k 0) (byte-of-position byte first index)

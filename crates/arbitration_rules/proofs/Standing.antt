@@ -8,7 +8,8 @@ use mathlib.Core.List.{List, [], _∷_}
 use lib.Dec.{eqb}
 use lib.ListN.{length}
 use Rattle.usi_rules.specs.Rules as rules
-use Rattle.bus.specs.Encode.{bitAt, byteBits}
+use Rattle.bits.specs.Positions.{isSet}
+use Rattle.bus.specs.Encode.{byteBits}
 use Rattle.arbitration_rules.specs.Outcome.{unequalBit, positionIn}
 use Rattle.arbitration_rules.proofs.Bits.{same, same-bits}
 use Rattle.arbitration_rules.proofs.Roles.{Role, drives, lost, gone}
@@ -68,7 +69,7 @@ gone-on byte at (bit ∷ bits) register latch position = gone-on byte (suc at) b
 
 -- the byte at an index of the bus, against a master's own byte there
 abbrev pub standingAfter : ℕ → ℕ → ℕ → Standing → Standing
-standingAfter index byte own stays = cond (eqb own byte) stays (out byte (bitAt 0 own) (positionIn byte own index))
+standingAfter index byte own stays = cond (eqb own byte) stays (out byte (isSet 0 own) (positionIn byte own index))
 standingAfter index byte own (out register latch position) = out register latch position
 
 -- what a master takes into a byte
@@ -82,7 +83,7 @@ pub byte-decides : (index byte own : ℕ) (latch enable : Bool) (standing : Stan
 unfolding byteBits positionIn
 byte-decides index byte own latch enable stays small fits =
     alone byte (9 * index) (byteBits byte) (byteBits own) latch enable refl
-    ∙ ap (λ t. cond t stays (out byte (bitAt 0 own) (9 * index + unequalBit (byteBits byte) (byteBits own))))
+    ∙ ap (λ t. cond t stays (out byte (isSet 0 own) (9 * index + unequalBit (byteBits byte) (byteBits own))))
     (same-bits byte own small fits)
 byte-decides index byte own latch enable (out register latched position) small fits =
     gone-on byte (9 * index) (byteBits byte) register latched position

@@ -5,7 +5,7 @@ use mathlib.Core.List.{List}
 use mathlib.Core.Option.{Option, none, some}
 use lib.ListN.{getD}
 use Rattle.usi.specs.declared.Usi.{Usi}
-use Rattle.bus.specs.Encode.{bitAt}
+use Rattle.bits.specs.Positions.{isSet}
 use Rattle.arbitration_rules.specs.declared.Master.{Master}
 use Rattle.arbitration_rules.specs.Outcome.{fate, lossFrom}
 
@@ -34,7 +34,7 @@ afterStop usictl0 usictl1 usicnt usisrl latch enable =
 abbrev pub finalUsi : List ℕ → List ℕ → Option ℕ → Usi
 finalUsi carried message none = afterStop 0xc8 0x45 0x00 0xff true true
 finalUsi carried message (some position) =
-    afterStop 0xc0 0x4d 0x80 (getD carried (position / 9) 0) (bitAt 0 (getD message (position / 9) 0)) false
+    afterStop 0xc0 0x4d 0x80 (getD carried (position / 9) 0) (isSet 0 (getD message (position / 9) 0)) false
 
 -- with what Outcome.antt says of it
 abbrev pub finalAs : List ℕ → List ℕ → Option ℕ → Master

@@ -10,7 +10,8 @@ use lib.Dec.{eqb}
 use lib.Arith.{mod-mul}
 use lib.Pow.{pow-pos}
 use Rattle.bus.specs.Events.{byteEvent}
-use Rattle.bus.specs.Encode.{bitAt, bitsBelow, byteBits}
+use Rattle.bits.specs.Positions.{isSet}
+use Rattle.bus.specs.Encode.{bitsBelow, byteBits}
 
 -- the number that bits make, first bit highest, after a value
 abbrev pub numberFrom : ℕ → List Bool → ℕ
@@ -22,7 +23,7 @@ is-digit zero small = refl
 is-digit (suc zero) small = refl
 is-digit (suc (suc digit)) small = absurd (omega arith)
 
-bit-digit : (position number : ℕ) → boolByte (bitAt position number) ≡ number / 2 ^ position % 2
+bit-digit : (position number : ℕ) → boolByte (isSet position number) ≡ number / 2 ^ position % 2
 bit-digit position number = is-digit (number / 2 ^ position % 2) (mod-lt (number / 2 ^ position) (omega arith))
 
 -- after a value, a number's lowest bits make the value shifted up by the width, plus the number's lowest digits
@@ -31,7 +32,7 @@ pub number-of-bits : (width value number : ℕ)
 number-of-bits zero value number = omega arith
 number-of-bits (suc width) value number =
     let power : 2 ^ suc width ≡ 2 * 2 ^ width = pow-suc 2 width ∙ mul-comm (2 ^ width) 2 in
-    number-of-bits width (2 * value + boolByte (bitAt width number)) number
+    number-of-bits width (2 * value + boolByte (isSet width number)) number
     ∙ rw (
       power,
       bit-digit width number,
@@ -43,9 +44,9 @@ number-of-bits (suc width) value number =
     )
 
 -- an event below 512 is read back from its bits
-pub event-of-bits : (event : ℕ) → event < 512 → byteEvent (numberFrom 0 (byteBits event)) (bitAt 8 event) ≡ event
+pub event-of-bits : (event : ℕ) → event < 512 → byteEvent (numberFrom 0 (byteBits event)) (isSet 8 event) ≡ event
 unfolding byteBits
 event-of-bits event small =
     let low : numberFrom 0 (byteBits event) ≡ 0 * 256 + event % 256 = number-of-bits 8 0 event in
-    let ninth : boolByte (bitAt 8 event) ≡ event / 256 % 2 = bit-digit 8 event in
+    let ninth : boolByte (isSet 8 event) ≡ event / 256 % 2 = bit-digit 8 event in
     omega (arith, low, ninth)

@@ -13,7 +13,8 @@ use Rattle.bus.specs.Levels.{starts, stops, falls}
 use Rattle.bus.specs.Events.{isByte, byteEvent, startEvent, repeatedStartEvent, stopEvent}
 use Rattle.bus.specs.Decode.{idle, takes, withBit, next, cut, lists, events, final}
 use Rattle.bus.specs.Complete.{complete}
-use Rattle.bus.specs.Encode.{bitAt, bitsBelow, byteBits, drawBit, drawEvent, drawEvents, drawing}
+use Rattle.bits.specs.Positions.{isSet}
+use Rattle.bus.specs.Encode.{bitsBelow, byteBits, drawBit, drawEvent, drawEvents, drawing}
 use Rattle.bus_theorems.proofs.Frames.{Completes, ended, start, first, more, again, stop, completes}
 use Rattle.bus_theorems.proofs.Bits.{numberFrom, event-of-bits}
 use Rattle.bus_theorems.proofs.Reading.{Reads, then-reads, between, opened, showing}
@@ -22,12 +23,12 @@ use Rattle.bus_theorems.proofs.Reading.{first-bit, bit-after-byte, bits
 -- a byte, from wherever a first bit can be read
 byte-reads : (from : Decoder) (listed : List ℕ) → ((bit : Bool) → Reads from (drawBit bit) listed (showing bit 0 0))
     → (event : ℕ) → isByte event ≡ true
-    → Reads from (drawEvent event) listed (showing (bitAt 8 event) 8 (numberFrom 0 (byteBits event)))
+    → Reads from (drawEvent event) listed (showing (isSet 8 event) 8 (numberFrom 0 (byteBits event)))
 unfolding drawEvent byteBits
 byte-reads from listed begins event byte =
     rw (byte, ← append-nil listed)
-    (then-reads (begins (bitAt 7 event))
-    (bits-within (bitsBelow 7 event) (bitAt 7 event) (bitAt 8 event) 0 0 (omega arith)))
+    (then-reads (begins (isSet 7 event))
+    (bits-within (bitsBelow 7 event) (isSet 7 event) (isSet 8 event) 0 0 (omega arith)))
 
 start-reads : (marked : Bool) → Reads (between marked) (drawEvent startEvent) (startEvent ∷ []) opened
 unfolding drawEvent starts stops falls takes withBit next cut lists
@@ -61,7 +62,7 @@ owed Broken bit value = []
 
 -- a byte that was drawn is owed as the event that it was drawn for
 drawn-byte : (event : ℕ) (rest : List ℕ) → isByte event ≡ true
-    → owed Within (bitAt 8 event) (numberFrom 0 (byteBits event)) ++ rest ≡ event ∷ rest
+    → owed Within (isSet 8 event) (numberFrom 0 (byteBits event)) ++ rest ≡ event ∷ rest
 drawn-byte event rest byte = ap (λ (e : ℕ). e ∷ rest) (event-of-bits event (ltb-true event 512 byte))
 
 -- these levels list these events, and after them no frame is open
@@ -80,10 +81,10 @@ reads-rest ended bit value = record { marked = bit; reads = record { lists-them 
 reads-rest (start rest) bit value = then-settles (start-reads bit) (reads-rest rest bit value)
 reads-rest (first {event} {events} byte rest) bit value =
     then-settles (byte-reads opened [] first-bit event byte)
-    (rw (drawn-byte event events byte) at (reads-rest rest (bitAt 8 event) (numberFrom 0 (byteBits event))))
+    (rw (drawn-byte event events byte) at (reads-rest rest (isSet 8 event) (numberFrom 0 (byteBits event))))
 reads-rest (more {event} {events} byte rest) bit value =
     then-settles (byte-reads (showing bit 8 value) (owed Within bit value) (bit-after-byte bit value) event byte)
-    (rw (drawn-byte event events byte) at (reads-rest rest (bitAt 8 event) (numberFrom 0 (byteBits event))))
+    (rw (drawn-byte event events byte) at (reads-rest rest (isSet 8 event) (numberFrom 0 (byteBits event))))
 reads-rest (again rest) bit value = then-settles (again-reads bit value) (reads-rest rest bit value)
 reads-rest (stop rest) bit value = then-settles (stop-reads bit value) (reads-rest rest true value)
 

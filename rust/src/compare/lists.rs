@@ -34,7 +34,8 @@ pub fn pattern(salt: u64, index: u64) -> u64 {
     Random::new(salt ^ index).bits()
 }
 
-fn draw_list(random: &mut Random) -> (&'static str, Vec<u16>) {
+/// A list, complete or not, and what kind it is.
+pub fn draw_list(random: &mut Random) -> (&'static str, Vec<u16>) {
     let mut events = complete_list(random);
     match random.below(8) {
         0..=3 => ("complete", events),
@@ -108,7 +109,8 @@ fn any_entry(random: &mut Random) -> u16 {
     }
 }
 
-fn draw_gap(random: &mut Random) -> u32 {
+/// Any gap, often one at the limits.
+pub fn draw_gap(random: &mut Random) -> u32 {
     match random.below(16) {
         0 => 0,
         1 => GAP + 1,
@@ -121,7 +123,7 @@ fn draw_gap(random: &mut Random) -> u32 {
 }
 
 /// Any start, or one whose last stamp, `span` after it, is close to 2^32.
-fn draw_start(random: &mut Random, span: u64) -> u32 {
+pub fn draw_start(random: &mut Random, span: u64) -> u32 {
     let limit = u64::from(u32::MAX);
     match random.below(4) {
         0 => random.pick(&[0, 1, u32::MAX]),
