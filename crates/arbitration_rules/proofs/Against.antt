@@ -1,6 +1,5 @@
--- A message against the bytes that the bus has carried, those of the least message: its master is in as long as
--- they are its
--- own, and then has a byte to come that is not below the bus's next one.
+-- A message against the bytes that the bus has carried, those of the least message: its master is in as long as they
+-- are its own, and then has a byte to come that is not below the bus's next one.
 use Prim.Native.Nat.{ℕ, suc, _+_, _≤_, _<_}
 use native.Mathlib.Omega.{arith}
 use mathlib.Core.Path.{_≡_, refl, ap, sym, _∙_}

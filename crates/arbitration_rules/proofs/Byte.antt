@@ -1,6 +1,5 @@
 -- Eight turns carry the least byte of those that drive: the bus shows at each turn the bit of the master with the
--- least byte,
--- and who drives another bit is beaten at the first bit in which it differs.
+-- least byte, and who drives another bit is beaten at the first bit in which it differs.
 use Prim.Native.Nat.{ℕ, suc, _+_, _*_}
 use native.Mathlib.Omega.{arith}
 use mathlib.Core.Path.{_≡_, refl, ap, ap₂, sym, subst, _∙_}

@@ -1,6 +1,5 @@
 -- The loop over the bytes: it ends with the first byte that is not acknowledged, or with the least message's last
--- byte. What it
--- has carried by then are that message's first k bytes, drawn each with its acknowledge.
+-- byte. What it has carried by then are that message's first k bytes, drawn each with its acknowledge.
 use Prim.Native.Nat.{ℕ, zero, suc, _+_, _*_, _≤_, _<_}
 use native.Mathlib.Omega.{arith}
 use native.Mathlib.Numerals.{add-one}

@@ -1,6 +1,5 @@
 -- Between two bytes: masters still in wait with SCL high, all alike; who is out has released both lines. What they
--- write there,
--- and the turn of the acknowledge.
+-- write there, and the turn of the acknowledge.
 use Prim.Native.Nat.{ℕ, _<_}
 use native.Mathlib.Omega.{arith}
 use mathlib.Core.Path.{_≡_, refl, ap, sym, _∙_}

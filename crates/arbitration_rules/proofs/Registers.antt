@@ -1,6 +1,5 @@
 -- The registers of a module in a run: driving a byte, beaten in this byte, released, awaiting the acknowledge; and
--- what one turn
--- makes of each, with n bits to go.
+-- what one turn makes of each, with n bits to go.
 use Prim.Native.Nat.{ℕ, suc, _<_}
 use mathlib.Core.Path.{_≡_, refl, ap, ap₂, _∙_}
 use mathlib.Core.Bool.{Bool, cond, true, false, not, _&&_, Bool·beq}

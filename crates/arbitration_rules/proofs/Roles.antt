@@ -1,6 +1,5 @@
 -- The roles of a master while a byte is on the bus: driving its bits; beaten in this byte, and clocking on;
--- released, having
--- lost before. One turn takes role to role.
+-- released, having lost before. One turn takes role to role.
 use Prim.Native.Nat.{ℕ, zero, suc, _+_, _<_}
 use native.Mathlib.Omega.{arith}
 use mathlib.Core.Path.{_≡_, refl, ap, _∙_}
@@ -16,8 +15,8 @@ use Rattle.arbitration_rules.proofs.Turn.{Turns}
 use Rattle.arbitration_rules.proofs.Registers.{driving, beaten, released, turns-to, driving-turn}
 use Rattle.arbitration_rules.proofs.Registers.{beaten-turn, released-turn}
 
--- rest: the bits that it has still to send. The bits that it took in stand behind them in its register: those of
--- the bus.
+-- rest: the bits that it has still to send. The bits that it took in stand behind them in its register: those of the
+-- bus.
 pub data Role : Type 0 where
   drives : (rest : List Bool) (latch enable : Bool) → Role
   lost : (rest : List Bool) (latch : Bool) (position : ℕ) → Role

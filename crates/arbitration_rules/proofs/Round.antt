@@ -1,6 +1,5 @@
 -- A whole byte with its acknowledge: it is loaded, carried in eight turns and acknowledged in a ninth; the bus
--- carries the least
--- byte of those still in, and each master stands as that byte decides.
+-- carries the least byte of those still in, and each master stands as that byte decides.
 use Prim.Native.Nat.{ℕ, _*_, _≤_, _<_}
 use mathlib.Core.Path.{_≡_, refl, ap, ap₂, sym, _∙_}
 use mathlib.Core.Bool.{Bool, true, false, not, _||_, false≢true}

@@ -1,6 +1,5 @@
 -- Refusal 16 over a run: without it the run was cut short by an acknowledge 1, or all that are still in have sent
--- all of their
--- messages; with it someone still in has, and someone still in has not.
+-- all of their messages; with it someone still in has, and someone still in has not.
 use Prim.Native.Nat.{ℕ, suc, _<_}
 use native.Mathlib.Omega.{arith}
 use mathlib.Core.Path.{_≡_, refl, ap, ap₂, sym, _∙_}

@@ -1,7 +1,6 @@
 -- One module through one bit turn. A module that clocks goes through it by the rules alone, whatever its count, its
--- register
--- and the byte's other masters: it pulls SCL while low, drives the first bit of USISRL, and at the rise takes the
--- bus's bit.
+-- register and the byte's other masters: it pulls SCL while low, drives the first bit of USISRL, and at the rise
+-- takes the bus's bit.
 use Prim.Native.Nat.{ℕ}
 use mathlib.Core.Path.{_≡_, ap, ap₂, _∙_}
 use mathlib.Core.Bool.{Bool, cond, true, false, not, _&&_, _||_}
@@ -39,8 +38,7 @@ between control flags count register latch enable sda =
     state control flags count register latch enable true true sda
 
 -- the instants of a turn: the tick and the first low sample, at which SDA is still what it was; the second low
--- sample, with
--- the bit, and the tick; the high sample
+-- sample, with the bit, and the tick; the high sample
 abbrev pub ticks : Usi → Usi
 ticks usi = moduleOf (tick usi)
 

@@ -29,8 +29,7 @@ afterStop usictl0 usictl1 usicnt usisrl latch enable =
     }
 
 -- who is still in ends with C8 45 22 00 and FF; who lost ends with C0 4D 22 80 and the carried byte in which it
--- lost, its latch
--- being the last bit of its own byte there
+-- lost, its latch being the last bit of its own byte there
 abbrev pub finalUsi : List ℕ → List ℕ → Option ℕ → Usi
 finalUsi carried message none = afterStop 0xc8 0x45 0x00 0xff true true
 finalUsi carried message (some position) =

@@ -18,7 +18,7 @@ withUsi usi master =
 abbrev pub entering : Master
 entering = record { usi = powerUp 0 0; contending = true; lost = false; position = 0 }
 
--- A register written; the module that the step hands back (none of a run's steps is refused).
+-- A register written: the module that the step hands back (where it is refused, the module as it was).
 abbrev pub register : ℕ → ℕ → Usi → Usi
 register address value usi = moduleOf (writeByte usi address value)
 

@@ -71,8 +71,7 @@ unfoldable pub positionIn : ℕ → ℕ → ℕ → ℕ
 positionIn byte own index = 9 * index + unequalBit (byteBits byte) (byteBits own)
 
 -- A master loses exactly when its message and the carried bytes are unequal at some place; the first such byte and
--- in it the
--- first unequal bit give its position. The bytes compared are those from an index on.
+-- in it the first unequal bit give its position. The bytes compared are those from an index on.
 abbrev pub lossFrom : ℕ → List ℕ → List ℕ → Option ℕ
 lossFrom index [] message = none
 lossFrom index (byte ∷ bytes) [] = none
@@ -95,8 +94,7 @@ outcome messages acknowledges =
     }
 
 -- Refusal 16: the least message is acknowledged at each of its bytes and is a proper beginning of another. (One
--- master would
--- send a STOP where another sends a bit: the I2C specification leaves such an arbitration undefined.)
+-- master would send a STOP where another sends a bit: the I2C specification leaves such an arbitration undefined.)
 abbrev pub allAcknowledged : List ℕ → List ℕ → Bool
 allAcknowledged [] acknowledges = true
 allAcknowledged (byte ∷ bytes) [] = true

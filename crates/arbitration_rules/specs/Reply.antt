@@ -23,8 +23,7 @@ abbrev pub badCount : List ℕ → Bool
 badCount lengths = eqb (length lengths) 0 || ltb maxMasters (length lengths)
 
 -- 13: a message of 0 or over 32 bytes, or lengths don't sum to the bytes lent. Its place: the first such message,
--- else how many
--- there are.
+-- else how many there are.
 abbrev pub firstBadLength : List ℕ → ℕ
 firstBadLength [] = 0
 firstBadLength (count ∷ counts) = cond (eqb count 0 || ltb maxLength count) 0 (suc (firstBadLength counts))

@@ -16,8 +16,7 @@ use Rattle.arbitration_rules.specs.Masters.{entering, written, applied}
 use Rattle.arbitration_rules.specs.Outcome.{Fate, Outcome, any}
 
 -- The bus in a run: its masters, whether the acknowledge pulls SDA, the level sampled last, what of a byte has been
--- taken,
--- the recorded levels and the carried bytes.
+-- taken, the recorded levels and the carried bytes.
 pub record Bus : Type 0 where
   pub masters : List Master
   pub pull : Bool
@@ -96,8 +95,7 @@ pulled pull bus =
     }
 
 -- Step 3, a bit turn: all tick; sample; sample again (recorded); all tick; sample (recorded). The pull starts
--- between the two
--- low samples of its own bit turn and ends between those of the next one.
+-- between the two low samples of its own bit turn and ends between those of the next one.
 unfoldable pub bitTurn : Bool → Bus → Bus
 bitTurn pull bus = recorded (every Tick (recorded (pulled pull (sampled (every Tick bus)))))
 
@@ -164,8 +162,7 @@ through messages sent masters =
     (zipWith (λ (master : Master) message. master .contending && leb (length message) sent) masters messages)
 
 -- Step 2 until answer 1 or the last byte. Free: which byte is the last where those still in have messages of
--- different
--- lengths (only when refusal 16 applies). Here it is the last of the shortest of them.
+-- different lengths (only when refusal 16 applies). Here it is the last of the shortest of them.
 abbrev pub bytesTurn : List (List ℕ) → List ℕ → ℕ → Bus → Bus
 bytesTurn messages [] index bus = bus
 bytesTurn messages (acknowledge ∷ acknowledges) index bus =
@@ -194,8 +191,7 @@ started bus =
     (recorded (writes ((USISRL, 0x00) ∷ (USICTL0, 0xce) ∷ (USICTL0, 0xca) ∷ []) (recorded bus)))
 
 -- Step 4: those still in write USICTL0=CAh, USISRL=00h, USICNT=01h; a bit turn; USISRL=FFh, USICTL0=CEh; sample
--- (recorded:
--- STOP); USICTL0=C8h.
+-- (recorded: STOP); USICTL0=C8h.
 unfoldable pub stopped : Bus → Bus
 stopped bus =
     writes ((USICTL0, 0xc8) ∷ [])
