@@ -82,7 +82,7 @@ run-ends messages acknowledges (byte ∷ more) contest sendable bits =
         (3 ∷ 1 ∷ drawEvents (byteEvents carried acknowledges)) carried
         (winner-in messages (byte ∷ more) (carriedCount (byte ∷ more) acknowledges) (contest .sent))
 
-contest : (messages : List (List ℕ)) {acknowledges : List ℕ} → Arbitration messages acknowledges
+pub contest : (messages : List (List ℕ)) {acknowledges : List ℕ} → Arbitration messages acknowledges
     → Contest messages (least messages)
 contest [] given = absurd (omega (arith, given .someone))
 contest (message ∷ messages) given =

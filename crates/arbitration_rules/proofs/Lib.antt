@@ -24,3 +24,4 @@ pub mod FinalMasters
 pub mod RecordedLevels
 pub mod Accepted
 pub mod Together
+pub mod LastByte

@@ -29,11 +29,11 @@ module _ (messages : List (List ℕ)) (acknowledge : ℕ) (acknowledges : List �
       (bytesTurn messages acknowledges (suc index) b))
       turn
 
-  stops-here : eqb acknowledge 1 || through messages (suc index) (after .masters) ≡ true
+  pub stops-here : eqb acknowledge 1 || through messages (suc index) (after .masters) ≡ true
       → bytesTurn messages (acknowledge ∷ acknowledges) index bus ≡ after
   stops-here last = unrolled ∙ ap (λ t. cond t after (bytesTurn messages acknowledges (suc index) after)) last
 
-  continues : eqb acknowledge 1 || through messages (suc index) (after .masters) ≡ false
+  pub continues : eqb acknowledge 1 || through messages (suc index) (after .masters) ≡ false
       → bytesTurn messages (acknowledge ∷ acknowledges) index bus ≡ bytesTurn messages acknowledges (suc index) after
   continues more = unrolled ∙ ap (λ t. cond t after (bytesTurn messages acknowledges (suc index) after)) more
 
@@ -97,16 +97,16 @@ from same carried =
       is = same ∙ carried .is;
     }
 
-longer : (carried : List ℕ) (byte index : ℕ) → length carried ≡ index → length (carried ++ byte ∷ []) ≡ suc index
+pub longer : (carried : List ℕ) (byte index : ℕ) → length carried ≡ index → length (carried ++ byte ∷ []) ≡ suc index
 longer carried byte index at = length-append carried (byte ∷ []) ∙ add-one (length carried) ∙ ap suc at
 
-on : {messages : List (List ℕ)} (carried : List ℕ) (byte next : ℕ) (more : List ℕ)
+pub on : {messages : List (List ℕ)} (carried : List ℕ) (byte next : ℕ) (more : List ℕ)
     → Contest messages (carried ++ byte ∷ next ∷ more) → Contest messages (carried ++ byte ∷ [] ++ next ∷ more)
 on {messages} carried byte next more contest =
     subst (Contest messages) (sym (append-assoc carried (byte ∷ []) (next ∷ more))) contest
 
 -- the byte at an index, which is how many have been carried
-turn-at : (messages : List (List ℕ)) (carried : List ℕ) (byte : ℕ) (more : List ℕ)
+pub turn-at : (messages : List (List ℕ)) (carried : List ℕ) (byte : ℕ) (more : List ℕ)
     → Contest messages (carried ++ byte ∷ more)
     → (index : ℕ) → length carried ≡ index
     → (acknowledge : ℕ) (pause : Pause) (pull : Bool) (level old : ℕ) (levels bytes : List ℕ) → acknowledge ≤ 1

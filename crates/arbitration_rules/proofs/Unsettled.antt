@@ -95,7 +95,15 @@ any-true test (a ∷ l) some-so = go (any-true test l) (test a) refl
     go rest true first = this first
     go rest false first = another (rest (rw first at some-so))
 
--- 16 does not apply: the least message was cut short, or it was sent whole and whoever is still in ends with it
+-- 16 does not apply: where the least message is acknowledged whole, no other goes on from it
+pub none-goes-on : (messages : List (List ℕ)) (acknowledges : List ℕ) → unsettled messages acknowledges ≡ false
+    → allAcknowledged (least messages) acknowledges ≡ true
+    → Everyone (λ own. begins (least messages) own ≡ false) messages
+unfolding unsettled
+none-goes-on messages acknowledges settled all =
+    any-false (begins (least messages)) messages (rw all at settled)
+
+-- so the least message was cut short, or it was sent whole and whoever is still in ends with it
 pub ends-together : (messages : List (List ℕ)) (acknowledges : List ℕ)
     → Everyone (λ acknowledge. acknowledge ≤ 1) acknowledges → unsettled messages acknowledges ≡ false
     → CutShort (least messages) acknowledges
