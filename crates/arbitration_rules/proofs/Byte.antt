@@ -7,9 +7,11 @@ use mathlib.Core.Bool.{Bool, true, false, not}
 use mathlib.Core.List.{List, [], _∷_, _++_, map, map-map, append-assoc, append-nil}
 use mir.Val.{boolByte}
 use lib.ListN.{length, length-append}
+use Rattle.usi.specs.declared.Usi.{Usi}
 use Rattle.bus.specs.Levels.{sda}
 use Rattle.bus.specs.Encode.{drawBit, drawBits}
 use Rattle.bus_theorems.proofs.Bits.{numberFrom}
+use Rattle.arbitration_rules.specs.declared.Master.{Master}
 use Rattle.arbitration_rules.specs.declared.Operation.the-variants.{Judge}
 use Rattle.arbitration_rules.specs.Masters.{withUsi, judged}
 use Rattle.arbitration_rules.specs.Outcome.{any}
@@ -31,32 +33,37 @@ shown : (bit : Bool) → sda (levelOf true bit) ≡ bit
 shown true = refl
 shown false = refl
 
--- a data turn of masters in their roles
-data-turn : (n : ℕ) (taken : List Bool) → suc n + length taken ≡ 8
-    → (at : ℕ) (roles : List Role) (before pull bit : Bool)
-    (level byte : ℕ) (levels carried : List ℕ)
-    → Everyone (Sending (suc n)) roles → any clocks roles ≡ true → not (any pulls roles) ≡ bit
-    → dataTurn at (busOf (map (masterOf (suc n) taken before) roles) pull level byte levels carried)
-    ≡ busOf (map (masterOf n (taken ++ bit ∷ []) bit) (map (turnOf at bit) roles)) false (levelOf true bit)
-    (2 * byte + boolByte bit) (levels ++ drawBit bit) carried
-unfolding dataTurn
-data-turn n taken eight at roles before pull bit level byte levels carried sending clocked line =
-    ap (λ bus. bitTaken (every (Judge at) bus))
-    (turn-is (masterOf (suc n) taken before) roles (λ role. usiOf n (taken ++ bit ∷ []) bit (turnOf at bit role))
-    clocks pulls
-    pull false bit level byte levels carried
-    (everyone-so (role-turn n taken eight before bit at) sending) clocked line)
-    ∙ ap₂ (λ masters b. busOf masters false (levelOf true bit) (2 * byte + boolByte b)
-    (levels ++ levelOf false bit ∷ levelOf true bit ∷ []) carried)
-    (map-map (judged at)
-    (λ role. withUsi (usiOf n (taken ++ bit ∷ []) bit (turnOf at bit role)) (masterOf (suc n) taken before role))
-    roles
-    ∙ map-alike (everyone-so (role-judged n taken eight before bit at) sending)
-    ∙ sym (map-map (masterOf n (taken ++ bit ∷ []) bit) (turnOf at bit) roles))
-    (shown bit)
-    ∙ ap (λ recording. busOf (map (masterOf n (taken ++ bit ∷ []) bit) (map (turnOf at bit) roles)) false
-    (levelOf true bit) (2 * byte + boolByte bit) (levels ++ recording) carried)
-    (drawn bit)
+-- a data turn of masters in their roles: the modules, then who has lost, then the bit
+module _ (n : ℕ) (taken : List Bool) (eight : suc n + length taken ≡ 8) (at : ℕ) (roles : List Role)
+    (before pull bit : Bool) (level byte : ℕ) (levels carried : List ℕ) (sending : Everyone (Sending (suc n)) roles)
+    (clocked : any clocks roles ≡ true) (line : not (any pulls roles) ≡ bit) where
+  -- the modules after the turn
+  abbrev after : Role → Usi
+  after role = usiOf n (taken ++ bit ∷ []) bit (turnOf at bit role)
+
+  abbrev next : List Master
+  next = map (masterOf n (taken ++ bit ∷ []) bit) (map (turnOf at bit) roles)
+
+  judging : map (judged at) (map (λ role. withUsi (after role) (masterOf (suc n) taken before role)) roles) ≡ next
+  judging =
+      map-map (judged at) (λ role. withUsi (after role) (masterOf (suc n) taken before role)) roles
+      ∙ map-alike (everyone-so (role-judged n taken eight before bit at) sending)
+      ∙ sym (map-map (masterOf n (taken ++ bit ∷ []) bit) (turnOf at bit) roles)
+
+  data-turn : dataTurn at (busOf (map (masterOf (suc n) taken before) roles) pull level byte levels carried)
+      ≡ busOf next false (levelOf true bit) (2 * byte + boolByte bit) (levels ++ drawBit bit) carried
+  unfolding dataTurn
+  data-turn =
+      ap (λ bus. bitTaken (every (Judge at) bus))
+      (turn-is (masterOf (suc n) taken before) roles after clocks pulls pull false bit level byte levels carried
+      (everyone-so (role-turn n taken eight before bit at) sending) clocked line)
+      ∙ ap₂ (λ masters b. busOf masters false (levelOf true bit) (2 * byte + boolByte b) (levels ++ samples) carried)
+      judging (shown bit)
+      ∙ ap (λ drawing. busOf next false (levelOf true bit) (2 * byte + boolByte bit) (levels ++ drawing) carried)
+      (drawn bit)
+    where
+      samples : List ℕ
+      samples = levelOf false bit ∷ levelOf true bit ∷ []
 
 -- against bits to come: who drives has bits not below them; the winner has these very bits
 abbrev pub Within : List Bool → Role → Type 0
@@ -148,31 +155,44 @@ map-same [] = refl
 map-same (a ∷ l) = ap (λ k. a ∷ k) (map-same l)
 
 pub turns : (bits taken : List Bool) → length bits + length taken ≡ 8
-    → (at : ℕ) (roles : List Role) (line : Line) (byte : ℕ)
-    (levels carried : List ℕ) → Everyone (Within bits) roles → Someone (Leads bits) roles
+    → (at : ℕ) (roles : List Role) (line : Line) (byte : ℕ) (levels carried : List ℕ)
+    → Everyone (Within bits) roles → Someone (Leads bits) roles
     → dataTurns (length bits) at (inByte (length bits) taken line roles byte levels carried)
     ≡ inByte 0 (taken ++ bits) (lineAfter line bits) (map (turnsOf at bits) roles) (numberFrom byte bits)
     (levels ++ drawBits bits) carried
 turns [] taken eight at roles line byte levels carried all some =
     ap₂ (λ bits masters. inByte 0 bits line masters byte levels carried) (sym (append-nil taken)) (sym (map-same roles))
-    ∙ ap (λ recording. inByte 0 (taken ++ []) line (map (λ role. role) roles) byte recording carried)
-    (sym (append-nil levels))
+    ∙ ap end (sym (append-nil levels))
+  where
+    end : List ℕ → Bus
+    end recording = inByte 0 (taken ++ []) line (map (λ role. role) roles) byte recording carried
 turns (bit ∷ bits) taken eight at roles line byte levels carried all some =
-    ap (dataTurns (length bits) (suc at))
-    (data-turn (length bits) taken eight at roles (line .sda) (line .pull) bit (line .level) byte levels carried
-    (everyone-so (within-sends (bit ∷ bits)) all) (any-one (someone-so (leader-clocks (bit ∷ bits)) some))
-    (bus-bit bit bits roles all some))
-    ∙ turns bits (taken ++ bit ∷ []) longer (suc at) (map (turnOf at bit) roles) (shows bit) (2 * byte + boolByte bit)
-    (levels ++ drawBit bit) carried
+    ap (dataTurns (length bits) (suc at)) first
+    ∙ turns bits (taken ++ bit ∷ []) longer (suc at) later (shows bit) (2 * byte + boolByte bit) (levels ++ drawBit bit)
+    carried
     (everyone-map (turnOf at bit) (everyone-so (within-turn at bit bits) all))
     (someone-map (turnOf at bit) (someone-so (leads-turn at bit bits) some))
-    ∙ ap₂ (λ got masters. inByte 0 got (lineAfter (shows bit) bits) masters (numberFrom (2 * byte + boolByte bit) bits)
-    (levels ++ drawBit bit ++ drawBits bits) carried)
+    ∙ ap₂ (λ got masters. end got masters (levels ++ drawBit bit ++ drawBits bits))
     (append-assoc taken (bit ∷ []) bits) (map-map (turnsOf (suc at) bits) (turnOf at bit) roles)
-    ∙ ap (λ recording. inByte 0 (taken ++ bit ∷ bits) (lineAfter (shows bit) bits) (map (turnsOf at (bit ∷ bits)) roles)
-    (numberFrom (2 * byte + boolByte bit) bits) recording carried)
+    ∙ ap (end (taken ++ bit ∷ bits) (map (turnsOf at (bit ∷ bits)) roles))
     (append-assoc levels (drawBit bit) (drawBits bits))
   where
+    later : List Role
+    later = map (turnOf at bit) roles
+
+    end : List Bool → List Role → List ℕ → Bus
+    end got masters recording =
+        inByte 0 got (lineAfter (shows bit) bits) masters (numberFrom (2 * byte + boolByte bit) bits) recording carried
+
+    first : dataTurn at (inByte (length (bit ∷ bits)) taken line roles byte levels carried)
+        ≡ inByte (length bits) (taken ++ bit ∷ []) (shows bit) later (2 * byte + boolByte bit) (levels ++ drawBit bit)
+        carried
+    first =
+        data-turn (length bits) taken eight at roles (line .sda) (line .pull) bit (line .level) byte levels carried
+        (everyone-so (within-sends (bit ∷ bits)) all)
+        (any-one (someone-so (leader-clocks (bit ∷ bits)) some))
+        (bus-bit bit bits roles all some)
+
     longer : length bits + length (taken ++ bit ∷ []) ≡ 8
     longer = ap (λ k. length bits + k) (length-append taken (bit ∷ [])) ∙ omega arith
 

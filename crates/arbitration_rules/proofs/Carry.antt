@@ -11,7 +11,7 @@ use borrow.Author.Tests.{le-leb, lt-leb}
 use Rattle.bus.specs.Encode.{drawEvent}
 use Rattle.arbitration_rules.specs.declared.Master.{Master}
 use Rattle.arbitration_rules.specs.Outcome.{any, atMost}
-use Rattle.arbitration_rules.specs.Run.{levelOf, byteTurn, through}
+use Rattle.arbitration_rules.specs.Run.{Bus, levelOf, byteTurn, through}
 use Rattle.arbitration_rules.proofs.Lists.{Everyone, nobody, also, Someone, this, another, everyone-so}
 use Rattle.arbitration_rules.proofs.Lists.{someone-so}
 use Rattle.arbitration_rules.proofs.Lists.{map-alike, any-none, any-one, any-map, zipWith-map}
@@ -64,31 +64,35 @@ module _ (messages : List (List ℕ)) (carried : List ℕ) (byte : ℕ) (more : 
       (contest .sent)
 
   -- one byte of it
-  pub carry-byte : (acknowledge : ℕ) (pause : Pause) (pull : Bool) (level old : ℕ) (levels bytes : List ℕ)
-      → acknowledge ≤ 1
-      → byteTurn messages (length carried) acknowledge
-      (busOf (waits pause (against 0 carried) messages) pull level old levels bytes)
-      ≡ busOf (waits (afterByte byte (ninthBit acknowledge)) (against 0 (carried ++ byte ∷ [])) messages)
-      (eqb acknowledge 0) (levelOf true (ninthBit acknowledge)) byte (levels ++ drawEvent (byte + 256 * acknowledge))
-      (bytes ++ byte ∷ [])
-  carry-byte acknowledge pause pull level old levels bytes one =
-      byte-turn messages (against 0 carried) (length carried) byte acknowledge pause pull level old levels bytes small
-      (everyone-so (λ message small. byte-below small (length carried)) (contest .bytes))
-      (everyone-so (λ message least still. in-has-byte 0 carried byte more message least still .1) (contest .least))
-      leader
-      ∙ ap₂ (λ masters recording. busOf masters (eqb acknowledge 0) (levelOf true (ninthBit acknowledge)) byte
-      (levels ++ recording) (bytes ++ byte ∷ []))
-      (map-alike (everyone-so
-      (λ message least. ap (masterAt (afterByte byte (ninthBit acknowledge))) (next message least)) (contest .least)))
-      (byte-drawn byte acknowledge small one)
-    where
-      next : (message : List ℕ) → atMost (carried ++ byte ∷ more) message ≡ true
-          → standingAfter (length carried) byte (byteAt (length carried) message) (against 0 carried message)
-          ≡ against 0 (carried ++ byte ∷ []) message
-      next message least =
-          ap (λ (i : ℕ). standingAfter i byte (byteAt (length carried) message) (against 0 carried message))
-          (omega arith)
-          ∙ against-next 0 carried byte message (λ still. in-has-byte 0 carried byte more message least still .0)
+  module _ (acknowledge : ℕ) (one : acknowledge ≤ 1) where
+    abbrev pause : Pause
+    pause = afterByte byte (ninthBit acknowledge)
+
+    stands : (message : List ℕ) → atMost (carried ++ byte ∷ more) message ≡ true
+        → standingAfter (length carried) byte (byteAt (length carried) message) (against 0 carried message)
+        ≡ against 0 (carried ++ byte ∷ []) message
+    stands message least =
+        ap (λ (i : ℕ). standingAfter i byte (byteAt (length carried) message) (against 0 carried message)) (omega arith)
+        ∙ against-next 0 carried byte message (λ still. in-has-byte 0 carried byte more message least still .0)
+
+    pub carry-byte : (before : Pause) (pull : Bool) (level old : ℕ) (levels bytes : List ℕ)
+        → byteTurn messages (length carried) acknowledge
+        (busOf (waits before (against 0 carried) messages) pull level old levels bytes)
+        ≡ busOf (waits pause (against 0 (carried ++ byte ∷ [])) messages) (eqb acknowledge 0)
+        (levelOf true (ninthBit acknowledge)) byte (levels ++ drawEvent (byte + 256 * acknowledge)) (bytes ++ byte ∷ [])
+    carry-byte before pull level old levels bytes =
+        byte-turn messages (against 0 carried) (length carried) byte acknowledge before pull level old levels bytes small
+        (everyone-so (λ message small. byte-below small (length carried)) (contest .bytes))
+        (everyone-so (λ message least still. in-has-byte 0 carried byte more message least still .1) (contest .least))
+        leader
+        ∙ ap₂ after
+        (map-alike (everyone-so (λ message least. ap (masterAt pause) (stands message least)) (contest .least)))
+        (byte-drawn byte acknowledge small one)
+      where
+        after : List Master → List ℕ → Bus
+        after masters drawing =
+            busOf masters (eqb acknowledge 0) (levelOf true (ninthBit acknowledge)) byte (levels ++ drawing)
+            (bytes ++ byte ∷ [])
 
 through-is : (messages : List (List ℕ)) (standing : List ℕ → Standing) (pause : Pause) (count : ℕ)
     → through messages count (waits pause standing messages)

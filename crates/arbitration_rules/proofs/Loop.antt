@@ -117,7 +117,7 @@ pub turn-at : (messages : List (List ℕ)) (carried : List ℕ) (byte : ℕ) (mo
 turn-at messages carried byte more contest index at acknowledge pause pull level old levels bytes one =
     ap (λ (i : ℕ). byteTurn messages i acknowledge
     (busOf (waits pause (against 0 carried) messages) pull level old levels bytes)) (sym at)
-    ∙ carry-byte messages carried byte more contest acknowledge pause pull level old levels bytes one
+    ∙ carry-byte messages carried byte more contest acknowledge one pause pull level old levels bytes
 
 pub carries : (messages : List (List ℕ)) (acknowledges : List ℕ) (index : ℕ) (carried : List ℕ) (byte : ℕ)
     (more : List ℕ)

@@ -11,12 +11,12 @@ use Rattle.bus.specs.Encode.{byteBits, drawBit, drawBits}
 use Rattle.arbitration_rules.specs.declared.Master.{Master}
 use Rattle.arbitration_rules.specs.Masters.{written, withdrawn}
 use Rattle.arbitration_rules.specs.Outcome.{any}
-use Rattle.arbitration_rules.specs.Run.{levelOf, bitTurn, dataTurns, loaded, opened, closed, byteTurn}
+use Rattle.arbitration_rules.specs.Run.{Bus, levelOf, writes, bitTurn, dataTurns, loaded, opened, closed, byteTurn}
 use Rattle.arbitration_rules.proofs.Lists.{Everyone, Someone, everyone, everyone-so, everyone-both}
 use Rattle.arbitration_rules.proofs.Lists.{everyone-map, someone-so}
 use Rattle.arbitration_rules.proofs.Lists.{someone-map, map-alike, any-none, any-one, zipWith-map}
 use Rattle.arbitration_rules.proofs.Bits.{number, number-bits, at-most-bits}
-use Rattle.arbitration_rules.proofs.Wire.{busOf, turn-is}
+use Rattle.arbitration_rules.proofs.Wire.{busOf, turn-is, writes-all}
 use Rattle.arbitration_rules.proofs.Roles.{Role, contends, masterOf, Sending}
 use Rattle.arbitration_rules.proofs.Byte.{Within, Leads, turnsOf, Line, lineAfter, inByte, turns}
 use Rattle.arbitration_rules.proofs.Byte.{within-turns, leads-turns, drawn}
@@ -41,22 +41,31 @@ abbrev enters : Pause → (List ℕ → Standing) → ℕ → List ℕ → Role
 enters pause standing index message =
     entersAs (latchAt pause) (enableAt pause) (byteAt index message) (standing message)
 
+abbrev lineAt : Pause → Bool → ℕ → Line
+lineAt pause pull level = record { sda = sdaAt pause; pull = pull; level = level }
+
+-- the byte is loaded
 opened-is : (messages : List (List ℕ)) (standing : List ℕ → Standing) (index : ℕ) (pause : Pause) (pull : Bool)
-    (level byte : ℕ) (levels carried : List ℕ)
-    → Everyone (λ message. byteAt index message < 256) messages
+    (level byte : ℕ) (levels carried : List ℕ) → Everyone (λ message. byteAt index message < 256) messages
     → opened messages index (busOf (waits pause standing messages) pull level byte levels carried)
-    ≡ busOf (map (masterOf 8 [] (sdaAt pause)) (map (enters pause standing index) messages)) pull level 0 levels carried
+    ≡ inByte 8 [] (lineAt pause pull level) (map (enters pause standing index) messages) 0 levels carried
 unfolding opened loaded
 opened-is messages standing index pause pull level byte levels carried fits =
-    ap (λ masters. busOf masters pull level 0 levels carried)
-    (ap (λ masters. map (written USICNT 0x08) (map (written USICTL0 0xca) masters))
+    ap (λ masters. writes starts (bus masters))
     (zipWith-map (λ master message. written USISRL (byteAt index message) master)
     (λ message. masterAt pause (standing message)) messages)
-    ∙ three-maps (written USICNT 0x08) (written USICTL0 0xca)
-    (λ message. written USISRL (byteAt index message) (masterAt pause (standing message))) messages
-    ∙ map-alike (everyone-so (λ message fit. loads pause (byteAt index message) (standing message) fit) fits)
-    ∙ sym (map-map (masterOf 8 [] (sdaAt pause)) (enters pause standing index) messages))
+    ∙ writes-all starts (λ message. written USISRL (byteAt index message) (masterAt pause (standing message))) messages
+    pull level 0 levels carried
+    ∙ ap bus (map-alike (everyone-so (λ message. loads pause (byteAt index message) (standing message)) fits))
+    ∙ ap bus (sym (map-map (masterOf 8 [] (sdaAt pause)) (enters pause standing index) messages))
+  where
+    starts : List (ℕ × ℕ)
+    starts = (USICTL0, 0xca) ∷ (USICNT, 0x08) ∷ []
 
+    bus : List Master → Bus
+    bus masters = busOf masters pull level 0 levels carried
+
+-- who lost releases both lines, the rest listen
 closed-is : (taken : List Bool) (line : Line) (roles : List Role) (byte : ℕ) (levels carried : List ℕ)
     → Everyone (Sending 0) roles
     → closed (inByte 0 taken line roles byte levels carried)
@@ -64,10 +73,16 @@ closed-is : (taken : List Bool) (line : Line) (roles : List Role) (byte : ℕ) (
     (carried ++ byte ∷ [])
 unfolding closed
 closed-is taken line roles byte levels carried sent =
-    ap (λ masters. busOf masters (line .pull) (line .level) byte levels (carried ++ byte ∷ []))
-    (ap (map (written USICNT 0x01)) (three-maps (written USICTL0 0xc8) withdrawn (masterOf 0 taken (line .sda)) roles)
-    ∙ map-map (written USICNT 0x01) (λ role. written USICTL0 0xc8 (withdrawn (masterOf 0 taken (line .sda) role))) roles
-    ∙ map-alike (everyone-so (listens taken (line .sda)) sent))
+    ap (λ masters. writes listen (bus masters)) (map-map withdrawn (masterOf 0 taken (line .sda)) roles)
+    ∙ writes-all listen (λ role. withdrawn (masterOf 0 taken (line .sda) role)) roles (line .pull) (line .level) byte levels
+    (carried ++ byte ∷ [])
+    ∙ ap bus (map-alike (everyone-so (listens taken (line .sda)) sent))
+  where
+    listen : List (ℕ × ℕ)
+    listen = (USICTL0, 0xc8) ∷ (USICNT, 0x01) ∷ []
+
+    bus : List Master → Bus
+    bus masters = busOf masters (line .pull) (line .level) byte levels (carried ++ byte ∷ [])
 
 or-false : (b : Bool) → b || false ≡ b
 or-false true = refl
@@ -105,65 +120,92 @@ leader-enters byte own latch enable (out register latched position) still same =
 abbrev pub ninthBit : ℕ → Bool
 ninthBit acknowledge = not (eqb acknowledge 0)
 
-pub byte-turn : (messages : List (List ℕ)) (standing : List ℕ → Standing) (index byte acknowledge : ℕ) (pause : Pause)
-    (pull : Bool) (level old : ℕ) (levels carried : List ℕ) → byte < 256
-    → Everyone (λ message. byteAt index message < 256) messages
-    → Everyone (λ message. isIn (standing message) ≡ true → byte ≤ byteAt index message) messages
-    → Someone (λ message. (isIn (standing message) ≡ true) × (byteAt index message ≡ byte)) messages
-    → byteTurn messages index acknowledge (busOf (waits pause standing messages) pull level old levels carried)
-    ≡ busOf
-    (waits (afterByte byte (ninthBit acknowledge))
-    (λ message. standingAfter index byte (byteAt index message) (standing message)) messages)
-    (eqb acknowledge 0) (levelOf true (ninthBit acknowledge)) byte
-    (levels ++ drawBits (byteBits byte ++ ninthBit acknowledge ∷ [])) (carried ++ byte ∷ [])
-unfolding byteTurn byteBits
-byte-turn messages standing index byte acknowledge pause pull level old levels carried small fits fair leader =
-    ap (λ bus. bitTurn (eqb acknowledge 0) (closed (dataTurns 8 (9 * index) bus)))
-    (opened-is messages standing index pause pull level old levels carried fits)
-    ∙ ap (λ bus. bitTurn (eqb acknowledge 0) (closed bus))
-    (turns (byteBits byte) [] refl (9 * index) entered line 0 levels carried all some)
-    ∙ ap (bitTurn (eqb acknowledge 0))
-    (closed-is (byteBits byte) (lineAfter line (byteBits byte)) sent (number (byteBits byte))
-    (levels ++ drawBits (byteBits byte))
-    carried (everyone-map (turnsOf (9 * index) (byteBits byte))
-    (everyone-so (within-turns (9 * index) (byteBits byte)) all)))
-    ∙ ap (λ b. bitTurn (eqb acknowledge 0)
-    (busOf (map (listener b (lineAfter line (byteBits byte) .sda)) sent) false (lineAfter line (byteBits byte) .level) b
-    (levels ++ drawBits (byteBits byte)) (carried ++ b ∷ [])))
-    (number-bits byte small)
-    ∙ acknowledge-turn byte sent (lineAfter line (byteBits byte) .sda) false (eqb acknowledge 0)
-    (lineAfter line (byteBits byte) .level) byte (levels ++ drawBits (byteBits byte)) (carried ++ byte ∷ [])
-    (any-one (someone-map (turnsOf (9 * index) (byteBits byte))
-    (someone-so (leads-turns (9 * index) (byteBits byte)) some)))
-    ∙ ap₂ (λ masters recording. busOf masters (eqb acknowledge 0) (levelOf true (ninthBit acknowledge)) byte
-    recording (carried ++ byte ∷ []))
-    (three-maps (λ role. masterAt (afterByte byte (ninthBit acknowledge)) (standingOf byte role))
-    (turnsOf (9 * index) (byteBits byte)) (enters pause standing index) messages
-    ∙ map-alike (everyone-so (λ message fit. ap (masterAt (afterByte byte (ninthBit acknowledge)))
-    (byte-decides index byte (byteAt index message) (latchAt pause) (enableAt pause) (standing message) small fit))
-    fits))
-    (append-assoc levels (drawBits (byteBits byte)) (drawBit (ninthBit acknowledge)))
-  where
-    line : Line
-    line = record { sda = sdaAt pause; pull = pull; level = level }
+module _ (messages : List (List ℕ)) (standing : List ℕ → Standing) (index byte acknowledge : ℕ) (pause : Pause)
+    (pull : Bool) (level old : ℕ) (levels carried : List ℕ) (small : byte < 256)
+    (fits : Everyone (λ message. byteAt index message < 256) messages)
+    (fair : Everyone (λ message. isIn (standing message) ≡ true → byte ≤ byteAt index message) messages)
+    (leader : Someone (λ message. (isIn (standing message) ≡ true) × (byteAt index message ≡ byte)) messages) where
+  -- the line before and after the eight turns, and the roles
+  abbrev line : Line
+  line = lineAt pause pull level
 
-    entered : List Role
-    entered = map (enters pause standing index) messages
+  abbrev end : Line
+  end = lineAfter line (byteBits byte)
 
-    sent : List Role
-    sent = map (turnsOf (9 * index) (byteBits byte)) entered
+  abbrev entered : List Role
+  entered = map (enters pause standing index) messages
 
-    all : Everyone (Within (byteBits byte)) entered
-    all =
-        everyone-map (enters pause standing index)
-        (everyone-so
-        (λ message both. fair-enters byte (byteAt index message) (latchAt pause) (enableAt pause)
-        (standing message) small
-        (both .0) (both .1)) (everyone-both fits fair))
+  abbrev sent : List Role
+  sent = map (turnsOf (9 * index) (byteBits byte)) entered
 
-    some : Someone (Leads (byteBits byte)) entered
-    some =
-        someone-map (enters pause standing index)
-        (someone-so (λ message both. leader-enters byte (byteAt index message) (latchAt pause) (enableAt pause)
-        (standing message)
-        (both .0) (both .1)) leader)
+  -- how each master stands then
+  abbrev next : List ℕ → Standing
+  next message = standingAfter index byte (byteAt index message) (standing message)
+
+  abbrev drawn-so : List ℕ
+  drawn-so = levels ++ drawBits (byteBits byte)
+
+  all : Everyone (Within (byteBits byte)) entered
+  all =
+      everyone-map (enters pause standing index)
+      (everyone-so (λ message both. fair-enters byte (byteAt index message) (latchAt pause) (enableAt pause)
+      (standing message) small (both .0) (both .1)) (everyone-both fits fair))
+
+  some : Someone (Leads (byteBits byte)) entered
+  some =
+      someone-map (enters pause standing index)
+      (someone-so (λ message both. leader-enters byte (byteAt index message) (latchAt pause) (enableAt pause)
+      (standing message) (both .0) (both .1)) leader)
+
+  -- the eight turns carry the byte
+  carried-byte : dataTurns 8 (9 * index) (inByte 8 [] line entered 0 levels carried)
+      ≡ inByte 0 (byteBits byte) end sent byte drawn-so carried
+  unfolding byteBits
+  carried-byte =
+      turns (byteBits byte) [] refl (9 * index) entered line 0 levels carried all some
+      ∙ ap (λ b. inByte 0 (byteBits byte) end sent b drawn-so carried) (number-bits byte small)
+
+  closed-byte : closed (inByte 0 (byteBits byte) end sent byte drawn-so carried)
+      ≡ busOf (map (listener byte (end .sda)) sent) (end .pull) (end .level) byte drawn-so (carried ++ byte ∷ [])
+  closed-byte =
+      closed-is (byteBits byte) end sent byte drawn-so carried
+      (everyone-map (turnsOf (9 * index) (byteBits byte)) (everyone-so (within-turns (9 * index) (byteBits byte)) all))
+      ∙ ap (λ b. busOf (map (listener b (end .sda)) sent) (end .pull) (end .level) byte drawn-so (carried ++ byte ∷ []))
+      (number-bits byte small)
+
+  -- the masters stand as the byte decides
+  decided : map (λ role. masterAt (afterByte byte (ninthBit acknowledge)) (standingOf byte role)) sent
+      ≡ waits (afterByte byte (ninthBit acknowledge)) next messages
+  decided =
+      three-maps (λ role. masterAt (afterByte byte (ninthBit acknowledge)) (standingOf byte role))
+      (turnsOf (9 * index) (byteBits byte)) (enters pause standing index) messages
+      ∙ map-alike (everyone-so (λ message fit. ap (masterAt (afterByte byte (ninthBit acknowledge)))
+      (byte-decides index byte (byteAt index message) (latchAt pause) (enableAt pause) (standing message) small fit))
+      fits)
+
+  acknowledged-byte : bitTurn (eqb acknowledge 0)
+      (busOf (map (listener byte (end .sda)) sent) (end .pull) (end .level) byte drawn-so (carried ++ byte ∷ []))
+      ≡ busOf (waits (afterByte byte (ninthBit acknowledge)) next messages) (eqb acknowledge 0)
+      (levelOf true (ninthBit acknowledge)) byte (levels ++ drawBits (byteBits byte ++ ninthBit acknowledge ∷ []))
+      (carried ++ byte ∷ [])
+  unfolding byteBits
+  acknowledged-byte =
+      acknowledge-turn byte sent (end .sda) (end .pull) (eqb acknowledge 0) (end .level) byte drawn-so
+      (carried ++ byte ∷ [])
+      (any-one (someone-map (turnsOf (9 * index) (byteBits byte))
+      (someone-so (leads-turns (9 * index) (byteBits byte)) some)))
+      ∙ ap₂ (λ masters recording. busOf masters (eqb acknowledge 0) (levelOf true (ninthBit acknowledge)) byte recording
+      (carried ++ byte ∷ []))
+      decided (append-assoc levels (drawBits (byteBits byte)) (drawBit (ninthBit acknowledge)))
+
+  pub byte-turn : byteTurn messages index acknowledge (busOf (waits pause standing messages) pull level old levels carried)
+      ≡ busOf (waits (afterByte byte (ninthBit acknowledge)) next messages) (eqb acknowledge 0)
+      (levelOf true (ninthBit acknowledge)) byte (levels ++ drawBits (byteBits byte ++ ninthBit acknowledge ∷ []))
+      (carried ++ byte ∷ [])
+  unfolding byteTurn
+  byte-turn =
+      ap (λ bus. bitTurn (eqb acknowledge 0) (closed (dataTurns 8 (9 * index) bus)))
+      (opened-is messages standing index pause pull level old levels carried fits)
+      ∙ ap (λ bus. bitTurn (eqb acknowledge 0) (closed bus)) carried-byte
+      ∙ ap (bitTurn (eqb acknowledge 0)) closed-byte
+      ∙ acknowledged-byte

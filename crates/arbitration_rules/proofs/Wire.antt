@@ -12,7 +12,7 @@ use Rattle.arbitration_rules.specs.Outcome.{any}
 use Rattle.arbitration_rules.specs.Run.{Bus, levelOf, wire, every, writes, sampledAt, sampled, noted}
 use Rattle.arbitration_rules.specs.Run.{recorded, pulled, bitTurn}
 use Rattle.arbitration_rules.proofs.Lists.{Everyone, everyone-so, map-alike, any-alike, any-none, any-map}
-use Rattle.arbitration_rules.proofs.Turn.{ticks, samples, lowered, raised, Turns}
+use Rattle.arbitration_rules.proofs.Turn.{ticks, samples, lowered, turned, Turns}
 
 abbrev pub busOf : List Master → Bool → ℕ → ℕ → List ℕ → List ℕ → Bus
 busOf masters pull level byte levels carried =
@@ -57,37 +57,63 @@ module _ {A : Type 0} (master : A → Master) (l : List A) where
       record-all = ap noted sample-all
 
   -- the turn: someone clocks, and SDA is pulled by who drives and by the acknowledge
-  pub turn-is : (after : A → Usi) (clocks drives : A → Bool) (old pull bit : Bool) (level byte : ℕ)
-      (levels carried : List ℕ)
-      → Everyone (λ a. Turns (master a .usi) (clocks a) (drives a) bit (after a)) l
-      → any clocks l ≡ true → not (pull || any drives l) ≡ bit
-      → bitTurn pull (busOf (map master l) old level byte levels carried)
-      ≡ busOf (stage after) pull (levelOf true bit) byte (levels ++ levelOf false bit ∷ levelOf true bit ∷ []) carried
-  unfolding bitTurn
-  turn-is after clocks drives old pull bit level byte levels carried turns clocked shown =
-      ap (λ bus. recorded (every Tick (recorded (pulled pull (sampled bus)))))
-      (tick-all (λ a. master a .usi) old level byte levels carried)
-      ∙ ap (λ bus. recorded (every Tick (recorded (pulled pull bus))))
-      (sample-all (λ a. ticks (master a .usi)) old level byte levels carried false before
-      (ap not (any-alike (everyone-so (λ a t. t .falls) turns) ∙ clocked)) refl)
-      ∙ ap (λ bus. recorded (every Tick bus))
-      (record-all (λ a. lowered before (master a .usi)) pull (levelOf false before) byte levels carried false bit
-      (ap not (any-alike (everyone-so (λ a t. t .low before) turns) ∙ clocked))
-      (ap (λ drive. not (pull || drive)) (any-alike (everyone-so (λ a t. t .drives-low before) turns)) ∙ shown))
-      ∙ ap recorded
-      (tick-all (λ a. samples false bit (lowered before (master a .usi))) pull (levelOf false bit) byte
-      (levels ++ levelOf false bit ∷ []) carried)
-      ∙ record-all (λ a. raised bit before (master a .usi)) pull (levelOf false bit) byte
-      (levels ++ levelOf false bit ∷ []) carried
-      true bit
-      (ap not (any-none (everyone-so (λ a t. t .high before) turns)))
-      (ap (λ drive. not (pull || drive)) (any-alike (everyone-so (λ a t. t .drives-high before) turns)) ∙ shown)
-      ∙ ap₂ (λ masters recording. busOf masters pull (levelOf true bit) byte recording carried)
-      (map-alike (everyone-so (λ a t. ap (λ usi. withUsi usi (master a)) (t .ends before)) turns))
-      (append-assoc levels (levelOf false bit ∷ []) (levelOf true bit ∷ []))
-    where
-      before : Bool
-      before = not (old || any (λ a. pullsSda (ticks (master a .usi))) l)
+  module _ (after : A → Usi) (clocks drives : A → Bool) (old pull bit : Bool) (level byte : ℕ) (levels carried : List ℕ)
+      (turns : Everyone (λ a. Turns (master a .usi) (clocks a) (drives a) bit (after a)) l)
+      (clocked : any clocks l ≡ true) (line : not (pull || any drives l) ≡ bit) where
+    -- SDA at the first low sample, whatever it is
+    abbrev before : Bool
+    before = not (old || any (λ a. pullsSda (ticks (master a .usi))) l)
+
+    abbrev at : (A → Usi) → Bool → ℕ → List ℕ → Bus
+    at usi pulling seen recording = busOf (stage usi) pulling seen byte recording carried
+
+    -- the modules at each instant
+    abbrev fallen : A → Usi
+    fallen a = lowered before (master a .usi)
+
+    abbrev low : A → Usi
+    low a = samples false bit (fallen a)
+
+    fall : sampled (at (λ a. ticks (master a .usi)) old level levels) ≡ at fallen old (levelOf false before) levels
+    fall =
+        sample-all (λ a. ticks (master a .usi)) old level byte levels carried false before
+        (ap not (any-alike (everyone-so (λ a t. t .falls) turns) ∙ clocked))
+        refl
+
+    stay : recorded (at fallen pull (levelOf false before) levels)
+        ≡ at low pull (levelOf false bit) (levels ++ levelOf false bit ∷ [])
+    stay =
+        record-all fallen pull (levelOf false before) byte levels carried false bit
+        (ap not (any-alike (everyone-so (λ a t. t .low before) turns) ∙ clocked))
+        (ap (λ drive. not (pull || drive)) (any-alike (everyone-so (λ a t. t .drives-low before) turns)) ∙ line)
+
+    rise : recorded (at (λ a. ticks (low a)) pull (levelOf false bit) (levels ++ levelOf false bit ∷ []))
+        ≡ at (λ a. turned bit before (master a .usi)) pull (levelOf true bit)
+        (levels ++ levelOf false bit ∷ [] ++ levelOf true bit ∷ [])
+    rise =
+        record-all (λ a. ticks (low a)) pull (levelOf false bit) byte (levels ++ levelOf false bit ∷ []) carried true bit
+        (ap not (any-none (everyone-so (λ a t. t .high before) turns)))
+        (ap (λ drive. not (pull || drive)) (any-alike (everyone-so (λ a t. t .drives-high before) turns)) ∙ line)
+
+    ends : at (λ a. turned bit before (master a .usi)) pull (levelOf true bit)
+        (levels ++ levelOf false bit ∷ [] ++ levelOf true bit ∷ [])
+        ≡ at after pull (levelOf true bit) (levels ++ levelOf false bit ∷ levelOf true bit ∷ [])
+    ends =
+        ap₂ (λ masters recording. busOf masters pull (levelOf true bit) byte recording carried)
+        (map-alike (everyone-so (λ a t. ap (λ usi. withUsi usi (master a)) (t .ends before)) turns))
+        (append-assoc levels (levelOf false bit ∷ []) (levelOf true bit ∷ []))
+
+    pub turn-is : bitTurn pull (busOf (map master l) old level byte levels carried)
+        ≡ at after pull (levelOf true bit) (levels ++ levelOf false bit ∷ levelOf true bit ∷ [])
+    unfolding bitTurn
+    turn-is =
+        ap (λ bus. recorded (every Tick (recorded (pulled pull (sampled bus)))))
+        (tick-all (λ a. master a .usi) old level byte levels carried)
+        ∙ ap (λ bus. recorded (every Tick (recorded (pulled pull bus)))) fall
+        ∙ ap (λ bus. recorded (every Tick bus)) stay
+        ∙ ap recorded (tick-all low pull (levelOf false bit) byte (levels ++ levelOf false bit ∷ []) carried)
+        ∙ rise
+        ∙ ends
 
 -- registers written one after the other by each master
 abbrev pub writesOf : List (ℕ × ℕ) → Master → Master
