@@ -2,20 +2,20 @@
 use Prim.Native.Nat.{ℕ, _≤_, _<_}
 use native.Mathlib.Omega.{arith}
 use mathlib.Core.Path.{_≡_, refl, ap, ap₂, sym, _∙_}
-use mathlib.Core.Bool.{true, false}
+use mathlib.Core.Bool.{true, false, not}
 use mathlib.Core.List.{List, [], _∷_, _++_, map, map-map}
 use lib.ListN.{length, take, drop, take-append-drop}
 use Rattle.bus.specs.Encode.{drawEvents, drawing}
+use Rattle.arbitration_rules.specs.declared.Master.{Master}
 use Rattle.arbitration_rules.specs.Outcome.{least, carriedCount, carriedOf, byteEvents, frame, outcome}
-use Rattle.arbitration_rules.specs.Run.{Bus, bytesTurn, stopped, run, fateOf, observed}
+use Rattle.arbitration_rules.specs.Run.{Bus, levelOf, bytesTurn, stopped, run, fateOf, observed}
 use Rattle.arbitration_rules.proofs.Lists.{Everyone, Someone, everyone, everyone-so, someone-so, map-alike}
 use Rattle.arbitration_rules.proofs.Wire.{busOf}
-use Rattle.arbitration_rules.proofs.Pause.{afterStart, isIn, standingAs, masterAt}
-use Rattle.arbitration_rules.proofs.Standing.{stays}
+use Rattle.arbitration_rules.proofs.Pause.{afterStart, isIn, standingAs}
 use Rattle.arbitration_rules.proofs.Ends.{start-is, finalUsi, stop-is}
 use Rattle.arbitration_rules.proofs.Against.{against, owner-in}
 use Rattle.arbitration_rules.proofs.LeastMessage.{least-at-most, least-among, least-too}
-use Rattle.arbitration_rules.proofs.Carry.{Bytes, Contest}
+use Rattle.arbitration_rules.proofs.Carry.{Bytes, Contest, paused}
 use Rattle.arbitration_rules.proofs.Loop.{Carried, carries}
 use Rattle.arbitration_rules.proofs.Carried.{frame-drawn}
 use Rattle.arbitration_rules.proofs.Fates.{final-fate}
@@ -64,22 +64,24 @@ run-ends messages acknowledges (byte ∷ more) contest sendable bits =
     carried : List ℕ
     carried = take (carriedCount (byte ∷ more) acknowledges) (byte ∷ more)
 
-    over : Carried
-        (bytesTurn messages acknowledges 0
-        (busOf (map (λ message. masterAt afterStart stays) messages) false 1 0 (3 ∷ 1 ∷ []) []))
-        messages carried (3 ∷ 1 ∷ drawEvents (byteEvents carried acknowledges)) carried
+    over : Carried (bytesTurn messages acknowledges 0 (paused messages afterStart [] (3 ∷ 1 ∷ []))) messages carried
+        (3 ∷ 1 ∷ drawEvents (byteEvents carried acknowledges))
     over =
-        carries messages acknowledges 0 [] byte more afterStart false 1 0 (3 ∷ 1 ∷ []) [] contest refl bits
+        carries messages acknowledges 0 [] byte more afterStart (3 ∷ 1 ∷ []) contest refl bits
         (omega (arith, sendable .answered))
 
+    final : List Master
+    final = map (λ message. standingAs finalUsi (against 0 carried message)) messages
+
     whole : run messages acknowledges
-        ≡ busOf (map (λ message. standingAs finalUsi (against 0 carried message)) messages) false 3 (over .last)
-        (3 ∷ 1 ∷ (drawEvents (byteEvents carried acknowledges) ++ 0 ∷ 1 ∷ 3 ∷ [])) carried
+        ≡ busOf final false 3 (over .last) (3 ∷ 1 ∷ (drawEvents (byteEvents carried acknowledges) ++ 0 ∷ 1 ∷ 3 ∷ []))
+        carried
     whole =
         ap (λ bus. stopped (bytesTurn messages acknowledges 0 bus)) (start-is messages (contest .sent))
         ∙ ap stopped (over .is)
-        ∙ stop-is messages (against 0 carried) (over .last) (over .ninth) (over .pull) (over .level) (over .last)
-        (3 ∷ 1 ∷ drawEvents (byteEvents carried acknowledges)) carried
+        ∙ stop-is messages (against 0 carried) (over .last) (over .ninth) (not (over .ninth))
+        (levelOf true (over .ninth))
+        (over .last) (3 ∷ 1 ∷ drawEvents (byteEvents carried acknowledges)) carried
         (winner-in messages (byte ∷ more) (carriedCount (byte ∷ more) acknowledges) (contest .sent))
 
 pub contest : (messages : List (List ℕ)) {acknowledges : List ℕ} → Arbitration messages acknowledges

@@ -1,6 +1,6 @@
 -- What 01 leaves free, which byte is the last: the run may as well go on until all that are still in have sent their
 -- messages. Where refusal 16 does not apply that is the same run.
-use Prim.Native.Nat.{ℕ, zero, suc, _+_, _*_, _≤_, _<_}
+use Prim.Native.Nat.{ℕ, zero, suc, _+_, _*_, _≤_}
 use native.Mathlib.Omega.{arith}
 use mathlib.Core.Path.{_≡_, refl, ap, ap₂, sym, subst, _∙_}
 use mathlib.Core.Bool.{Bool, cond, true, false, not, _&&_, _||_, false≢true}
@@ -12,17 +12,16 @@ use Rattle.bits.specs.Positions.{isSet}
 use Rattle.bus.specs.Encode.{drawEvent}
 use Rattle.arbitration_rules.specs.declared.Master.{Master}
 use Rattle.arbitration_rules.specs.Outcome.{any, least, allAcknowledged, begins, positionIn, unsettled}
-use Rattle.arbitration_rules.specs.Run.{Bus, byteTurn, through, bytesTurn, prepared, started}
+use Rattle.arbitration_rules.specs.Run.{Bus, byteTurn, bytesTurn, prepared, started}
 use Rattle.arbitration_rules.proofs.Lists.{Everyone, also, Someone, everyone-so, someone-so}
 use Rattle.arbitration_rules.proofs.Lists.{any-none, any-one, any-map, zipWith-map}
-use Rattle.arbitration_rules.proofs.Wire.{busOf}
 use Rattle.arbitration_rules.proofs.Standing.{Standing, out}
 use Rattle.arbitration_rules.proofs.Pause.{Pause, afterStart, afterByte, isIn, masterAt}
 use Rattle.arbitration_rules.proofs.Round.{waits}
 use Rattle.arbitration_rules.proofs.Against.{against, owner-in}
 use Rattle.arbitration_rules.proofs.Ends.{start-is}
-use Rattle.arbitration_rules.proofs.Carry.{Contest, all-sent, more-to-send}
-use Rattle.arbitration_rules.proofs.Loop.{stops-here, continues, longer, on, turn-at}
+use Rattle.arbitration_rules.proofs.Carry.{Contest, paused, carry-at, all-sent, more-to-send}
+use Rattle.arbitration_rules.proofs.Loop.{stops-here, continues, longer, on}
 use Rattle.arbitration_rules.proofs.Demand.{Sendable, Arbitration, contest, least-sendable}
 use Rattle.arbitration_rules.proofs.Unsettled.{none-goes-on}
 use Rattle.arbitration_rules.proofs.Together.{behind}
@@ -77,80 +76,69 @@ ends-there index (byte ∷ winner) (own ∷ message) apart still =
     go false same still rest = absurd (false≢true still)
 
 -- where the least message is sent, nobody still in has more; before that, its owner has
-module _ (messages : List (List ℕ)) (pause : Pause) where
-  none-behind : (winner : List ℕ) → Everyone (λ message. begins winner message ≡ false) messages
-      → behind messages (length winner) (waits pause (against 0 winner) messages) ≡ false
-  none-behind winner apart =
-      behind-is messages (against 0 winner) pause (length winner)
-      ∙ any-none (everyone-so (λ message no-more. go message no-more (isIn (against 0 winner message)) refl) apart)
+module _ (messages : List (List ℕ)) (carried : List ℕ) (count : ℕ) (sent : length carried ≡ count) (pause : Pause) where
+  none-behind : Everyone (λ message. begins carried message ≡ false) messages
+      → behind messages count (waits pause (against 0 carried) messages) ≡ false
+  none-behind apart =
+      behind-is messages (against 0 carried) pause count
+      ∙ any-none (everyone-so (λ message no-more. go message no-more (isIn (against 0 carried message)) refl) apart)
     where
-      go : (message : List ℕ) → begins winner message ≡ false → (still : Bool)
-          → isIn (against 0 winner message) ≡ still → still && ltb (length winner) (length message) ≡ false
+      go : (message : List ℕ) → begins carried message ≡ false → (still : Bool)
+          → isIn (against 0 carried message) ≡ still → still && ltb count (length message) ≡ false
       go message no-more true still =
-          le-ltb (length winner) (length message) (ends-there 0 winner message no-more still)
+          let within : length message ≤ length carried = ends-there 0 carried message no-more still in
+          le-ltb count (length message) (omega arith)
       go message no-more false still = refl
 
-  owner-behind : (carried : List ℕ) (byte : ℕ) (more : List ℕ)
-      → Someone (λ message. message ≡ carried ++ byte ∷ more) messages
-      → behind messages (length carried) (waits pause (against 0 carried) messages) ≡ true
-  owner-behind carried byte more sent =
-      behind-is messages (against 0 carried) pause (length carried)
-      ∙ any-one (someone-so (λ message same.
-      ap (λ m. isIn (against 0 carried m) && ltb (length carried) (length m)) same ∙ owner) sent)
+  owner-behind : (byte : ℕ) (more : List ℕ) → Someone (λ message. message ≡ carried ++ byte ∷ more) messages
+      → behind messages count (waits pause (against 0 carried) messages) ≡ true
+  owner-behind byte more some =
+      behind-is messages (against 0 carried) pause count
+      ∙ any-one (someone-so (λ message same. ap in-and-behind same ∙ owner) some)
     where
-      owner : isIn (against 0 carried (carried ++ byte ∷ more)) && ltb (length carried)
-          (length (carried ++ byte ∷ more))
-          ≡ true
+      in-and-behind : List ℕ → Bool
+      in-and-behind message = isIn (against 0 carried message) && ltb count (length message)
+
+      owner : in-and-behind (carried ++ byte ∷ more) ≡ true
       owner =
           ap₂ _&&_ (owner-in 0 carried (byte ∷ more))
-          (lt-ltb (length carried) (length (carried ++ byte ∷ more))
-          (omega (arith, length-append carried (byte ∷ more))))
+          (lt-ltb count (length (carried ++ byte ∷ more)) (omega (arith, length-append carried (byte ∷ more))))
 
+-- so both loops end with the same byte
 same-loop : (messages : List (List ℕ)) (acknowledges : List ℕ) (index : ℕ) (carried : List ℕ) (byte : ℕ)
-    (more : List ℕ) (pause : Pause) (pull : Bool) (level old : ℕ) (levels bytes : List ℕ)
+    (more : List ℕ) (pause : Pause) (levels : List ℕ)
     → Contest messages (carried ++ byte ∷ more) → length carried ≡ index
-    → Everyone (λ acknowledge. acknowledge ≤ 1) acknowledges → length more < length acknowledges
+    → Everyone (λ acknowledge. acknowledge ≤ 1) acknowledges
     → (allAcknowledged (byte ∷ more) acknowledges ≡ true
     → Everyone (λ message. begins (carried ++ byte ∷ more) message ≡ false) messages)
-    → bytesTurnAll messages acknowledges index
-    (busOf (waits pause (against 0 carried) messages) pull level old levels bytes)
-    ≡ bytesTurn messages acknowledges index
-    (busOf (waits pause (against 0 carried) messages) pull level old levels bytes)
-same-loop messages [] index carried byte more pause pull level old levels bytes contest at ones enough apart = refl
-same-loop messages (zero ∷ acknowledges) index carried byte [] pause pull level old levels bytes contest at
-    (also one ones) enough apart =
-    let turn = turn-at messages carried byte [] contest index at 0 pause pull level old levels bytes one in
+    → bytesTurnAll messages acknowledges index (paused messages pause carried levels)
+    ≡ bytesTurn messages acknowledges index (paused messages pause carried levels)
+same-loop messages [] index carried byte more pause levels contest at ones apart = refl
+same-loop messages (zero ∷ acknowledges) index carried byte [] pause levels contest at (also one ones) apart =
+    let turn = carry-at messages carried byte [] contest index 0 at one pause levels in
+    let counted = longer carried byte index at in
     unrolled messages 0 acknowledges index _ _ turn true
-    (ap not
-    (ap (λ (i : ℕ). behind messages i (waits (afterByte byte false) (against 0 (carried ++ byte ∷ [])) messages))
-    (sym (longer carried byte index at))
-    ∙ none-behind messages (afterByte byte false) (carried ++ byte ∷ []) (apart refl)))
+    (ap not (none-behind messages (carried ++ byte ∷ []) (suc index) counted (afterByte byte false) (apart refl)))
     ∙ sym (stops-here messages 0 acknowledges index _ _ turn
-    (ap (λ (i : ℕ). through messages i (waits (afterByte byte false) (against 0 (carried ++ byte ∷ [])) messages))
-    (sym (longer carried byte index at))
-    ∙ all-sent messages (carried ++ byte ∷ []) (afterByte byte false) contest))
-same-loop messages (zero ∷ acknowledges) index carried byte (next ∷ more) pause pull level old levels bytes contest at
-    (also one ones) enough apart =
-    let turn = turn-at messages carried byte (next ∷ more) contest index at 0 pause pull level old levels bytes one in
+    (all-sent messages (carried ++ byte ∷ []) (suc index) (afterByte byte false) contest counted))
+same-loop messages (zero ∷ acknowledges) index carried byte (next ∷ more) pause levels contest at (also one ones)
+    apart =
+    let turn = carry-at messages carried byte (next ∷ more) contest index 0 at one pause levels in
+    let counted = longer carried byte index at in
     let later = on carried byte next more contest in
     unrolled messages 0 acknowledges index _ _ turn false
     (ap not
-    (ap (λ (i : ℕ). behind messages i (waits (afterByte byte false) (against 0 (carried ++ byte ∷ [])) messages))
-    (sym (longer carried byte index at))
-    ∙ owner-behind messages (afterByte byte false) (carried ++ byte ∷ []) next more (later .sent)))
-    ∙ same-loop messages acknowledges (suc index) (carried ++ byte ∷ []) next more (afterByte byte false) true 1 byte
-    (levels ++ drawEvent (byte + 256 * 0)) (bytes ++ byte ∷ []) later (longer carried byte index at) ones
-    (omega arith)
+    (owner-behind messages (carried ++ byte ∷ []) (suc index) counted (afterByte byte false) next more (later .sent)))
+    ∙ same-loop messages acknowledges (suc index) (carried ++ byte ∷ []) next more (afterByte byte false)
+    (levels ++ drawEvent (byte + 256 * 0)) later counted ones
     (λ all. subst (λ winner. Everyone (λ message. begins winner message ≡ false) messages)
     (sym (append-assoc carried (byte ∷ []) (next ∷ more))) (apart all))
     ∙ sym (continues messages 0 acknowledges index _ _ turn
-    (ap (λ (i : ℕ). through messages i (waits (afterByte byte false) (against 0 (carried ++ byte ∷ [])) messages))
-    (sym (longer carried byte index at))
-    ∙ more-to-send messages (carried ++ byte ∷ []) next more (afterByte byte false) later))
-same-loop messages (suc zero ∷ acknowledges) index carried byte more pause pull level old levels bytes contest at ones
-    enough apart = refl
-same-loop messages (suc (suc acknowledge) ∷ acknowledges) index carried byte more pause pull level old levels bytes
-    contest at (also one ones) enough apart = absurd (omega arith)
+    (more-to-send messages (carried ++ byte ∷ []) (suc index) next more (afterByte byte false) later counted))
+same-loop messages (suc zero ∷ acknowledges) index carried byte more pause levels contest at ones apart = refl
+same-loop messages (suc (suc acknowledge) ∷ acknowledges) index carried byte more pause levels contest at
+    (also one ones) apart =
+    absurd (omega arith)
 
 pub either-reading : (messages : List (List ℕ)) (acknowledges : List ℕ) → Arbitration messages acknowledges
     → unsettled messages acknowledges ≡ false
@@ -168,5 +156,4 @@ either-reading messages acknowledges given settled =
     go (byte ∷ more) contest sendable apart =
         subst (λ bus. bytesTurnAll messages acknowledges 0 bus ≡ bytesTurn messages acknowledges 0 bus)
         (sym (start-is messages (contest .sent)))
-        (same-loop messages acknowledges 0 [] byte more afterStart false 1 0 (3 ∷ 1 ∷ []) [] contest refl (given .bits)
-        (omega (arith, sendable .answered)) apart)
+        (same-loop messages acknowledges 0 [] byte more afterStart (3 ∷ 1 ∷ []) contest refl (given .bits) apart)

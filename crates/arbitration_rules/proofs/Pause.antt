@@ -3,7 +3,7 @@
 use Prim.Native.Nat.{ℕ, _<_}
 use native.Mathlib.Omega.{arith}
 use mathlib.Core.Path.{_≡_, refl, ap, sym, _∙_}
-use mathlib.Core.Bool.{Bool, true, false}
+use mathlib.Core.Bool.{Bool, true, false, not}
 use mathlib.Core.List.{List, [], _∷_, append-nil}
 use Rattle.usi_rules.specs.Registers.{USICTL0, USICNT, USISRL}
 use Rattle.usi_rules.specs.Rules as rules
@@ -13,6 +13,7 @@ use Rattle.usi.specs.Step.{followed, settled, writeByte}
 use Rattle.bus.specs.Encode.{byteBits}
 use Rattle.arbitration_rules.specs.declared.Master.{Master}
 use Rattle.arbitration_rules.specs.Masters.{withUsi, written, withdrawn}
+use Rattle.arbitration_rules.specs.Run.{levelOf}
 use Rattle.arbitration_rules.proofs.Bits.{number, number-bits}
 use Rattle.arbitration_rules.proofs.Turn.{between, Turns}
 use Rattle.arbitration_rules.proofs.Registers.{driving, released, listening, listening-turn, released-turn}
@@ -52,6 +53,19 @@ isIn (out register latch position) = false
 abbrev pub positionOf : Standing → ℕ
 positionOf stays = 0
 positionOf (out register latch position) = position
+
+-- the acknowledge's pull, the level last sampled, and the byte last taken
+abbrev pub pullAt : Pause → Bool
+pullAt afterStart = false
+pullAt (afterByte byte ninth) = not ninth
+
+abbrev pub levelAt : Pause → ℕ
+levelAt afterStart = levelOf true false
+levelAt (afterByte byte ninth) = levelOf true ninth
+
+abbrev pub takenAt : Pause → ℕ
+takenAt afterStart = 0
+takenAt (afterByte byte ninth) = byte
 
 -- a master as it stands, with its module
 abbrev pub standingAs : (Standing → Usi) → Standing → Master

@@ -11,7 +11,8 @@ use Rattle.bus.specs.Encode.{byteBits, drawBit, drawBits}
 use Rattle.arbitration_rules.specs.declared.Master.{Master}
 use Rattle.arbitration_rules.specs.Masters.{written, withdrawn}
 use Rattle.arbitration_rules.specs.Outcome.{any}
-use Rattle.arbitration_rules.specs.Run.{Bus, levelOf, writes, bitTurn, dataTurns, loaded, opened, closed, byteTurn}
+use Rattle.arbitration_rules.specs.Run.{Bus, levelOf, writes, bitTurn, dataTurns, loaded, opened, closed}
+use Rattle.arbitration_rules.specs.Run.{byteTurn}
 use Rattle.arbitration_rules.proofs.Lists.{Everyone, Someone, everyone, everyone-so, everyone-both}
 use Rattle.arbitration_rules.proofs.Lists.{everyone-map, someone-so}
 use Rattle.arbitration_rules.proofs.Lists.{someone-map, map-alike, any-none, any-one, zipWith-map}
@@ -74,7 +75,8 @@ closed-is : (taken : List Bool) (line : Line) (roles : List Role) (byte : ℕ) (
 unfolding closed
 closed-is taken line roles byte levels carried sent =
     ap (λ masters. writes listen (bus masters)) (map-map withdrawn (masterOf 0 taken (line .sda)) roles)
-    ∙ writes-all listen (λ role. withdrawn (masterOf 0 taken (line .sda) role)) roles (line .pull) (line .level) byte levels
+    ∙ writes-all listen (λ role. withdrawn (masterOf 0 taken (line .sda) role)) roles (line .pull) (line .level) byte
+    levels
     (carried ++ byte ∷ [])
     ∙ ap bus (map-alike (everyone-so (listens taken (line .sda)) sent))
   where
@@ -198,7 +200,8 @@ module _ (messages : List (List ℕ)) (standing : List ℕ → Standing) (index 
       (carried ++ byte ∷ []))
       decided (append-assoc levels (drawBits (byteBits byte)) (drawBit (ninthBit acknowledge)))
 
-  pub byte-turn : byteTurn messages index acknowledge (busOf (waits pause standing messages) pull level old levels carried)
+  pub byte-turn : byteTurn messages index acknowledge
+      (busOf (waits pause standing messages) pull level old levels carried)
       ≡ busOf (waits (afterByte byte (ninthBit acknowledge)) next messages) (eqb acknowledge 0)
       (levelOf true (ninthBit acknowledge)) byte (levels ++ drawBits (byteBits byte ++ ninthBit acknowledge ∷ []))
       (carried ++ byte ∷ [])

@@ -91,7 +91,8 @@ module _ {A : Type 0} (master : A → Master) (l : List A) where
         ≡ at (λ a. turned bit before (master a .usi)) pull (levelOf true bit)
         (levels ++ levelOf false bit ∷ [] ++ levelOf true bit ∷ [])
     rise =
-        record-all (λ a. ticks (low a)) pull (levelOf false bit) byte (levels ++ levelOf false bit ∷ []) carried true bit
+        record-all (λ a. ticks (low a)) pull (levelOf false bit) byte (levels ++ levelOf false bit ∷ []) carried true
+        bit
         (ap not (any-none (everyone-so (λ a t. t .high before) turns)))
         (ap (λ drive. not (pull || drive)) (any-alike (everyone-so (λ a t. t .drives-high before) turns)) ∙ line)
 

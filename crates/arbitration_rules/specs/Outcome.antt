@@ -93,8 +93,8 @@ outcome messages acknowledges =
       fates = map (λ message. fate (lossFrom 0 carried message)) messages;
     }
 
--- Refusal 16: the least message is acknowledged at each of its bytes and is a proper beginning of another. (One master
--- would send a STOP where another sends a bit: document 000 allows no arbitration between these.)
+-- Refusal 16: the least message is acknowledged at each of its bytes and is a proper beginning of another. (One
+-- master would send a STOP where another sends a bit: document 000 allows no arbitration between these.)
 abbrev pub allAcknowledged : List ℕ → List ℕ → Bool
 allAcknowledged [] acknowledges = true
 allAcknowledged (byte ∷ bytes) [] = true

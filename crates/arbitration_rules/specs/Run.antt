@@ -161,9 +161,9 @@ through messages sent masters =
     any (λ (done : Bool). done)
     (zipWith (λ (master : Master) message. master .contending && leb (length message) sent) masters messages)
 
--- Step 2 until answer 1 or the last byte. Free: which byte is the last where those still in have messages of different
--- lengths. Here it is the last of the shortest of them; where refusal 16 does not apply, going on until all of them are
--- sent is the same run (proofs/LastByte.antt).
+-- Step 2 until answer 1 or the last byte. Free: which byte is the last where those still in have messages of
+-- different lengths. Here it is the last of the shortest of them; where refusal 16 does not apply, going on until
+-- all of them are sent is the same run (proofs/LastByte.antt).
 abbrev pub bytesTurn : List (List ℕ) → List ℕ → ℕ → Bus → Bus
 bytesTurn messages [] index bus = bus
 bytesTurn messages (acknowledge ∷ acknowledges) index bus =
