@@ -156,20 +156,20 @@ sees-stop (out register latch position) = refl
 -- the STOP: who is in drives one low bit, then lets SDA rise
 module _ (messages : List (List ℕ)) (standing : List ℕ → Standing) (byte : ℕ) (ninth pull : Bool) (level old : ℕ)
     (levels carried : List ℕ) (one : Someone (λ message. isIn (standing message) ≡ true) messages) where
-  abbrev with : (Standing → Usi) → Bool → ℕ → List ℕ → Bus
-  with usi pulling seen recording =
+  abbrev allAs : (Standing → Usi) → Bool → ℕ → List ℕ → Bus
+  allAs usi pulling seen recording =
       busOf (map (λ message. standingAs usi (standing message)) messages) pulling seen old recording carried
 
   sends-low : writes sendLow (busOf (waits (afterByte byte ninth) standing messages) pull level old levels carried)
-      ≡ with (lastBit (afterByte byte ninth)) pull level levels
+      ≡ allAs (lastBit (afterByte byte ninth)) pull level levels
   sends-low =
       writes-all sendLow (λ message. masterAt (afterByte byte ninth) (standing message)) messages pull level old levels
       carried
       ∙ ap (λ masters. busOf masters pull level old levels carried)
       (map-alike (everyone (λ message. prepares-stop byte ninth (standing message)) messages))
 
-  low-bit : bitTurn false (with (lastBit (afterByte byte ninth)) pull level levels)
-      ≡ with lowBit false 1 (levels ++ 0 ∷ 1 ∷ [])
+  low-bit : bitTurn false (allAs (lastBit (afterByte byte ninth)) pull level levels)
+      ≡ allAs lowBit false 1 (levels ++ 0 ∷ 1 ∷ [])
   low-bit =
       turn-is (λ message. standingAs (lastBit (afterByte byte ninth)) (standing message)) messages
       (λ message. lowBit (standing message)) (λ message. isIn (standing message)) (λ message. isIn (standing message))
@@ -177,15 +177,15 @@ module _ (messages : List (List ℕ)) (standing : List ℕ → Standing) (byte :
       (everyone (λ message. stop-turn (afterByte byte ninth) (standing message)) messages)
       (any-one one) (ap not (any-one one))
 
-  lets-rise : writes letRise (with lowBit false 1 (levels ++ 0 ∷ 1 ∷ [])) ≡ with letsRise false 1 (levels ++ 0 ∷ 1 ∷ [])
+  lets-rise : writes letRise (allAs lowBit false 1 (levels ++ 0 ∷ 1 ∷ [])) ≡ allAs letsRise false 1 (levels ++ 0 ∷ 1 ∷ [])
   lets-rise =
       writes-all letRise (λ message. standingAs lowBit (standing message)) messages false 1 old (levels ++ 0 ∷ 1 ∷ [])
       carried
       ∙ ap (λ masters. busOf masters false 1 old (levels ++ 0 ∷ 1 ∷ []) carried)
       (map-alike (everyone (λ message. releases (standing message)) messages))
 
-  stop-sample : writes finish (recorded (with letsRise false 1 (levels ++ 0 ∷ 1 ∷ [])))
-      ≡ with finalUsi false 3 (levels ++ 0 ∷ 1 ∷ [] ++ 3 ∷ [])
+  stop-sample : writes finish (recorded (allAs letsRise false 1 (levels ++ 0 ∷ 1 ∷ [])))
+      ≡ allAs finalUsi false 3 (levels ++ 0 ∷ 1 ∷ [] ++ 3 ∷ [])
   stop-sample =
       ap (writes finish)
       (record-all (λ message. standingAs letsRise (standing message)) messages (λ message. letsRise (standing message))
@@ -199,11 +199,11 @@ module _ (messages : List (List ℕ)) (standing : List ℕ → Standing) (byte :
       (map-alike (everyone (λ message. sees-stop (standing message)) messages))
 
   pub stop-is : stopped (busOf (waits (afterByte byte ninth) standing messages) pull level old levels carried)
-      ≡ with finalUsi false 3 (levels ++ 0 ∷ 1 ∷ 3 ∷ [])
+      ≡ allAs finalUsi false 3 (levels ++ 0 ∷ 1 ∷ 3 ∷ [])
   unfolding stopped
   stop-is =
       ap (λ bus. writes finish (recorded (writes letRise (bitTurn false bus)))) sends-low
       ∙ ap (λ bus. writes finish (recorded (writes letRise bus))) low-bit
       ∙ ap (λ bus. writes finish (recorded bus)) lets-rise
       ∙ stop-sample
-      ∙ ap (with finalUsi false 3) (append-assoc levels (0 ∷ 1 ∷ []) (3 ∷ []))
+      ∙ ap (allAs finalUsi false 3) (append-assoc levels (0 ∷ 1 ∷ []) (3 ∷ []))

@@ -144,8 +144,8 @@ module _ (messages : List (List ℕ)) (standing : List ℕ → Standing) (index 
   abbrev next : List ℕ → Standing
   next message = standingAfter index byte (byteAt index message) (standing message)
 
-  abbrev drawn-so : List ℕ
-  drawn-so = levels ++ drawBits (byteBits byte)
+  abbrev drawing : List ℕ
+  drawing = levels ++ drawBits (byteBits byte)
 
   all : Everyone (Within (byteBits byte)) entered
   all =
@@ -161,18 +161,18 @@ module _ (messages : List (List ℕ)) (standing : List ℕ → Standing) (index 
 
   -- the eight turns carry the byte
   carried-byte : dataTurns 8 (9 * index) (inByte 8 [] line entered 0 levels carried)
-      ≡ inByte 0 (byteBits byte) end sent byte drawn-so carried
+      ≡ inByte 0 (byteBits byte) end sent byte drawing carried
   unfolding byteBits
   carried-byte =
       turns (byteBits byte) [] refl (9 * index) entered line 0 levels carried all some
-      ∙ ap (λ b. inByte 0 (byteBits byte) end sent b drawn-so carried) (number-bits byte small)
+      ∙ ap (λ b. inByte 0 (byteBits byte) end sent b drawing carried) (number-bits byte small)
 
-  closed-byte : closed (inByte 0 (byteBits byte) end sent byte drawn-so carried)
-      ≡ busOf (map (listener byte (end .sda)) sent) (end .pull) (end .level) byte drawn-so (carried ++ byte ∷ [])
+  closed-byte : closed (inByte 0 (byteBits byte) end sent byte drawing carried)
+      ≡ busOf (map (listener byte (end .sda)) sent) (end .pull) (end .level) byte drawing (carried ++ byte ∷ [])
   closed-byte =
-      closed-is (byteBits byte) end sent byte drawn-so carried
+      closed-is (byteBits byte) end sent byte drawing carried
       (everyone-map (turnsOf (9 * index) (byteBits byte)) (everyone-so (within-turns (9 * index) (byteBits byte)) all))
-      ∙ ap (λ b. busOf (map (listener b (end .sda)) sent) (end .pull) (end .level) byte drawn-so (carried ++ byte ∷ []))
+      ∙ ap (λ b. busOf (map (listener b (end .sda)) sent) (end .pull) (end .level) byte drawing (carried ++ byte ∷ []))
       (number-bits byte small)
 
   -- the masters stand as the byte decides
@@ -186,13 +186,13 @@ module _ (messages : List (List ℕ)) (standing : List ℕ → Standing) (index 
       fits)
 
   acknowledged-byte : bitTurn (eqb acknowledge 0)
-      (busOf (map (listener byte (end .sda)) sent) (end .pull) (end .level) byte drawn-so (carried ++ byte ∷ []))
+      (busOf (map (listener byte (end .sda)) sent) (end .pull) (end .level) byte drawing (carried ++ byte ∷ []))
       ≡ busOf (waits (afterByte byte (ninthBit acknowledge)) next messages) (eqb acknowledge 0)
       (levelOf true (ninthBit acknowledge)) byte (levels ++ drawBits (byteBits byte ++ ninthBit acknowledge ∷ []))
       (carried ++ byte ∷ [])
   unfolding byteBits
   acknowledged-byte =
-      acknowledge-turn byte sent (end .sda) (end .pull) (eqb acknowledge 0) (end .level) byte drawn-so
+      acknowledge-turn byte sent (end .sda) (end .pull) (eqb acknowledge 0) (end .level) byte drawing
       (carried ++ byte ∷ [])
       (any-one (someone-map (turnsOf (9 * index) (byteBits byte))
       (someone-so (leads-turns (9 * index) (byteBits byte)) some)))
