@@ -8,14 +8,15 @@ use lib.Dec.{eqb, ltb}
 use lib.ListN.{length, take, drop, length-take, length-drop}
 use borrow.Author.Tests.{eqb-true, eqb-false, ltb-false, not-false}
 use Rattle.arbitration_rules.specs.Limits.{maxLength}
-use Rattle.arbitration_rules.specs.Outcome.{any}
+use Rattle.arbitration_rules.specs.Outcome.{any, least, carriedCount, outcome, unsettled}
+use Rattle.arbitration_rules.specs.Run.{run, observed}
 use Rattle.arbitration_rules.specs.Reply.{messagesOf, badCount, firstBadLength, total, badLengths, reads}
 use Rattle.arbitration_rules.specs.Reply.{longest}
-use Rattle.arbitration_rules.specs.Reply.{badAcknowledges, refusal}
+use Rattle.arbitration_rules.specs.Reply.{badAcknowledges, shortBuffer, refusal}
 use Rattle.arbitration_rules.proofs.Lists.{Everyone, nobody, also}
 use Rattle.arbitration_rules.proofs.Carried.{carried-too}
 use Rattle.arbitration_rules.proofs.Carry.{Bytes}
-use Rattle.arbitration_rules.proofs.Demand.{Sendable, Arbitration}
+use Rattle.arbitration_rules.proofs.Demand.{Sendable, Arbitration, demand3}
 
 -- a test that turned nothing down
 passed : (test : Bool) (number rest : ℕ) → cond test (suc number) rest ≡ 0 → (test ≡ false) × (rest ≡ 0)
@@ -106,3 +107,22 @@ accepted bytes lengths acknowledges carriedRoom levelRoom small none =
     let p14 = passed (reads (messagesOf lengths bytes)) 13 _ (p13 .1) in
     let p15 = passed (badAcknowledges lengths acknowledges) 14 _ (p14 .1) in
     arbitration bytes lengths acknowledges small (p12 .0) (p13 .0) (p15 .0)
+
+-- so demand 3 holds of every arbitration that is answered
+pub answered-outcome : (bytes lengths acknowledges : List ℕ) (carriedRoom levelRoom : ℕ) → Bytes bytes
+    → refusal bytes lengths acknowledges carriedRoom levelRoom ≡ 0
+    → observed (run (messagesOf lengths bytes) acknowledges) ≡ outcome (messagesOf lengths bytes) acknowledges
+answered-outcome bytes lengths acknowledges carriedRoom levelRoom small none =
+    demand3 (messagesOf lengths bytes) acknowledges
+    (accepted bytes lengths acknowledges carriedRoom levelRoom small none)
+
+-- where none of 12, 13, 14, 15 and 8 applies, it is refused exactly when 16 applies
+pub refused-by-16 : (bytes lengths acknowledges : List ℕ) (carriedRoom levelRoom : ℕ)
+    → badCount lengths ≡ false → badLengths bytes lengths ≡ false → reads (messagesOf lengths bytes) ≡ false
+    → badAcknowledges lengths acknowledges ≡ false
+    → shortBuffer (carriedCount (least (messagesOf lengths bytes)) acknowledges) carriedRoom levelRoom ≡ false
+    → refusal bytes lengths acknowledges carriedRoom levelRoom
+    ≡ cond (unsettled (messagesOf lengths bytes) acknowledges) 16 0
+unfolding refusal
+refused-by-16 bytes lengths acknowledges carriedRoom levelRoom count sizes reading answers room =
+    rw (count, sizes, reading, answers, room)
