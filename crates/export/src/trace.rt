@@ -9,7 +9,7 @@ use bus::Decoded;
 use bus::Encoded;
 
 // A number of 16 bits.
-fn short(number: usize) -> u64
+pub(crate) fn short(number: usize) -> u64
     ensures { λ r. ⌜ (r ≡ shortNumber number) × (r < 65536) ⌝ }
 {
     (number % 65536) as u64
