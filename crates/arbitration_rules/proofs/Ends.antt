@@ -177,7 +177,8 @@ module _ (messages : List (List ℕ)) (standing : List ℕ → Standing) (byte :
       (everyone (λ message. stop-turn (afterByte byte ninth) (standing message)) messages)
       (any-one one) (ap not (any-one one))
 
-  lets-rise : writes letRise (allAs lowBit false 1 (levels ++ 0 ∷ 1 ∷ [])) ≡ allAs letsRise false 1 (levels ++ 0 ∷ 1 ∷ [])
+  lets-rise : writes letRise (allAs lowBit false 1 (levels ++ 0 ∷ 1 ∷ []))
+      ≡ allAs letsRise false 1 (levels ++ 0 ∷ 1 ∷ [])
   lets-rise =
       writes-all letRise (λ message. standingAs lowBit (standing message)) messages false 1 old (levels ++ 0 ∷ 1 ∷ [])
       carried
