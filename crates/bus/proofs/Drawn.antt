@@ -1,19 +1,19 @@
 -- What an event draws, and levels that are stored bit by bit.
-use mathlib.Core.Path.{_≡_, refl, sym, ap, ap₂, _∙_}
-use mathlib.Core.Bool.{Bool, true, false, cond}
+use mathlib.Core.Path.{_≡_, refl, ap, _∙_}
+use mathlib.Core.Bool.{Bool, true, false}
 use mathlib.Core.List.{List, [], _∷_, _++_}
 use Prim.Native.Nat.{ℕ, zero, suc, _+_, _*_, _-_, _/_, _%_, _^_, _≤_, _<_}
 use native.Mathlib.Nat.{mul-add-div, mul-assoc, pow-suc}
 use native.Mathlib.Numerals.{add-one}
 use native.Mathlib.Omega.{arith}
-use borrow.Author.Tests.{eq-eqb, ne-eqb, lt-ltb, le-ltb}
+use borrow.Author.Tests.{ne-eqb, lt-ltb, le-ltb}
 use mir.Val.{boolByte}
-use lib.Dec.{eqb}
 use lib.ListN.{length, getD, take, set, List·getD-append}
 use lib.Pow.{pow-pos}
 use lib.Seq.{sets, take-suc, length-take-le}
 use Rattle.bus.specs.Events.{byteEvent}
-use Rattle.bus.specs.Encode.{bitAt, bitsBelow, byteBits, drawBit, drawBits, drawEvent}
+use Rattle.bits.specs.Positions.{isSet}
+use Rattle.bus.specs.Encode.{bitsBelow, byteBits, drawBit, drawBits, drawEvent}
 use Rattle.bus.proofs.Sound.{at-most-one}
 
 -- what is stored after a list joins it
@@ -45,13 +45,14 @@ length-bits zero number = refl
 length-bits (suc n) number = ap suc (length-bits n number)
 
 -- the k-th bit from the first
-bit-below : (n k number : ℕ) → k < n → getD (bitsBelow n number) k false ≡ bitAt (n - 1 - k) number
+bit-below : (n k number : ℕ) → k < n → getD (bitsBelow n number) k false ≡ isSet (n - 1 - k) number
 bit-below zero k number h = absurd (omega arith)
 bit-below (suc n) zero number h = let e : suc n - 1 - zero ≡ n = omega arith in rw e
 bit-below (suc n) (suc k) number h =
     let e : suc n - 1 - suc k ≡ n - 1 - k = omega arith in rw e (bit-below n k number (omega arith))
 
-pub bit-from-first : (byte k : ℕ) (ninth : Bool) → k < 8 → getD (byteBits byte ++ ninth ∷ []) k false ≡ bitAt (7 - k) byte
+pub bit-from-first : (byte k : ℕ) (ninth : Bool) → k < 8
+    → getD (byteBits byte ++ ninth ∷ []) k false ≡ isSet (7 - k) byte
 unfolding byteBits
 bit-from-first byte k ninth h = List·getD-append (bitsBelow 8 byte) (ninth ∷ []) false k h ∙ bit-below 8 k byte h
 
@@ -72,7 +73,7 @@ unfolding byteBits
 byte-bits byte n = let e : byte + 256 * n ≡ 2 ^ 8 * n + byte = omega arith in rw e (bits-leaves 8 n byte)
 
 -- the ninth bit is the event's bit 8
-ninth-bit : (byte : ℕ) (ninth : Bool) → byte < 256 → bitAt 8 (byteEvent byte ninth) ≡ ninth
+ninth-bit : (byte : ℕ) (ninth : Bool) → byte < 256 → isSet 8 (byteEvent byte ninth) ≡ ninth
 ninth-bit byte true h = let high : byteEvent byte true / 2 ^ 8 % 2 ≡ 1 = omega arith in rw high
 ninth-bit byte false h = let low : byteEvent byte false / 2 ^ 8 % 2 ≡ 0 = omega arith in rw low
 

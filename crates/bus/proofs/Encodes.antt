@@ -1,14 +1,13 @@
 -- What encode answers in each case, from the tests that lead to it.
-use mathlib.Core.Path.{_≡_, refl, sym, ap, _∙_}
+use mathlib.Core.Path.{_≡_, refl, sym, _∙_}
 use mathlib.Core.Bool.{Bool, true, false, not, _||_, true≢false}
 use mathlib.Core.List.{List}
 use Prim.Native.Nat.{ℕ, min, _+_, _*_, _-_, _≤_, _<_}
 use native.Mathlib.Nat.{mul-le-mul}
 use native.Mathlib.Omega.{arith}
-use borrow.Author.Tests.{lt-ltb, le-ltb, ltb-false, not-true, not-false}
+use borrow.Author.Tests.{lt-ltb, le-ltb, ltb-false, not-false}
 use lib.Dec.{eqb, ltb}
 use lib.ListN.{length}
-use Rattle.bus.specs.declared.Encoded.{Encoded}
 use Rattle.bus.specs.declared.Encoded.the-variants.{Drawn, Refused}
 use Rattle.bus.specs.Limits.{maxSamples, maxGap, largestStamp}
 use Rattle.bus.specs.Complete.{complete}
@@ -53,29 +52,34 @@ module _ (events : List ℕ) (start gap stampRoom levelRoom : ℕ) (done : Bool)
     unfolding encoded
     bad-gap bad = rw (← e, p, bad)
 
-    module _ (count : ℕ) (fine : eqb gap 0 || ltb maxGap gap ≡ false) (counted : count ≡ min (sampleCount events) (maxSamples + 1)) where
-      pub too-many : maxSamples < count → Refused 6 ≡ encoded events start gap stampRoom levelRoom
-      unfolding encoded
-      too-many many =
-          let over : maxSamples < sampleCount events = omega arith in rw (← e, p, fine, lt-ltb _ _ over)
-
-      module _ (few : count ≤ maxSamples) where
-        whole : count ≡ sampleCount events
-        whole = whole-count events count counted few
-
-        pub too-late : largestStamp < lastStamp start gap count → Refused 11 ≡ encoded events start gap stampRoom levelRoom
+    module _
+        (count : ℕ)
+        (fine : eqb gap 0 || ltb maxGap gap ≡ false)
+        (counted : count ≡ min (sampleCount events) (maxSamples + 1))
+      where
+        pub too-many : maxSamples < count → Refused 6 ≡ encoded events start gap stampRoom levelRoom
         unfolding encoded
-        too-late late = rw (← e, p, fine, ← whole, le-ltb _ _ few, lt-ltb _ _ late)
+        too-many many =
+            let over : maxSamples < sampleCount events = omega arith in rw (← e, p, fine, lt-ltb _ _ over)
 
-        module _ (early : lastStamp start gap count ≤ largestStamp) where
-          pub no-room : ltb stampRoom count || ltb levelRoom count ≡ true
-              → Refused 8 ≡ encoded events start gap stampRoom levelRoom
-          unfolding encoded
-          no-room few-entries = rw (← e, p, fine, ← whole, le-ltb _ _ few, le-ltb _ _ early, few-entries)
+        module _ (few : count ≤ maxSamples) where
+          whole : count ≡ sampleCount events
+          whole = whole-count events count counted few
 
-          pub drawn-all : ltb stampRoom count || ltb levelRoom count ≡ false
-              → Drawn count ≡ encoded events start gap stampRoom levelRoom
+          pub too-late : largestStamp < lastStamp start gap count
+              → Refused 11 ≡ encoded events start gap stampRoom levelRoom
           unfolding encoded
-          drawn-all room = rw (← e, p, fine, ← whole, le-ltb _ _ few, le-ltb _ _ early, room)
+          too-late late = rw (← e, p, fine, ← whole, le-ltb _ _ few, lt-ltb _ _ late)
+
+          module _ (early : lastStamp start gap count ≤ largestStamp) where
+            pub no-room : ltb stampRoom count || ltb levelRoom count ≡ true
+                → Refused 8 ≡ encoded events start gap stampRoom levelRoom
+            unfolding encoded
+            no-room few-entries = rw (← e, p, fine, ← whole, le-ltb _ _ few, le-ltb _ _ early, few-entries)
+
+            pub drawn-all : ltb stampRoom count || ltb levelRoom count ≡ false
+                → Drawn count ≡ encoded events start gap stampRoom levelRoom
+            unfolding encoded
+            drawn-all room = rw (← e, p, fine, ← whole, le-ltb _ _ few, le-ltb _ _ early, room)
 
 pub ruleset replies = (incomplete, bad-gap, too-many, too-late, no-room, drawn-all)

@@ -1,17 +1,15 @@
 -- The passes over an event list: one event more.
-use mathlib.Core.Path.{_≡_, refl, ap, _∙_}
+use mathlib.Core.Path.{_≡_, ap}
 use mathlib.Core.List.{List, [], _∷_, _++_}
-use mathlib.Core.Bool.{Bool, true, false}
-use Prim.Native.Nat.{ℕ, suc, _+_, _*_, _≤_, _<_}
+use Prim.Native.Nat.{ℕ, suc, _+_, _≤_, _<_}
 use native.Mathlib.Numerals.{add-one}
 use native.Mathlib.Omega.{arith}
-use mir.Val.{boolByte}
 use lib.ListN.{length, getD, drop, drop-of-length-le}
 use lib.Seq.{drop-cons}
 use Rattle.bus.specs.declared.Position.{Position}
 use Rattle.bus.specs.Events.{isByte}
 use Rattle.bus.specs.Complete.{advance, completeFrom}
-use Rattle.bus.specs.Encode.{drawEvent, drawEvents, howMany, isStart, isRepeatedStart, sampleCount, eventSamples}
+use Rattle.bus.specs.Encode.{drawEvent, drawEvents, isStart, isRepeatedStart, sampleCount, eventSamples}
 use Rattle.bus.proofs.Sound.{at-most-one}
 
 pub complete-more : (events : List ℕ) (position : Position) (i : ℕ) → i < length events
@@ -19,7 +17,8 @@ pub complete-more : (events : List ℕ) (position : Position) (i : ℕ) → i < 
 complete-more events position i h = rw add-one (ap (completeFrom position) (drop-cons events i 0 h))
 
 -- an event adds its own samples
-pub samples-cons : (event : ℕ) (events : List ℕ) → sampleCount (event ∷ events) ≡ eventSamples event + sampleCount events
+pub samples-cons : (event : ℕ) (events : List ℕ)
+    → sampleCount (event ∷ events) ≡ eventSamples event + sampleCount events
 unfolding eventSamples
 samples-cons event events =
     omega (arith, at-most-one (isStart event), at-most-one (isByte event), at-most-one (isRepeatedStart event))

@@ -1,4 +1,4 @@
-pub mod Picks
+-- The laws that the functions' proofs cite, in the order in which they build on one another.
 pub mod Sound
 pub mod Filled
 pub mod Writing

@@ -1,7 +1,7 @@
 -- The passes over a trace: what holds of the decoder after the first i samples, and what is left to list.
 use mathlib.Core.Path.{_≡_, refl, sym, ap, _∙_}
-use mathlib.Core.List.{List, [], _∷_, _++_}
-use Prim.Native.Nat.{ℕ, suc, _+_, _*_, _≤_, _<_}
+use mathlib.Core.List.{List, [], _++_}
+use Prim.Native.Nat.{ℕ, _+_, _*_, _≤_, _<_}
 use native.Mathlib.Numerals.{add-one}
 use native.Mathlib.Omega.{arith}
 use lib.ListN.{length, getD, drop, drop-of-length-le}
@@ -42,7 +42,8 @@ module _ (levels : List ℕ) (decoder : Decoder) (i : ℕ) where
         }
 
     -- what is left to list is what this sample lists, and what is left then
-    pub left-more : listed decoder (drop i levels) ≡ listOf step ++ listed (next decoder (getD levels i 0)) (drop (i + 1) levels)
+    pub left-more : listed decoder (drop i levels)
+        ≡ listOf step ++ listed (next decoder (getD levels i 0)) (drop (i + 1) levels)
     left-more = rw (e, add-one) (ap (listed decoder) (drop-cons levels i 0 h))
 
   -- after the last sample nothing is left

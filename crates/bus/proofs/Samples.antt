@@ -11,7 +11,8 @@ use Rattle.bus.specs.declared.Position.{Position}
 use Rattle.bus.specs.declared.Position.the-variants.{Between, Opened, Within, Broken}
 use Rattle.bus.specs.Events.{isByte}
 use Rattle.bus.specs.Complete.{advance, completeFrom, complete}
-use Rattle.bus.specs.Encode.{byteBits, drawEvent, drawEvents, drawing, isStart, isRepeatedStart, sampleCount, eventSamples}
+use Rattle.bus.specs.Encode.{byteBits, drawEvent, drawEvents, drawing}
+use Rattle.bus.specs.Encode.{isStart, isRepeatedStart, sampleCount, eventSamples}
 use Rattle.bus.proofs.EventLists.{samples-cons}
 
 -- the samples of its STOP, which a frame's START counts

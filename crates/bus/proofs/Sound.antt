@@ -1,16 +1,15 @@
 -- Eight bits at most are pending, and their value fits that many: so it is at the start, and after each sample.
 use mathlib.Core.Path.{_≡_, refl}
 use mathlib.Core.Bool.{Bool, true, false, cond}
-use Prim.Native.Nat.{ℕ, _+_, _*_, _≤_, _<_, _^_}
+use Prim.Native.Nat.{ℕ, _≤_, _<_, _^_}
 use native.Mathlib.Nat.{pow-succ', pow-le-pow-right}
 use native.Mathlib.Numerals.{add-one}
 use native.Mathlib.Omega.{arith}
 use mir.Val.{boolByte}
-use lib.Dec.{eqb}
 use borrow.Author.Tests.{eqb-false}
 use Rattle.bus.specs.declared.Decoder.{Decoder}
 use Rattle.bus.specs.Levels.{starts, stops}
-use Rattle.bus.specs.Decode.{idle, takes, bit, ninth, conditioned, withBit, seen, next}
+use Rattle.bus.specs.Decode.{idle, takes, bit, ninth, conditioned, withBit, next}
 use Rattle.bus.specs.Listing.{Sound}
 
 pub at-most-one : (b : Bool) → boolByte b ≤ 1
@@ -20,7 +19,8 @@ at-most-one false = omega arith
 -- fewer than eight bits leave room for one more in a byte
 pub below-128 : (decoder : Decoder) → decoder .pending < 8 → Sound decoder → decoder .value < 128
 below-128 decoder fewer sound =
-    let bound : 2 ^ decoder .pending ≤ 2 ^ 7 = pow-le-pow-right {n = 2} (omega arith) {i = decoder .pending} {j = 7} (omega arith) in
+    let few : decoder .pending ≤ 7 = omega arith in
+    let bound : 2 ^ decoder .pending ≤ 2 ^ 7 = pow-le-pow-right {n = 2} (omega arith) few in
     omega (arith, bound)
 
 pub idle-sound : Sound idle

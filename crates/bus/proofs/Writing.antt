@@ -1,4 +1,4 @@
--- A list that a loop counts, or writes to a buffer, piece by piece: what holds at the loop's head, and what a piece does to it.
+-- A list that a loop counts, or writes to a buffer, piece by piece: what holds at the loop's head.
 use mathlib.Core.Path.{_≡_, refl, sym, ap, _∙_}
 use mathlib.Core.List.{List, [], _∷_, _++_, append-assoc, append-nil}
 use Prim.Native.Nat.{ℕ, _+_, _≤_, _<_}
@@ -17,21 +17,27 @@ pub record Progress (whole rest : List ℕ) (count : ℕ) : Type 0 where
 pub progress-none : (whole : List ℕ) → Progress whole whole 0
 progress-none whole = record { done = []; long = refl; parts = refl }
 
-module _ (whole rest piece next : List ℕ) (count : ℕ) (split : rest ≡ piece ++ next) (progress : Progress whole rest count) where
-  pub progress-more : Progress whole next (count + length piece)
-  progress-more =
-      record {
-        done = progress .done ++ piece;
-        long = length-append (progress .done) piece ∙ ap (λ (n : ℕ). n + length piece) (progress .long);
-        parts = progress .parts ∙ ap (λ (l : List ℕ). progress .done ++ l) split ∙ sym (append-assoc (progress .done) piece next);
-      }
+module _
+    (whole rest piece next : List ℕ)
+    (count : ℕ)
+    (split : rest ≡ piece ++ next)
+    (progress : Progress whole rest count)
+  where
+    pub progress-more : Progress whole next (count + length piece)
+    progress-more =
+        record {
+          done = progress .done ++ piece;
+          long = length-append (progress .done) piece ∙ ap (λ (n : ℕ). n + length piece) (progress .long);
+          parts = progress .parts ∙ ap (λ (l : List ℕ). progress .done ++ l) split
+              ∙ sym (append-assoc (progress .done) piece next);
+        }
 
-  -- the next piece has room wherever the whole has
-  pub progress-room : count + length piece ≤ length whole
-  unfolding progress-more
-  progress-room =
-      let more : length whole ≡ length ((progress .done ++ piece) ++ next) = ap length (progress-more .parts) in
-      rw more (rw (length-append, length-append) (omega (arith, progress .long)))
+    -- the next piece has room wherever the whole has
+    pub progress-room : count + length piece ≤ length whole
+    unfolding progress-more
+    progress-room =
+        let more : length whole ≡ length ((progress .done ++ piece) ++ next) = ap length (progress-more .parts) in
+        rw more (rw (length-append, length-append) (omega (arith, progress .long)))
 
 module _ (whole rest : List ℕ) (count : ℕ) (empty : rest ≡ []) (progress : Progress whole rest count) where
   pub progress-whole : whole ≡ progress .done
@@ -50,9 +56,11 @@ unfolding progress-none
 writing-none whole buffer = record { progress = progress-none whole; front = refl }
 
 -- the first element was stored before the loop
-pub writing-first : (v : ℕ) (rest buffer : List ℕ) → 0 < length buffer → Writing (v ∷ rest) rest (set buffer 0 v) (set buffer 0 v) 1
+pub writing-first : (v : ℕ) (rest buffer : List ℕ) → 0 < length buffer
+    → Writing (v ∷ rest) rest (set buffer 0 v) (set buffer 0 v) 1
 writing-first v rest [] h = absurd (omega arith)
-writing-first v rest (x ∷ buffer) h = record { progress = record { done = v ∷ []; long = refl; parts = refl }; front = refl }
+writing-first v rest (x ∷ buffer) h =
+    record { progress = record { done = v ∷ []; long = refl; parts = refl }; front = refl }
 
 module _
     (whole rest buffer₀ buffer : List ℕ)
@@ -63,7 +71,8 @@ module _
     pub writing-long : length buffer ≡ length buffer₀
     writing-long =
         let more : length whole ≡ length (writing .progress .done ++ rest) = ap length (writing .progress .parts) in
-        let fits : length (writing .progress .done) ≤ length buffer₀ = omega (arith, more, length-append (writing .progress .done) rest) in
+        let fits : length (writing .progress .done) ≤ length buffer₀ =
+        omega (arith, more, length-append (writing .progress .done) rest) in
         ap length (writing .front) ∙ length-filled (writing .progress .done) buffer₀ fits
 
     module _ (piece next : List ℕ) (split : rest ≡ piece ++ next) where
@@ -82,4 +91,5 @@ module _
 
     pub writing-done : rest ≡ [] → buffer ≡ filled whole buffer₀
     writing-done empty =
-        writing .front ∙ ap (λ (l : List ℕ). filled l buffer₀) (sym (progress-whole whole rest count empty (writing .progress)))
+        let all = progress-whole whole rest count empty (writing .progress) in
+        writing .front ∙ ap (λ (l : List ℕ). filled l buffer₀) (sym all)

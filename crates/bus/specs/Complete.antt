@@ -24,9 +24,11 @@ ends Opened = false
 ends Within = false
 ends Broken = false
 
+-- from a position to the end of the list
 abbrev pub completeFrom : Position → List ℕ → Bool
 completeFrom position [] = ends position
 completeFrom position (event ∷ events) = completeFrom (advance position event) events
 
+-- the complete lists: refusal 9 is given for any other
 abbrev pub complete : List ℕ → Bool
 complete events = completeFrom Between events

@@ -87,9 +87,10 @@ abbrev pub listed : Decoder → List ℕ → List ℕ
 listed decoder [] = []
 listed decoder (level ∷ levels) = lists decoder level ++ listed (next decoder level) levels
 
--- the events of a trace, and the decoder at its end
+-- the events of a trace
 abbrev pub events : List ℕ → List ℕ
 events levels = listed idle levels
 
+-- the decoder at its end: a frame open or not, and the bits that are pending
 abbrev pub final : List ℕ → Decoder
 final levels = after idle levels

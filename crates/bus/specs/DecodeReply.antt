@@ -1,6 +1,6 @@
 -- What decode answers, refusals in 01's order, and what the lent slice holds after it.
 use Prim.Native.Nat.{ℕ, suc}
-use mathlib.Core.Bool.{Bool, cond, not}
+use mathlib.Core.Bool.{cond, not}
 use mathlib.Core.List.{List, [], _∷_}
 use mir.Val.{boolByte}
 use lib.Dec.{eqb, ltb}
@@ -36,12 +36,8 @@ decoded stamps levels room =
     (cond (ltb room (length (events levels))) (Refused 8 0)
     (Events (length (events levels)) (final levels .framed) (final levels .pending) (final levels .value))))))
 
--- the lent slice after it: the events, and the rest as it was; at a refusal all as it was
-abbrev pub eventsAfter : Decoded → List ℕ → List ℕ → List ℕ
-eventsAfter (Events count framed pending value) levels buffer = filled (events levels) buffer
-eventsAfter (Refused number place) levels buffer = buffer
-
--- 01's numbers of a reply; in a refused one all others are 0
+-- 01's numbers of an answer: the refusal (0: none) and its place, the event count, whether a frame is open (1) or not,
+-- how many bits are pending, and their value; in a refused answer all others are 0
 pub record DecodedNumbers : Type 0 where
   pub refusal : ℕ
   pub place : ℕ
@@ -62,3 +58,8 @@ decodedNumbers (Events count framed pending value) =
     }
 decodedNumbers (Refused number place) =
     record { refusal = number; place = place; count = 0; framed = 0; pending = 0; value = 0 }
+
+-- the lent slice after it: the events, and its rest as it was; after a refusal all as it was
+abbrev pub eventsAfter : Decoded → List ℕ → List ℕ → List ℕ
+eventsAfter answer levels buffer =
+    cond (eqb (decodedNumbers answer .refusal) 0) (filled (events levels) buffer) buffer

@@ -4,15 +4,13 @@ use mathlib.Core.Bool.{Bool, cond}
 use mathlib.Core.List.{List, [], _∷_, _++_}
 use mir.Val.{boolByte}
 use lib.Dec.{eqb}
+use Rattle.bits.specs.Positions.{isSet}
 use Rattle.bus.specs.Events.{isByte, startEvent, repeatedStartEvent, stopEvent}
 
--- bit k of a number, and its bits below n, most significant first
-abbrev pub bitAt : ℕ → ℕ → Bool
-bitAt k number = eqb (number / 2 ^ k % 2) 1
-
+-- a number's bits below n, most significant first
 abbrev pub bitsBelow : ℕ → ℕ → List Bool
 bitsBelow zero number = []
-bitsBelow (suc k) number = bitAt k number ∷ bitsBelow k number
+bitsBelow (suc k) number = isSet k number ∷ bitsBelow k number
 
 -- a byte's eight bits, most significant first
 unfoldable pub byteBits : ℕ → List Bool
@@ -20,12 +18,13 @@ byteBits byte = bitsBelow 8 byte
 
 -- the nine bits of a byte's event
 abbrev pub eventBits : ℕ → List Bool
-eventBits event = byteBits event ++ bitAt 8 event ∷ []
+eventBits event = byteBits event ++ isSet 8 event ∷ []
 
 -- a bit b draws 2b, 2b+1
 abbrev pub drawBit : Bool → List ℕ
 drawBit b = 2 * boolByte b ∷ (2 * boolByte b + 1) ∷ []
 
+-- bits, one after the other
 abbrev pub drawBits : List Bool → List ℕ
 drawBits [] = []
 drawBits (b ∷ bits) = drawBit b ++ drawBits bits
@@ -38,6 +37,7 @@ drawEvent event =
     (cond (eqb event repeatedStartEvent) (2 ∷ 3 ∷ 1 ∷ [])
     (cond (eqb event stopEvent) (0 ∷ 1 ∷ 3 ∷ []) [])))
 
+-- events, one after the other
 abbrev pub drawEvents : List ℕ → List ℕ
 drawEvents [] = []
 drawEvents (event ∷ events) = drawEvent event ++ drawEvents events
@@ -51,9 +51,11 @@ abbrev pub howMany : (ℕ → Bool) → List ℕ → ℕ
 howMany kind [] = 0
 howMany kind (event ∷ events) = boolByte (kind event) + howMany kind events
 
+-- the frames of a list are its STARTs
 abbrev pub isStart : ℕ → Bool
 isStart event = eqb event startEvent
 
+-- the repeated STARTs
 abbrev pub isRepeatedStart : ℕ → Bool
 isRepeatedStart event = eqb event repeatedStartEvent
 

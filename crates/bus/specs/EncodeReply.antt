@@ -1,6 +1,6 @@
 -- What encode answers, refusals in 01's order, and what the two lent slices hold after it.
 use Prim.Native.Nat.{ℕ}
-use mathlib.Core.Bool.{Bool, cond, not, _||_}
+use mathlib.Core.Bool.{cond, not, _||_}
 use mathlib.Core.List.{List}
 use lib.Dec.{eqb, ltb}
 use Rattle.bus.specs.declared.Encoded.{Encoded}
@@ -20,16 +20,7 @@ encoded events start gap stampRoom levelRoom =
     (cond (ltb stampRoom (sampleCount events) || ltb levelRoom (sampleCount events)) (Refused 8)
     (Drawn (sampleCount events))))))
 
--- the lent slices after it: the drawing, and the rest as it was; at a refusal all as it was
-abbrev pub stampsAfter : Encoded → ℕ → ℕ → List ℕ → List ℕ
-stampsAfter (Drawn count) start gap buffer = filled (stampsFrom start gap count) buffer
-stampsAfter (Refused number) start gap buffer = buffer
-
-abbrev pub levelsAfter : Encoded → List ℕ → List ℕ → List ℕ
-levelsAfter (Drawn count) events buffer = filled (drawing events) buffer
-levelsAfter (Refused number) events buffer = buffer
-
--- 01's numbers of a reply; in a refused one the count is 0
+-- 01's numbers of an answer: the refusal (0: none) and the sample count, 0 in a refused one
 pub record EncodedNumbers : Type 0 where
   pub refusal : ℕ
   pub count : ℕ
@@ -37,3 +28,14 @@ pub record EncodedNumbers : Type 0 where
 abbrev pub encodedNumbers : Encoded → EncodedNumbers
 encodedNumbers (Drawn count) = record { refusal = 0; count = count }
 encodedNumbers (Refused number) = record { refusal = number; count = 0 }
+
+-- the lent slices after it: stamps and drawing, and their rest as it was; after a refusal all as it was
+abbrev pub stampsAfter : Encoded → ℕ → ℕ → List ℕ → List ℕ
+stampsAfter answer start gap buffer =
+    cond (eqb (encodedNumbers answer .refusal) 0)
+    (filled (stampsFrom start gap (encodedNumbers answer .count)) buffer)
+    buffer
+
+abbrev pub levelsAfter : Encoded → List ℕ → List ℕ → List ℕ
+levelsAfter answer events buffer =
+    cond (eqb (encodedNumbers answer .refusal) 0) (filled (drawing events) buffer) buffer

@@ -3,10 +3,11 @@ use Prim.Native.Nat.{ℕ, _/_, _%_}
 use mathlib.Core.Bool.{Bool, not, _&&_}
 use lib.Dec.{eqb}
 
--- a level byte is SCL + 2·SDA
+-- SCL in a level byte, which is SCL + 2·SDA
 abbrev pub scl : ℕ → Bool
 scl level = eqb (level % 2) 1
 
+-- SDA in it
 abbrev pub sda : ℕ → Bool
 sda level = eqb (level / 2 % 2) 1
 

@@ -1,3 +1,4 @@
+-- What decode and encode mean, in document 01's order.
 pub mod Limits
 pub mod Buffer
 pub mod Levels

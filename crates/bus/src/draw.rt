@@ -4,7 +4,7 @@ ghost use mathlib.Core.List.{[], _∷_, _++_};
 ghost use Prim.Native.Nat.{_+_, _*_, _≤_};
 ghost use lib.ListN.{length};
 ghost use lib.Seq.{sets};
-ghost use Rattle.bus.specs.Limits.{maxSamples, maxGap, largestStamp};
+ghost use Rattle.bus.specs.Limits.{maxSamples, largestStamp};
 ghost use Rattle.bus.specs.Buffer.{filled};
 ghost use Rattle.bus.specs.Encode.{byteBits, drawBit, drawBits, drawEvent, drawing, stampsFrom, lastStamp};
 
@@ -35,7 +35,8 @@ fn put_byte(levels: &mut [u8], at: usize, byte: u8, ninth: bool)
 // Three levels, and the place after them.
 fn put_three(levels: &mut [u8], at: usize, first: u8, second: u8, third: u8) -> usize
     requires { ⌜ at + 3 ≤ length (now levels) ⌝ }
-    ensures { λ r. ⌜ (r ≡ at + 3) × (now (levels .exit) ≡ sets (now (levels .entry)) at (first ∷ second ∷ third ∷ [])) ⌝ }
+    ensures next { λ r. ⌜ r ≡ at + 3 ⌝ }
+    ensures stored { λ r. ⌜ now (levels .exit) ≡ sets (now (levels .entry)) at (first ∷ second ∷ third ∷ []) ⌝ }
 {
     levels[at] = first;
     levels[at + 1] = second;
@@ -46,7 +47,8 @@ fn put_three(levels: &mut [u8], at: usize, first: u8, second: u8, third: u8) -> 
 // The levels of an event, and the place after them.
 fn put_event(levels: &mut [u8], at: usize, event: u16) -> usize
     requires { ⌜ at + length (drawEvent event) ≤ length (now levels) ⌝ }
-    ensures { λ r. ⌜ (r ≡ at + length (drawEvent event)) × (now (levels .exit) ≡ sets (now (levels .entry)) at (drawEvent event)) ⌝ }
+    ensures next { λ r. ⌜ r ≡ at + length (drawEvent event) ⌝ }
+    ensures stored { λ r. ⌜ now (levels .exit) ≡ sets (now (levels .entry)) at (drawEvent event) ⌝ }
 {
     match event {
         0..=255 => {

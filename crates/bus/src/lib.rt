@@ -20,7 +20,7 @@ const MAX_GAP: u32 = 1000;
 // The largest stamp.
 const MAX_STAMP: u64 = 4294967295;
 
-// Where an event list stands: between frames, after a START (a byte must follow), after a byte, or no complete list any more.
+// Where an event list stands: between frames, after a START, after a byte, or where no complete list can stand.
 pub enum Position {
     Between,
     Opened,
@@ -28,8 +28,8 @@ pub enum Position {
     Broken,
 }
 
-// What the decoder knows after a sample: the last level, whether a frame is open, whether a START or STOP fell in this high
-// phase of SCL, how many bits are pending, and their value.
+// What the decoder knows after a sample: the last level, whether a frame is open, whether a START or STOP fell in this
+// high phase of SCL, how many bits are pending, and their value.
 pub struct Decoder {
     pub last: u8,
     pub framed: bool,
@@ -67,7 +67,8 @@ pub enum Encoded {
 
 // The events of a trace, 01's wire reader: counted first, so that a refusal leaves the slice as it was.
 pub fn decode(stamps: &[u32], levels: &[u8], events: &mut [u16]) -> Decoded
-    ensures { λ r. ⌜ (r ≡ decoded (now (stamps .entry)) (now (levels .entry)) (length (now (events .entry)))) × (now (events .exit) ≡ eventsAfter r (now (levels .entry)) (now (events .entry))) ⌝ }
+    ensures answer { λ r. ⌜ r ≡ decoded (now (stamps .entry)) (now (levels .entry)) (length (now (events .entry))) ⌝ }
+    ensures buffer { λ r. ⌜ now (events .exit) ≡ eventsAfter r (now (levels .entry)) (now (events .entry)) ⌝ }
 {
     if stamps.len() != levels.len() {
         return Decoded::Refused {
@@ -119,7 +120,9 @@ pub fn encode(
     stamps: &mut [u32],
     levels: &mut [u8],
 ) -> Encoded
-    ensures { λ r. ⌜ (r ≡ encoded (now (events .entry)) start gap (length (now (stamps .entry))) (length (now (levels .entry)))) × (now (stamps .exit) ≡ stampsAfter r start gap (now (stamps .entry))) × (now (levels .exit) ≡ levelsAfter r (now (events .entry)) (now (levels .entry))) ⌝ }
+    ensures answer { λ r. ⌜ r ≡ encoded (now (events .entry)) start gap (length (now (stamps .entry))) (length (now (levels .entry))) ⌝ }
+    ensures stamp_buffer { λ r. ⌜ now (stamps .exit) ≡ stampsAfter r start gap (now (stamps .entry)) ⌝ }
+    ensures level_buffer { λ r. ⌜ now (levels .exit) ≡ levelsAfter r (now (events .entry)) (now (levels .entry)) ⌝ }
 {
     if !frames::complete(events) {
         return Encoded::Refused(9);

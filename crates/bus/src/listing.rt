@@ -25,7 +25,8 @@ fn counted(count: usize, step: Listed) -> usize
 // What one sample lists, stored at a count.
 fn put(events: &mut [u16], count: usize, step: Listed) -> usize
     requires { ⌜ count + length (listOf step) ≤ length (now events) ⌝ }
-    ensures { λ r. ⌜ (r ≡ count + length (listOf step)) × (now (events .exit) ≡ sets (now (events .entry)) count (listOf step)) ⌝ }
+    ensures next { λ r. ⌜ r ≡ count + length (listOf step) ⌝ }
+    ensures stored { λ r. ⌜ now (events .exit) ≡ sets (now (events .entry)) count (listOf step) ⌝ }
 {
     match step {
         Listed::Nothing => count,
@@ -61,7 +62,8 @@ pub(crate) fn count_events(levels: &[u8]) -> usize
 // The events, into a slice with room for them; the decoder after the last sample.
 pub(crate) fn write_events(levels: &[u8], events: &mut [u16]) -> Decoder
     requires { ⌜ length (decode.events (now levels)) ≤ length (now events) ⌝ }
-    ensures { λ r. ⌜ (r ≡ decode.final (now (levels .entry))) × (now (events .exit) ≡ filled (decode.events (now (levels .entry))) (now (events .entry))) ⌝ }
+    ensures last { λ r. ⌜ r ≡ decode.final (now (levels .entry)) ⌝ }
+    ensures stored { λ r. ⌜ now (events .exit) ≡ filled (decode.events (now (levels .entry))) (now (events .entry)) ⌝ }
 {
     let mut decoder = Decoder::idle();
     let mut count: usize = 0;

@@ -5,6 +5,10 @@ ghost use Prim.Native.Nat.{_+_, _*_, _^_, _<_};
 ghost use Rattle.usi.specs.Module.{powerUp};
 ghost use Rattle.usi.specs.Step.{readByte, readWord, writeByte, writeWord, sample as sampleRule, tick as tickRule};
 ghost use Rattle.export.specs.Packed.{unpacked as unpackedNumber, registers as registersOf, hidden as hiddenOf, packed as packedModule, packedStep, packedRead, lines};
+
+mod tables; // tables.rt: arbitration
+mod trace; // trace.rt: decode and encode
+
 use usi::Read;
 use usi::Step;
 use usi::Usi;
@@ -41,7 +45,7 @@ fn registers(u: Usi) -> u64
         + 1099511627776 * (u.usisrh as u64)
 }
 
-fn digit(b: bool) -> u64
+pub(crate) fn digit(b: bool) -> u64
     ensures { λ r. ⌜ (r ≡ boolByte b) × (r < 2) ⌝ }
 {
     if b { 1 } else { 0 }
@@ -60,7 +64,7 @@ fn hidden(u: Usi) -> u64
 }
 
 // The number that stands for a module.
-fn packed(u: Usi) -> u64
+pub(crate) fn packed(u: Usi) -> u64
     ensures { λ r. ⌜ (r ≡ packedModule u) × (r < 256 ^ 7) ⌝ }
 {
     registers(u) + 281474976710656 * hidden(u)

@@ -11,7 +11,7 @@ use Rattle.usi_rules.specs.Registers.{USIPE7, USIPE6, USILSB, USISWRST, USIOE, 
 use Rattle.usi_rules.specs.Rules as rules
 use Rattle.usi.specs.declared.Usi.{Usi}
 use Rattle.usi.specs.Module.{fits, withPhase}
-use Rattle.usi.specs.Step.{conditioned, arbitrated, clocked, bitTaken, risen, fallen, edged, recorded, followed, latched, sampled, ticked}
+use Rattle.usi.specs.Step.{conditioned, arbitrated, clocked, bitTaken, risen, fallen, edged, stretched, recorded, followed, latched, sampled, ticked}
 
 -- bits of USICTL1 below I2C may be set
 flags-raised :
@@ -123,7 +123,7 @@ unfolding edged
 edged-fits scl sda u =
     let first = conditioned scl sda u in
     let second = risen scl sda first in
-    chosen (u .seen) u (fallen scl second) u
+    chosen (u .seen) u (stretched scl (fallen scl second)) u
     (fallen-fits scl second ∙ risen-fits scl sda first ∙ conditioned-fits scl sda u) refl
 
 pub followed-fits : (u : Usi) → fits (followed u) ≡ fits u

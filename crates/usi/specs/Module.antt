@@ -190,9 +190,9 @@ withPhase phase u =
       stretch = u .stretch;
     }
 
--- The levels last seen and the stretch (01: caught) replaced.
-abbrev pub withLevels : Bool → Bool → Bool → Usi → Usi
-withLevels scl sda stretch u =
+-- The levels last seen replaced.
+abbrev pub withLevels : Bool → Bool → Usi → Usi
+withLevels scl sda u =
     record {
       usictl0 = u .usictl0;
       usictl1 = u .usictl1;
@@ -206,6 +206,25 @@ withLevels scl sda stretch u =
       seen = true;
       scl = scl;
       sda = sda;
+      stretch = u .stretch;
+    }
+
+-- The stretch (01: caught) replaced.
+abbrev pub withStretch : Bool → Usi → Usi
+withStretch stretch u =
+    record {
+      usictl0 = u .usictl0;
+      usictl1 = u .usictl1;
+      usickctl = u .usickctl;
+      usicnt = u .usicnt;
+      usisrl = u .usisrl;
+      usisrh = u .usisrh;
+      latch = u .latch;
+      enable = u .enable;
+      phase = u .phase;
+      seen = u .seen;
+      scl = u .scl;
+      sda = u .sda;
       stretch = stretch;
     }
 

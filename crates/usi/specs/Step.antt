@@ -10,7 +10,7 @@ use Rattle.usi.specs.declared.Step.{Step}
 use Rattle.usi.specs.declared.Step.the-variants.{Next, Refused}
 use Rattle.usi.specs.declared.Read.{Read}
 use Rattle.usi.specs.declared.Read.the-variants.{Value, Refused as NoValue}
-use Rattle.usi.specs.Module.{withUSICTL0, withUSICTL1, withUSICKCTL, withUSICNT, withUSISRL, withUSISRH, withLatch, withPhase, withLevels, atRest, fits}
+use Rattle.usi.specs.Module.{withUSICTL0, withUSICTL1, withUSICKCTL, withUSICNT, withUSISRL, withUSISRH, withLatch, withPhase, withLevels, withStretch, atRest, fits}
 
 -- 01's number for each answer of a step (0: not refused), and the module that it hands back.
 abbrev pub refusal : Step → ℕ
@@ -118,14 +118,17 @@ unfoldable pub fallen : Bool → Usi → Usi
 fallen scl u =
     cond (rules.falls (u .scl) scl) (cond (rules.movesLatch (u .usictl0) (u .usicnt)) (latched u) u) u
 
--- The levels are remembered; caught or not.
+-- SCL falls while the half is high: caught. A sample with SCL high ends it.
+abbrev pub stretched : Bool → Usi → Usi
+stretched scl u = withStretch (rules.stretchAfter (u .stretch) (rules.falls (u .scl) scl) (u .phase) scl) u
+
+-- The levels are remembered.
 abbrev pub recorded : Bool → Bool → Usi → Usi
-recorded scl sda u =
-    withLevels scl sda (rules.stretchAfter (u .stretch) (u .seen && rules.falls (u .scl) scl) (u .phase) scl) u
+recorded scl sda u = withLevels scl sda u
 
 -- With no levels remembered, a sample only records.
 unfoldable pub edged : Bool → Bool → Usi → Usi
-edged scl sda u = cond (u .seen) (fallen scl (risen scl sda (conditioned scl sda u))) u
+edged scl sda u = cond (u .seen) (stretched scl (fallen scl (risen scl sda (conditioned scl sda u)))) u
 
 abbrev pub sampled : Bool → Bool → Usi → Usi
 sampled scl sda u = followed (recorded scl sda (edged scl sda u))

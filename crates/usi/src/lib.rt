@@ -2,7 +2,7 @@
 ghost use mathlib.Core.Path.{_≡_};
 ghost use Prim.Native.Nat.{_+_, _*_};
 ghost use Rattle.usi.specs.Module.{powerUp, atRest, fits as fitsRule, pullsSda, pullsScl};
-ghost use Rattle.usi.specs.Step.{refusal as refusalOf, moduleOf, latched as latchedRule, followed as followedRule, settled as settledRule, readByte, writeByte, readWord, writeWord, conditioned as conditionedRule, arbitrated as arbitratedRule, clocked as clockedRule, bitTaken, risen as risenRule, fallen as fallenRule, recorded as recordedRule, edged as edgedRule, sampled as sampledRule, sample as sampleRule, ticked as tickedRule, tick as tickRule};
+ghost use Rattle.usi.specs.Step.{refusal as refusalOf, moduleOf, latched as latchedRule, followed as followedRule, settled as settledRule, readByte, writeByte, readWord, writeWord, conditioned as conditionedRule, arbitrated as arbitratedRule, clocked as clockedRule, bitTaken, risen as risenRule, fallen as fallenRule, stretched as stretchedRule, recorded as recordedRule, edged as edgedRule, sampled as sampledRule, sample as sampleRule, ticked as tickedRule, tick as tickRule};
 
 pub struct Usi {
     pub usictl0: u8,
@@ -240,10 +240,10 @@ impl Usi {
     fn conditioned(mut self, scl: bool, sda: bool) -> Usi
         ensures { λ r. ⌜ r ≡ conditionedRule scl sda self ⌝ }
     {
-        let started = usi_rules::start(self.scl, self.sda, scl, sda);
-        let stopped = usi_rules::stop(self.scl, self.sda, scl, sda);
-        let flags = usi_rules::condition_flags(self.usictl1, started, stopped);
-        let count = usi_rules::condition_count(self.usicnt, started);
+        let started = usi_edges::start(self.scl, self.sda, scl, sda);
+        let stopped = usi_edges::stop(self.scl, self.sda, scl, sda);
+        let flags = usi_edges::condition_flags(self.usictl1, started, stopped);
+        let count = usi_edges::condition_count(self.usicnt, started);
         self.usictl1 = flags;
         self.usicnt = count;
         self
@@ -253,8 +253,8 @@ impl Usi {
     fn arbitrated(mut self, lost: bool) -> Usi
         ensures { λ r. ⌜ r ≡ arbitratedRule lost self ⌝ }
     {
-        let flags = usi_rules::loss_flags(self.usictl1, lost);
-        let control = usi_rules::loss_control(self.usictl0, lost);
+        let flags = usi_edges::loss_flags(self.usictl1, lost);
+        let control = usi_edges::loss_control(self.usictl0, lost);
         self.usictl1 = flags;
         self.usictl0 = control;
         self.enable = self.enable & !lost;
@@ -265,9 +265,9 @@ impl Usi {
     fn clocked(mut self, sda: bool) -> Usi
         ensures { λ r. ⌜ r ≡ clockedRule sda self ⌝ }
     {
-        let flags = usi_rules::end_flags(self.usictl1, self.usicnt);
-        let count = usi_rules::count_down(self.usicnt);
-        let low = usi_rules::shifted(self.usisrl, sda);
+        let flags = usi_edges::end_flags(self.usictl1, self.usicnt);
+        let count = usi_edges::count_down(self.usicnt);
+        let low = usi_edges::shifted(self.usisrl, sda);
         self.usictl1 = flags;
         self.usicnt = count;
         self.usisrl = low;
@@ -278,7 +278,7 @@ impl Usi {
     fn bit_taken(self, sda: bool) -> Usi
         ensures { λ r. ⌜ r ≡ bitTaken sda self ⌝ }
     {
-        let lost = usi_rules::loses(self.usictl0, self.enable, self.latch, sda);
+        let lost = usi_edges::loses(self.usictl0, self.enable, self.latch, sda);
         self.arbitrated(lost).clocked(sda)
     }
 
@@ -286,7 +286,7 @@ impl Usi {
     fn risen(self, scl: bool, sda: bool) -> Usi
         ensures { λ r. ⌜ r ≡ risenRule scl sda self ⌝ }
     {
-        if usi_rules::takes_bit(self.scl, scl, self.usicnt) {
+        if usi_edges::takes_bit(self.scl, scl, self.usicnt) {
             return self.bit_taken(sda);
         }
         self
@@ -296,12 +296,22 @@ impl Usi {
     fn fallen(self, scl: bool) -> Usi
         ensures { λ r. ⌜ r ≡ fallenRule scl self ⌝ }
     {
-        if !usi_rules::falls(self.scl, scl) {
+        if !usi_edges::falls(self.scl, scl) {
             return self;
         }
-        if usi_rules::moves_latch(self.usictl0, self.usicnt) {
+        if usi_edges::moves_latch(self.usictl0, self.usicnt) {
             return self.latched();
         }
+        self
+    }
+
+    // Whether SCL was pulled low by another.
+    fn stretched(mut self, scl: bool) -> Usi
+        ensures { λ r. ⌜ r ≡ stretchedRule scl self ⌝ }
+    {
+        let fell = usi_edges::falls(self.scl, scl);
+        let stretch = usi_edges::stretch_after(self.stretch, fell, self.phase, scl);
+        self.stretch = stretch;
         self
     }
 
@@ -309,12 +319,9 @@ impl Usi {
     fn recorded(mut self, scl: bool, sda: bool) -> Usi
         ensures { λ r. ⌜ r ≡ recordedRule scl sda self ⌝ }
     {
-        let fell = self.seen & usi_rules::falls(self.scl, scl);
-        let stretch = usi_rules::stretch_after(self.stretch, fell, self.phase, scl);
         self.seen = true;
         self.scl = scl;
         self.sda = sda;
-        self.stretch = stretch;
         self
     }
 
@@ -323,7 +330,10 @@ impl Usi {
         ensures { λ r. ⌜ r ≡ edgedRule scl sda self ⌝ }
     {
         if self.seen {
-            return self.conditioned(scl, sda).risen(scl, sda).fallen(scl);
+            return self.conditioned(scl, sda)
+                .risen(scl, sda)
+                .fallen(scl)
+                .stretched(scl);
         }
         self
     }
@@ -352,8 +362,8 @@ impl Usi {
     fn ticked(mut self) -> Usi
         ensures { λ r. ⌜ r ≡ tickedRule self ⌝ }
     {
-        let clocking = usi_rules::clocks(self.usictl0, self.usictl1, self.usicnt);
-        let phase = usi_rules::phase_after(clocking, self.phase, self.seen, self.scl);
+        let clocking = usi_edges::clocks(self.usictl0, self.usictl1, self.usicnt);
+        let phase = usi_edges::phase_after(clocking, self.phase, self.seen, self.scl);
         self.phase = phase;
         self.followed()
     }

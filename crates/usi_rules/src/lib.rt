@@ -1,6 +1,8 @@
-// The USI's rules on register bytes and hidden bits, one function to a rule of document 01; crate usi composes them.
+// The USI's register bits and the rules that look at a single instant, one function to a rule of document 01; crate usi_edges
+// has those of edges and ticks, and crate usi composes them.
 ghost use mathlib.Core.Path.{_≡_};
-ghost use Rattle.usi_rules.specs.Rules.{divider, clockSource, bitCount, counting as countingRule, fits as fitsRule, countFlags, start as startRule, stop as stopRule, conditionFlags, conditionCount, takesBit, loses as losesRule, lossControl, lossFlags, shifted as shiftedRule, countDown, endFlags, falls as fallsRule, movesLatch, firstBit, outputEnable, stretchAfter, transparent as transparentRule, clocks as clocksRule, phaseAfter, pullsSda, drives as drivesRule, holds as holdsRule};
+ghost use Rattle.usi_rules.specs.Rules.{divider, clockSource, bitCount, counting as countingRule, fits as fitsRule, countFlags, firstBit};
+ghost use Rattle.usi_rules.specs.Rules.{outputEnable, transparent as transparentRule, pullsSda, drives as drivesRule, holds as holdsRule};
 
 // USICTL0
 pub const USIPE7: u8 = 0x80;
@@ -100,119 +102,6 @@ pub fn count_flags(usictl1: u8, value: u8) -> u8
     usictl1
 }
 
-// SDA falls while SCL stays high.
-pub fn start(scl_before: bool, sda_before: bool, scl: bool, sda: bool) -> bool
-    ensures { λ r. ⌜ r ≡ startRule «scl_before» «sda_before» scl sda ⌝ }
-{
-    scl_before & scl & sda_before & !sda
-}
-
-// SDA rises while SCL stays high.
-pub fn stop(scl_before: bool, sda_before: bool, scl: bool, sda: bool) -> bool
-    ensures { λ r. ⌜ r ≡ stopRule «scl_before» «sda_before» scl sda ⌝ }
-{
-    scl_before & scl & !sda_before & sda
-}
-
-// USICTL1 after a START or a STOP.
-pub fn condition_flags(usictl1: u8, started: bool, stopped: bool) -> u8
-    ensures { λ r. ⌜ r ≡ conditionFlags usictl1 started stopped ⌝ }
-{
-    if started {
-        return usictl1 | USISTTIFG;
-    }
-    if stopped {
-        return usictl1 | USISTP;
-    }
-    usictl1
-}
-
-// USICNT after a START.
-pub fn condition_count(usicnt: u8, started: bool) -> u8
-    ensures { λ r. ⌜ r ≡ conditionCount usicnt started ⌝ }
-{
-    if started {
-        return usicnt & !USISCLREL;
-    }
-    usicnt
-}
-
-// SCL rises with bits to count.
-pub fn takes_bit(scl_before: bool, scl: bool, usicnt: u8) -> bool
-    ensures { λ r. ⌜ r ≡ takesBit «scl_before» scl usicnt ⌝ }
-{
-    !scl_before & scl & (usicnt & USICNTX != 0)
-}
-
-// A master that drives SDA finds another level on it.
-pub fn loses(usictl0: u8, enable: bool, latch: bool, sda: bool) -> bool
-    ensures { λ r. ⌜ r ≡ losesRule usictl0 enable latch sda ⌝ }
-{
-    (usictl0 & USIMST == USIMST) & enable & (latch != sda)
-}
-
-// USICTL0 after arbitration at one bit.
-pub fn loss_control(usictl0: u8, lost: bool) -> u8
-    ensures { λ r. ⌜ r ≡ lossControl usictl0 lost ⌝ }
-{
-    if lost {
-        return usictl0 & !USIOE;
-    }
-    usictl0
-}
-
-// USICTL1 after arbitration at one bit.
-pub fn loss_flags(usictl1: u8, lost: bool) -> u8
-    ensures { λ r. ⌜ r ≡ lossFlags usictl1 lost ⌝ }
-{
-    if lost {
-        return usictl1 | USIAL;
-    }
-    usictl1
-}
-
-// USISRL with SDA entering at bit 0.
-pub fn shifted(usisrl: u8, sda: bool) -> u8
-    ensures { λ r. ⌜ r ≡ shiftedRule usisrl sda ⌝ }
-{
-    bits::shift_in(usisrl, sda)
-}
-
-// USICNT with CNT one less, where it was above 0.
-pub fn count_down(usicnt: u8) -> u8
-    ensures { λ r. ⌜ r ≡ countDown usicnt ⌝ }
-{
-    let count = usicnt & USICNTX;
-    if count == 0 {
-        return usicnt & !USICNTX;
-    }
-    (usicnt & !USICNTX) | (count - 1)
-}
-
-// USICTL1 as CNT falls from 1 to 0.
-pub fn end_flags(usictl1: u8, usicnt: u8) -> u8
-    ensures { λ r. ⌜ r ≡ endFlags usictl1 usicnt ⌝ }
-{
-    if usicnt & USICNTX == 1 {
-        return usictl1 | USIIFG;
-    }
-    usictl1
-}
-
-// SCL falls.
-pub fn falls(scl_before: bool, scl: bool) -> bool
-    ensures { λ r. ⌜ r ≡ fallsRule «scl_before» scl ⌝ }
-{
-    scl_before & !scl
-}
-
-// As SCL falls, the latch takes the next bit.
-pub fn moves_latch(usictl0: u8, usicnt: u8) -> bool
-    ensures { λ r. ⌜ r ≡ movesLatch usictl0 usicnt ⌝ }
-{
-    (usicnt & USICNTX != 0) & (usictl0 & USIGE == 0)
-}
-
 // The bit of USISRL that is sent next.
 pub fn first_bit(usisrl: u8) -> bool
     ensures { λ r. ⌜ r ≡ firstBit usisrl ⌝ }
@@ -227,38 +116,11 @@ pub fn output_enable(usictl0: u8) -> bool
     usictl0 & USIOE == USIOE
 }
 
-// Whether SCL was pulled low by another and is low still.
-pub fn stretch_after(stretch: bool, fallen: bool, phase: bool, scl: bool) -> bool
-    ensures { λ r. ⌜ r ≡ stretchAfter stretch fallen phase scl ⌝ }
-{
-    (stretch | (fallen & phase)) & !scl
-}
-
 // GE: the output latch is transparent.
 pub fn transparent(usictl0: u8) -> bool
     ensures { λ r. ⌜ r ≡ transparentRule usictl0 ⌝ }
 {
     usictl0 & USIGE == USIGE
-}
-
-// A master with bits to count generates the clock.
-pub fn clocks(usictl0: u8, usictl1: u8, usicnt: u8) -> bool
-    ensures { λ r. ⌜ r ≡ clocksRule usictl0 usictl1 usicnt ⌝ }
-{
-    (usictl0 & USIMST == USIMST) & (usictl1 & USIIFG == 0) & (usicnt & USICNTX != 0)
-}
-
-// The clock phase after a tick.
-pub fn phase_after(clocking: bool, phase: bool, seen: bool, scl: bool) -> bool
-    ensures { λ r. ⌜ r ≡ phaseAfter clocking phase seen scl ⌝ }
-{
-    if !clocking {
-        return true;
-    }
-    if phase {
-        return !(seen & scl);
-    }
-    true
 }
 
 // SDA is pulled low.

@@ -1,3 +1,4 @@
+-- `decode` tests in 01's order, and then writes.
 use Rattle.bus.proofs.Decodes.{replies}
 use mathlib.Core.Path.{refl}
 use borrow.Author.Needs.{needs}

@@ -12,16 +12,16 @@ complete-requires : tie.Need-complete-requires
 complete-requires c κs = search needs
 
 returns : tie.Need-returns
-returns c = (search replies, refl, refl)
+returns c = (search replies, (refl, refl))
 
 returns-2 : tie.Need-returns-2
-returns-2 c = (search replies, refl, refl)
+returns-2 c = (search replies, (refl, refl))
 
 count-samples-requires : tie.Need-count-samples-requires
 count-samples-requires c κs = search needs
 
 returns-3 : tie.Need-returns-3
-returns-3 c = (search replies, refl, refl)
+returns-3 c = (search replies, (refl, refl))
 
 sub-last : tie.Need-sub-last
 sub-last c = search needs
@@ -39,29 +39,31 @@ add-last c =
     omega (arith, last-fits (args .gap) (c .before .count-samples .result) gap (omega arith))
 
 returns-4 : tie.Need-returns-4
-returns-4 c = (search replies, refl, refl)
+returns-4 c = (search replies, (refl, refl))
 
 returns-5 : tie.Need-returns-5
-returns-5 c = (search replies, refl, refl)
+returns-5 c = (search replies, (refl, refl))
 
 write-levels-requires : tie.Need-write-levels-requires
 write-levels-requires c κs =
-    let args = c .before .before .before .before .before .before .before .before .before .before .before .args in
-    let counted = c .before .before .before .before .count-samples in
-    let done = c .before .before .before .before .before .before .before .complete in
+    let counted = c .before .before .before .before in
+    let done = counted .before .before .before in
+    let args = done .before .before .before .before .args in
     let events = args .events .now in
-    let count = counted .result in
-    let whole = whole-count events count (counted .ensures) (c .before .before .before .if3 .left) in
-    let drawn = drawing-fits events (done .result) count (done .ensures) (c .before .before .before .before .before .before .if1 .left) whole in
+    let count = counted .count-samples .result in
+    let whole = whole-count events count (counted .count-samples .ensures) (c .before .before .before .if3 .left) in
+    let all = counted .before .before .if1 .left in
+    let drawn = drawing-fits events (done .complete .result) count (done .complete .ensures) all whole in
     let room = enough-room (length (args .stamps .now)) (length (args .levels .now)) count (c .before .if5 .left) in
     rw drawn (room .1)
 
 write-stamps-requires : tie.Need-write-stamps-requires
 write-stamps-requires c κs =
-    let args = c .before .before .before .before .before .before .before .before .before .before .before .before .before .before .before .args in
-    let count = c .before .before .before .before .before .before .before .before .count-samples .result in
-    let room = enough-room (length (args .stamps .now)) (length (args .levels .now)) count (c .before .before .before .before .before .if5 .left) in
-    (c .before .before .before .before .before .before .before .if3 .left, c .before .before .before .before .before .before .if4 .left, room .0)
+    let tested = c .before .before .before .before .before in
+    let count = tested .before .before .before .count-samples .result in
+    let args = tested .before .before .before .before .before .before .before .before .before .before .args in
+    let room = enough-room (length (args .stamps .now)) (length (args .levels .now)) count (tested .if5 .left) in
+    (tested .before .before .if3 .left, tested .before .if4 .left, room .0)
 
 same-length : tie.Need-same-length
 same-length c = search needs
@@ -70,7 +72,9 @@ same-length-2 : tie.Need-same-length-2
 same-length-2 c = search needs
 
 returns-6 : tie.Need-returns-6
-returns-6 c = (search replies, c .before .before .write-stamps .ensures, c .before .before .before .before .before .before .write-levels .ensures)
+returns-6 c =
+    let drawn = c .before .before .before .before .before .before .write-levels in
+    (search replies, (c .before .before .write-stamps .ensures, drawn .ensures))
 
 pub encode-spec : {M : Type 1} → statement M
 encode-spec =

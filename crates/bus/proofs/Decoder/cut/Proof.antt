@@ -1,3 +1,4 @@
+-- `cut` goes by whether bits are pending.
 use borrow.Author.Tests.{eq-eqb, ne-eqb}
 use Rattle.bus.specs.Decode.{cut}
 use Rattle.bus.proofs.Decoder.cut.Statement.{statement}

@@ -1,3 +1,4 @@
+-- `lists` goes by the conditions of the sample.
 use Rattle.bus.specs.Decode.{lists}
 use borrow.Author.Needs.{needs}
 use Rattle.bus.proofs.Decoder.lists.Statement.{statement}
@@ -15,7 +16,8 @@ cut-requires c κs = search needs
 returns : tie.Need-returns
 unfolding lists
 returns c =
-    rw (← c .before .before .before .starts .ensures, c .before .before .if1 .taken, ← c .before .start-event .ensures) (c .cut .ensures)
+    let at = c .before .before in
+    rw (← at .before .starts .ensures, at .if1 .taken, ← c .before .start-event .ensures) (c .cut .ensures)
 
 stops-requires : tie.Need-stops-requires
 stops-requires c κs = search needs
@@ -26,8 +28,9 @@ cut-requires-2 c κs = search needs
 returns-2 : tie.Need-returns-2
 unfolding lists
 returns-2 c =
-    rw (← c .before .before .before .before .before .starts .ensures, c .before .before .before .before .if1 .left, ← c .before .before .before .stops .ensures, c .before .if2 .taken)
-    (c .cut2 .ensures)
+    let at = c .before .before .before .before in
+    let stopped = c .before .before .before .stops in
+    rw (← at .before .starts .ensures, at .if1 .left, ← stopped .ensures, c .before .if2 .taken) (c .cut2 .ensures)
 
 takes-requires : tie.Need-takes-requires
 takes-requires c κs = search needs
@@ -41,16 +44,21 @@ byte-event-requires c κs = search needs
 returns-3 : tie.Need-returns-3
 unfolding lists
 returns-3 c =
-    let tested = c .before .before in
-    rw (← tested .before .before .before .before .before .before .before .starts .ensures, tested .before .before .before .before .before .before .if1 .left, ← tested .before .before .before .before .before .stops .ensures)
-    (rw (tested .before .before .before .if2 .left, ← tested .before .before .takes .ensures, tested .if3 .taken)
+    let taken = c .before .before .before .before in
+    let stopped = taken .before .before .before in
+    let started = stopped .before .before in
+    rw (← started .starts .ensures, stopped .before .if1 .left, ← stopped .stops .ensures)
+    (rw (taken .before .if2 .left, ← taken .takes .ensures, c .before .before .if3 .taken)
     (rw (c .byte-event .ensures, c .before .sda .ensures)))
 
 returns-4 : tie.Need-returns-4
 unfolding lists
 returns-4 c =
-    rw (← c .before .before .before .before .before .before .before .starts .ensures, c .before .before .before .before .before .before .if1 .left, ← c .before .before .before .before .before .stops .ensures)
-    (rw (c .before .before .before .if2 .left, ← c .before .before .takes .ensures, c .if3 .left))
+    let taken = c .before .before in
+    let stopped = taken .before .before .before in
+    let started = stopped .before .before in
+    rw (← started .starts .ensures, stopped .before .if1 .left, ← stopped .stops .ensures)
+    (rw (taken .before .if2 .left, ← taken .takes .ensures, c .if3 .left))
 
 pub lists-spec : {M : Type 1} → statement M
 lists-spec =

@@ -1,4 +1,5 @@
-use Rattle.bus.proofs.Picks.{picks}
+-- `next` goes by the conditions of the sample.
+use Rattle.bits.proofs.Branches.{branches}
 use Rattle.bus.specs.Decode.{next}
 use borrow.Author.Needs.{needs}
 use Rattle.bus.proofs.Decoder.next.Statement.{statement}
@@ -12,7 +13,7 @@ conditioned-requires c κs = search needs
 
 returns : tie.Need-returns
 unfolding next
-returns c = search picks
+returns c = search branches
 
 stops-requires : tie.Need-stops-requires
 stops-requires c κs = search needs
@@ -22,7 +23,7 @@ conditioned-requires-2 c κs = search needs
 
 returns-2 : tie.Need-returns-2
 unfolding next
-returns-2 c = search picks
+returns-2 c = search branches
 
 takes-requires : tie.Need-takes-requires
 takes-requires c κs = search needs
@@ -32,14 +33,14 @@ with-bit-requires c κs = search needs
 
 returns-3 : tie.Need-returns-3
 unfolding next
-returns-3 c = search picks
+returns-3 c = search branches
 
 seen-requires : tie.Need-seen-requires
 seen-requires c κs = search needs
 
 returns-4 : tie.Need-returns-4
 unfolding next
-returns-4 c = search picks
+returns-4 c = search branches
 
 pub next-spec : {M : Type 1} → statement M
 next-spec =

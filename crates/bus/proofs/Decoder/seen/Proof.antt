@@ -1,3 +1,4 @@
+-- `seen` keeps all but the level and the mark.
 use borrow.Author.Needs.{needs}
 use Rattle.bus.proofs.Decoder.seen.Statement.{statement}
 use Rattle.bus.proofs.Decoder.seen.Tie as tie

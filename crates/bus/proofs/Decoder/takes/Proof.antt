@@ -1,3 +1,4 @@
+-- `takes` is the condition that `falls` gives.
 use Rattle.bus.specs.Decode.{takes}
 use borrow.Author.Needs.{needs}
 use Rattle.bus.proofs.Decoder.takes.Statement.{statement}

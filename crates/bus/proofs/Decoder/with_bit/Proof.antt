@@ -1,3 +1,4 @@
+-- `with_bit` goes by whether the bit is the ninth; fewer than eight bits leave room in a byte.
 use native.Mathlib.Omega.{arith}
 use Rattle.bus.proofs.Sound.{at-most-one, below-128}
 use borrow.Author.Tests.{eq-eqb, ne-eqb}
@@ -27,7 +28,8 @@ mul-t6 c =
 add-t7 : tie.Need-add-t7
 add-t7 c =
     let start = c .before .before .before .before .before in
-    omega (arith, below-128 (start .args .self) (omega arith) (start .pre), at-most-one (c .before .before .sda .result))
+    let small = below-128 (start .args .self) (omega arith) (start .pre) in
+    omega (arith, small, at-most-one (c .before .before .sda .result))
 
 returns-2 : tie.Need-returns-2
 unfolding withBit

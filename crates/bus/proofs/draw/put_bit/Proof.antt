@@ -29,7 +29,7 @@ same-length : tie.Need-same-length
 same-length c = search needs
 
 returns : tie.Need-returns
-returns c = rw add-one
+returns c = rw (add-one (c .args .at))
 
 pub put-bit-spec : {M : Type 1} → statement M
 put-bit-spec =

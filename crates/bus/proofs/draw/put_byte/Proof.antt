@@ -60,7 +60,8 @@ loop-again c =
     let first = bit-from-first (args .byte) (head .k) (args .ninth) more in (
       omega arith,
       omega (arith, c .before .before .put-bit .kept),
-      drawn-more bits (args .levels .now) (head .levels) _ (args .at) (head .k) _ (head .inv .2) (c .before .before .put-bit .ensures) first (omega arith),
+      drawn-more bits (args .levels .now) (head .levels) _ (args .at) (head .k) _ (head .inv .2)
+          (c .before .before .put-bit .ensures) first (omega arith),
     )
 
 add-put-bit-2 : tie.Need-add-put-bit-2 Inv-loop μ-loop
@@ -79,7 +80,8 @@ returns c =
     let args = c .before .before .before .before .before .before .before .args in
     let bits = nine (args .byte) (args .ninth) in
     let all : head .k ≡ 8 = omega arith in
-    drawn-more bits (args .levels .now) (head .levels) _ (args .at) 8 _ (rw all at (head .inv .2)) (c .before .before .put-bit2 .ensures) refl (omega arith)
+    drawn-more bits (args .levels .now) (head .levels) _ (args .at) 8 _ (rw all at (head .inv .2))
+    (c .before .before .put-bit2 .ensures) refl (omega arith)
 
 pub put-byte-spec : {M : Type 1} → statement M
 put-byte-spec =

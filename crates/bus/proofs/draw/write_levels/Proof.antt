@@ -29,7 +29,9 @@ enough drawn levels h = rw length-set h
 
 loop-holds : tie.Need-loop-holds Inv-loop μ-loop
 loop-holds c =
-    let some : 0 < length (c .before .before .args .levels .now) = omega arith in (omega arith, writing-first 3 _ (c .before .before .args .levels .now) some)
+    let levels = c .before .before .args .levels .now in
+    let some : 0 < length levels = omega arith in
+    (omega arith, writing-first 3 _ levels some)
 
 mul-put-event : tie.Need-mul-put-event Inv-loop μ-loop
 mul-put-event c = search needs
@@ -44,7 +46,9 @@ put-event-requires c κs =
     let events = start .args .events .now in
     let levels = start .args .levels .now in
     let more : head .i < length events = omega arith in
-    writing-room _ _ _ _ _ (enough (drawing events) levels (start .pre)) (head .inv .1) (drawEvent (getD events (head .i) 0)) _ (draw-more events (head .i) more)
+    let room = enough (drawing events) levels (start .pre) in
+    let event = getD events (head .i) 0 in
+    writing-room _ _ _ _ _ room (head .inv .1) (drawEvent event) _ (draw-more events (head .i) more)
 
 add-i : tie.Need-add-i Inv-loop μ-loop
 add-i c = search needs
@@ -59,10 +63,12 @@ loop-again c =
     let events = start .args .events .now in
     let levels = start .args .levels .now in
     let stored = c .before .before .put-event .ensures in
+    let room = enough (drawing events) levels (start .pre) in
+    let event = getD events (head .i) 0 in
     let more : head .i < length events = omega arith in (
       omega arith,
       rw (stored .0, stored .1)
-          (writing-more _ _ _ _ _ (enough (drawing events) levels (start .pre)) (head .inv .1) (drawEvent (getD events (head .i) 0)) _ (draw-more events (head .i) more)),
+          (writing-more _ _ _ _ _ room (head .inv .1) (drawEvent event) _ (draw-more events (head .i) more)),
     )
 
 same-length : tie.Need-same-length Inv-loop μ-loop
@@ -70,7 +76,8 @@ same-length c =
     let start = c .before .before .before .before in
     let events = start .args .events .now in
     let levels = start .args .levels .now in
-    writing-long _ _ _ _ _ (enough (drawing events) levels (start .pre)) (c .before .loop .inv .1) ∙ length-set levels 0 3
+    let room = enough (drawing events) levels (start .pre) in
+    writing-long _ _ _ _ _ room (c .before .loop .inv .1) ∙ length-set levels 0 3
 
 returns : tie.Need-returns Inv-loop μ-loop
 returns c =

@@ -65,7 +65,9 @@ loop-again c =
     let room : length (stampsFrom (args .start) (args .gap) (args .count)) ≤ length (args .stamps .now) =
     rw (length-stamps (args .start) (args .gap) (args .count)) (start .pre .2) in
     let more : c .before .loop .i < args .count = omega arith in
-    writing-more _ _ _ _ _ room (c .before .loop .inv) ((args .start + args .gap * c .before .loop .i) ∷ []) _ (stamps-more (args .start) (args .gap) (args .count) _ more)
+    let stamp = args .start + args .gap * c .before .loop .i in
+    let left = stamps-more (args .start) (args .gap) (args .count) _ more in
+    writing-more _ _ _ _ _ room (c .before .loop .inv) (stamp ∷ []) _ left
 
 same-length : tie.Need-same-length Inv-loop μ-loop
 same-length c =

@@ -28,15 +28,21 @@ returns-2 c = rw (c .before .enum-told .given .1, ne-eqb _ _ (c .match2 .rest .1
 
 returns-3 : tie.Need-returns-3
 unfolding advance
-returns-3 c = rw (c .before .enum-told2 .given .1, lt-ltb (c .before .before .before .args .event) 512 (omega arith))
+returns-3 c =
+    let byte = lt-ltb (c .before .before .before .args .event) 512 (omega arith) in
+    rw (c .before .enum-told2 .given .1, byte)
 
 returns-4 : tie.Need-returns-4
 unfolding advance
-returns-4 c = rw (c .before .before .enum-told2 .given .1, lt-ltb (c .before .before .before .before .args .event) 512 (omega arith))
+returns-4 c =
+    let byte = lt-ltb (c .before .before .before .before .args .event) 512 (omega arith) in
+    rw (c .before .before .enum-told2 .given .1, byte)
 
 returns-5 : tie.Need-returns-5
 unfolding advance
-returns-5 c = rw (c .before .before .enum-told2 .given .1, le-ltb (c .before .before .before .before .args .event) 512 (omega arith))
+returns-5 c =
+    let none = le-ltb (c .before .before .before .before .args .event) 512 (omega arith) in
+    rw (c .before .before .enum-told2 .given .1, none)
 
 returns-6 : tie.Need-returns-6
 unfolding advance
@@ -48,18 +54,22 @@ returns-7 c = rw (c .before .enum-told3 .given .1, c .match3 .keys2)
 
 returns-8 : tie.Need-returns-8
 unfolding advance
-returns-8 c = rw (c .before .before .enum-told3 .given .1, lt-ltb (c .before .before .before .before .args .event) 512 (omega arith))
+returns-8 c =
+    let byte = lt-ltb (c .before .before .before .before .args .event) 512 (omega arith) in
+    rw (c .before .before .enum-told3 .given .1, byte)
 
 returns-9 : tie.Need-returns-9
 unfolding advance
-returns-9 c = rw (c .before .before .before .enum-told3 .given .1, lt-ltb (c .before .before .before .before .before .args .event) 512 (omega arith))
+returns-9 c =
+    let byte = lt-ltb (c .before .before .before .before .before .args .event) 512 (omega arith) in
+    rw (c .before .before .before .enum-told3 .given .1, byte)
 
 returns-10 : tie.Need-returns-10
 unfolding advance
 returns-10 c =
+    let none = le-ltb (c .before .before .before .before .before .args .event) 512 (omega arith) in
     let other = c .before .before .match3 .rest in
-    rw (c .before .before .before .enum-told3 .given .1, le-ltb (c .before .before .before .before .before .args .event) 512 (omega arith))
-    (rw (ne-eqb _ _ (other .0 .1), ne-eqb _ _ (other .1)))
+    rw (c .before .before .before .enum-told3 .given .1, none, ne-eqb _ _ (other .0 .1), ne-eqb _ _ (other .1))
 
 returns-11 : tie.Need-returns-11
 unfolding advance

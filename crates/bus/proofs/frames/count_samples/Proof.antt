@@ -31,7 +31,10 @@ event-samples-requires : tie.Need-event-samples-requires Inv-loop μ-loop
 event-samples-requires c κs = search needs
 
 add-count : tie.Need-add-count Inv-loop μ-loop
-add-count c = omega (arith, c .event-samples .ensures, few-samples (getD (c .before .before .before .before .before .args .events .now) (c .before .before .before .loop .i) 0))
+add-count c =
+    let head = c .before .before .before in
+    let event = getD (head .before .before .args .events .now) (head .loop .i) 0 in
+    omega (arith, c .event-samples .ensures, few-samples event)
 
 add-result : tie.Need-add-result Inv-loop μ-loop
 add-result c = search needs

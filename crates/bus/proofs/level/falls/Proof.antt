@@ -1,3 +1,4 @@
+-- `falls` is the condition that `scl` gives.
 use Rattle.bus.specs.Levels.{falls}
 use borrow.Author.Needs.{needs}
 use Rattle.bus.proofs.level.falls.Statement.{statement}

@@ -1,3 +1,4 @@
+-- `starts` is the condition that `scl` and `sda` give.
 use Rattle.bus.specs.Levels.{starts}
 use borrow.Author.Needs.{needs}
 use Rattle.bus.proofs.level.starts.Statement.{statement}

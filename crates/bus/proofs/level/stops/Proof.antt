@@ -1,3 +1,4 @@
+-- `stops` is the condition that `scl` and `sda` give.
 use Rattle.bus.specs.Levels.{stops}
 use borrow.Author.Needs.{needs}
 use Rattle.bus.proofs.level.stops.Statement.{statement}

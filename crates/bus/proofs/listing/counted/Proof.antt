@@ -1,3 +1,4 @@
+-- `counted` adds what one sample lists, by cases.
 use native.Mathlib.Omega.{arith}
 use borrow.Author.Needs.{needs}
 use Rattle.bus.proofs.listing.counted.Statement.{statement}

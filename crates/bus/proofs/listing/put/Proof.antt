@@ -1,3 +1,4 @@
+-- `put` stores what one sample lists, by cases.
 use mathlib.Core.Path.{refl}
 use native.Mathlib.Numerals.{add-one}
 use lib.ListN.{length-set}
@@ -37,7 +38,9 @@ mul-events-3 : tie.Need-mul-events-3
 mul-events-3 c = search needs
 
 slice-write-events-3 : tie.Need-slice-write-events-3
-slice-write-events-3 c = rw length-set (omega (arith, rw (c .before .step2 .given .1) at (c .before .before .before .pre)))
+slice-write-events-3 c =
+    let room = rw (c .before .step2 .given .1) at (c .before .before .before .pre) in
+    rw length-set (omega (arith, room))
 
 add-result-2 : tie.Need-add-result-2
 add-result-2 c = search needs

@@ -1,3 +1,4 @@
+-- `byte_event` goes by the ninth bit.
 use native.Mathlib.Omega.{arith}
 use borrow.Author.Needs.{needs}
 use Rattle.bus.proofs.step.byte_event.Statement.{statement}

@@ -14,10 +14,19 @@ risen-requires c κs = search needs
 fallen-requires : tie.Need-fallen-requires
 fallen-requires c κs = search needs
 
+stretched-requires : tie.Need-stretched-requires
+stretched-requires c κs = search needs
+
 returns : tie.Need-returns
 unfolding edged
 returns c =
-    rw (c .fallen .ensures, c .before .risen .ensures, c .before .before .conditioned .ensures, c .before .before .before .if1 .taken)
+    rw (
+      c .stretched .ensures,
+      c .before .fallen .ensures,
+      c .before .before .risen .ensures,
+      c .before .before .before .conditioned .ensures,
+      c .before .before .before .before .if1 .taken,
+    )
 
 returns-2 : tie.Need-returns-2
 unfolding edged
@@ -25,4 +34,11 @@ returns-2 c = search branches
 
 pub edged-spec : {M : Type 1} → statement M
 edged-spec =
-    tie.close (tie.spec conditioned-requires risen-requires fallen-requires returns returns-2)
+    tie.close
+    (tie.spec
+    conditioned-requires
+    risen-requires
+    fallen-requires
+    stretched-requires
+    returns
+    returns-2)

@@ -1,0 +1,12 @@
+pub mod Frames
+pub mod Bits
+pub mod Reading
+pub mod ReadBack
+pub mod Length
+pub mod Sample
+pub mod Bounds
+pub mod Credit
+pub mod Redraw
+pub mod Trace
+pub mod Accepted
+pub mod Replies

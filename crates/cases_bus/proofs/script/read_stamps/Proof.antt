@@ -1,0 +1,72 @@
+-- `cases_bus::script::read_stamps` is safe and ends.
+use Prim.Native.Nat.{_≤_, _-_}
+use lib.ListN.{length}
+use mathlib.Core.Path.{_≡_}
+use borrow.Author.Needs.{needs}
+use Rattle.cases_bus.proofs.script.read_stamps.Statement.{statement}
+use Rattle.cases_bus.proofs.script.read_stamps.Tie as tie
+
+abbrev Inv-loop : tie.InvT-loop
+Inv-loop line stamps₀ rest₀ n₀ stamps rest n = (n ≤ length stamps₀) × (length stamps ≡ length stamps₀)
+
+abbrev μ-loop : tie.MeasureT-loop
+μ-loop line stamps₀ rest₀ n₀ stamps rest n = length stamps₀ - n
+
+loop-holds : tie.Need-loop-holds Inv-loop μ-loop
+loop-holds c = search needs
+
+first-word-requires : tie.Need-first-word-requires Inv-loop μ-loop
+first-word-requires c κs = search needs
+
+same-length : tie.Need-same-length Inv-loop μ-loop
+same-length c = search needs
+
+returns : tie.Need-returns Inv-loop μ-loop
+returns c = search needs
+
+stamp-of-requires : tie.Need-stamp-of-requires Inv-loop μ-loop
+stamp-of-requires c κs = search needs
+
+mul-stamps : tie.Need-mul-stamps Inv-loop μ-loop
+mul-stamps c = search needs
+
+slice-write-stamps : tie.Need-slice-write-stamps Inv-loop μ-loop
+slice-write-stamps c = search needs
+
+after-word-requires : tie.Need-after-word-requires Inv-loop μ-loop
+after-word-requires c κs = search needs
+
+add-n : tie.Need-add-n Inv-loop μ-loop
+add-n c = search needs
+
+loop-less : tie.Need-loop-less Inv-loop μ-loop
+loop-less c = search needs
+
+loop-again : tie.Need-loop-again Inv-loop μ-loop
+loop-again c = search needs
+
+same-length-2 : tie.Need-same-length-2 Inv-loop μ-loop
+same-length-2 c = search needs
+
+returns-2 : tie.Need-returns-2 Inv-loop μ-loop
+returns-2 c = search needs
+
+pub read-stamps-spec : {M : Type 1} → statement M
+read-stamps-spec =
+    tie.close
+    (tie.spec
+    Inv-loop
+    μ-loop
+    loop-holds
+    first-word-requires
+    same-length
+    returns
+    stamp-of-requires
+    mul-stamps
+    slice-write-stamps
+    after-word-requires
+    add-n
+    loop-less
+    loop-again
+    same-length-2
+    returns-2)

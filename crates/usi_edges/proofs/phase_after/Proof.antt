@@ -1,0 +1,19 @@
+use Rattle.bits.proofs.Branches.{branches}
+use Rattle.usi_rules.specs.Rules.{phaseAfter}
+use Rattle.usi_edges.proofs.phase_after.Statement.{statement}
+use Rattle.usi_edges.proofs.phase_after.Tie as tie
+
+returns : tie.Need-returns
+unfolding phaseAfter
+returns c = search branches
+
+returns-2 : tie.Need-returns-2
+unfolding phaseAfter
+returns-2 c = search branches
+
+returns-3 : tie.Need-returns-3
+unfolding phaseAfter
+returns-3 c = search branches
+
+pub phase-after-spec : {M : Type 1} → statement M
+phase-after-spec = tie.close (tie.spec returns returns-2 returns-3)

@@ -1,0 +1,132 @@
+#!/usr/bin/env python3
+"""Our drawings and readings against sigrok's I2C decoder (Debian packages sigrok-cli, libsigrokdecode4).
+
+Draws random complete event lists with `rig encode`, rehearses random loads with `rig clash`, writes what they show as a
+Value Change Dump, and lets sigrok-cli decode it. Its events must be those of the list, or of the carried bytes. Then cuts
+drawings short: what sigrok finds in the cut trace must be what `rig decode` finds. Exit status 1 at the first difference,
+2 where a tool is missing."""
+import os, random, re, shutil, subprocess, sys, tempfile
+
+TOP = os.path.join(os.path.dirname(os.path.abspath(__file__)), "..")
+RIG = os.path.join(TOP, "target/bin/rig")
+HEADER = (
+    "$timescale 100 ns $end\n$scope module bus $end\n$var wire 1 ! scl $end\n"
+    '$var wire 1 " sda $end\n$upscope $end\n$enddefinitions $end\n'
+)
+SIGROK = ["sigrok-cli", "-I", "vcd:compress=1", "-P", "i2c:scl=scl:sda=sda:address_format=unshifted", "-A", "i2c=addr-data"]
+
+
+def rig(folder, words, text):
+    path = os.path.join(folder, "input")
+    with open(path, "w") as f:
+        f.write(text)
+    return subprocess.run([RIG] + words + [path], capture_output=True, text=True, cwd=folder).stdout
+
+
+def dump(levels):
+    """A VCD of the levels, 5 us apart, with one more stamp: libsigrok never decodes the last change of a file."""
+    out, before = HEADER, None
+    for i, level in enumerate(levels):
+        if level != before:
+            out += f"#{50 * i}\n"
+            for bit, mark in ((1, "!"), (2, '"')):
+                if before is None or (level ^ before) & bit:
+                    out += f"{int(level & bit != 0)}{mark}\n"
+        before = level
+    return out + f"#{50 * len(levels)}\n"
+
+
+def judged(folder, levels):
+    """The events that sigrok finds, in our numbers."""
+    path = os.path.join(folder, "trace.vcd")
+    with open(path, "w") as f:
+        f.write(dump(levels))
+    run = subprocess.run(SIGROK + ["-i", path], capture_output=True, text=True)
+    if run.stderr.strip():
+        sys.exit(f"sigrok-cli: {run.stderr.strip()}")
+    events, byte = [], None
+    for line in run.stdout.splitlines():
+        word = line.split(": ", 1)[1]
+        if word in ("Start", "Start repeat", "Stop"):
+            events.append({"Start": 512, "Start repeat": 513, "Stop": 514}[word])
+        elif re.match(r"(Address|Data) (write|read): ", word):
+            byte = int(word.split(": ")[1], 16)
+        elif word in ("ACK", "NACK"):
+            events.append(byte + 256 * (word == "NACK"))
+    return events
+
+
+def random_list(rng):
+    """One to three frames, each of one to three parts."""
+    events = []
+    for _ in range(rng.randint(1, 3)):
+        events.append(512)
+        for part in range(rng.randint(1, 3)):
+            events += [513] * (part > 0)
+            events += [rng.randrange(256) + 256 * rng.randrange(2) for _ in range(rng.randint(1, 4))]
+        events.append(514)
+    return events
+
+
+def drawn(folder, events):
+    out = rig(folder, ["encode"], " ".join(map(str, events)) + "\n").splitlines()
+    assert out[-1].startswith("ok"), out[-1]
+    return [int(line.split()[1]) for line in out[:-1]]
+
+
+def read(folder, levels):
+    """The events that `rig decode` finds."""
+    out = rig(folder, ["decode"], "".join(f"{50 * i} {level}\n" for i, level in enumerate(levels))).splitlines()
+    assert out[-1].startswith("ok"), out[-1]
+    marks = {"START": 512, "repeated START": 513, "STOP": 514, "cut byte": 515}
+    words = [line.split(": ", 1)[1] for line in out[:-1]]
+    return [marks[w] if w in marks else int(w[:2], 16) + 256 * w.endswith("NACK") for w in words]
+
+
+def load(rng):
+    """Two to eight boards with a long shared beginning, and all acknowledged but perhaps one byte."""
+    shared = [rng.randrange(0, 256, 2)] + [rng.randrange(256) for _ in range(rng.randint(0, 4))]
+    size = len(shared) + rng.randint(1, 4)
+    boards = [shared + [rng.randrange(256) for _ in range(size - len(shared))] for _ in range(rng.randint(2, 8))]
+    acks = [0] * size
+    if rng.randrange(3) == 0:
+        acks[rng.randrange(size)] = 1
+    lines = ["load judged"] + ["board " + " ".join(f"{b:02X}" for b in board) for board in boards]
+    return "\n".join(lines + ["ack " + " ".join(map(str, acks))]) + "\n"
+
+
+def shown(block):
+    """Levels and carried events of a load's block."""
+    wave = {w: re.search(rf"^  {w}:(.*)$", block, re.M).group(1) for w in ("scl", "sda")}
+    high = {w: [c in '"/' for c in wave[w]] for w in wave}
+    levels = [s + 2 * d for s, d in zip(high["scl"], high["sda"])]
+    bytes_ = re.search(r"^  carried (.*)$", block, re.M).group(1).split(", ")
+    return levels, [512] + [int(b[:2], 16) + 256 * b.endswith("NACK") for b in bytes_] + [514]
+
+
+def same(what, ours, theirs):
+    if ours != theirs:
+        print(f"{what}: we say {ours}, sigrok says {theirs}")
+        sys.exit(1)
+
+
+def main():
+    if not shutil.which("sigrok-cli") or not os.path.exists(RIG):
+        print("judges/sigrok.py: install Debian's sigrok-cli and libsigrokdecode4, and build the program: ./rig help")
+        sys.exit(2)
+    seed, count = 20261115, int(sys.argv[1]) if len(sys.argv) > 1 else 300
+    rng = random.Random(seed)
+    with tempfile.TemporaryDirectory() as folder:
+        for _ in range(count):
+            events = random_list(rng)
+            levels = drawn(folder, events)
+            same("a drawing", events, judged(folder, levels))
+            # sigrok takes a bit as SCL rises, document 01 as it falls: both have taken it where SCL is low
+            cut = levels[: rng.choice([i + 1 for i, level in enumerate(levels) if level % 2 == 0])]
+            same("a cut drawing", read(folder, cut), judged(folder, cut))
+            levels, carried = shown(rig(folder, ["clash"], load(rng)))
+            same("an arbitration", carried, judged(folder, levels))
+    print(f"seed {seed}: sigrok reads {count} drawings, {count} cut drawings and {count} arbitrations as we do")
+
+
+main()

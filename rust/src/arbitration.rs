@@ -1,0 +1,107 @@
+//! Arbitration (01: the clash): what is asked, the refusals of the asking, and the reply.
+//!
+//! 01's words: a plan is a message here, an answer an acknowledge, a loser's place a position.
+//! `runner` goes 01's steps on the modules; `outcome` tells the result from messages and acknowledges alone.
+//! The two share the types of this file and no rule.
+
+use crate::module::Module;
+use crate::refusal::{Reason, Refusal};
+
+pub mod outcome;
+pub mod runner;
+
+/// The most masters, and the length of the tables in a reply.
+pub const MASTERS: usize = 8;
+/// The most bytes of a message.
+pub const MESSAGE_BYTES: usize = 32;
+
+/// Messages and acknowledges to which none of 12, 13, 14 and 15 applies.
+#[derive(Clone, PartialEq, Eq, Debug)]
+pub struct Request {
+    pub messages: Vec<Vec<u8>>,
+    /// One for each byte place: 0 pulled low, 1 left high.
+    pub acks: Vec<u8>,
+}
+
+/// What demand 3 speaks of.
+#[derive(Clone, PartialEq, Eq, Debug)]
+pub struct Outcome {
+    /// The carried bytes; their number is 01's k.
+    pub carried: Vec<u8>,
+    pub levels: Vec<u8>,
+    /// Who is still in.
+    pub remaining: [bool; MASTERS],
+    /// For each loser 9·byte + bit; 0 for the others.
+    pub positions: [u16; MASTERS],
+    /// The final AL of each module.
+    pub arbitration_lost: [bool; MASTERS],
+}
+
+/// The whole reply: the outcome and the final modules it was read from.
+#[derive(Clone, PartialEq, Eq, Debug)]
+pub struct Run {
+    pub outcome: Outcome,
+    pub modules: [Module; MASTERS],
+}
+
+/// One call: refusals 12, 13, 14, 15, 16, 8 in this order; else the carried bytes and the levels are in the
+/// lent slices, whose rest stays.
+pub fn arbitrate(
+    bytes: &[u8],
+    lengths: &[u32],
+    acks: &[u8],
+    carried: &mut [u8],
+    levels: &mut [u8],
+) -> Result<Run, Refusal> {
+    let run = runner::run(&Request::new(bytes, lengths, acks)?)?;
+    let outcome = &run.outcome;
+    if carried.len() < outcome.carried.len() || levels.len() < outcome.levels.len() {
+        return Err(Reason::ShortBuffer.refusal());
+    }
+    carried[..outcome.carried.len()].copy_from_slice(&outcome.carried);
+    levels[..outcome.levels.len()].copy_from_slice(&outcome.levels);
+    Ok(run)
+}
+
+impl Request {
+    /// Cuts the lent bytes into messages; refusals 12, 13, 14, 15.
+    pub fn new(bytes: &[u8], lengths: &[u32], acks: &[u8]) -> Result<Request, Refusal> {
+        if lengths.is_empty() || lengths.len() > MASTERS {
+            return Err(Reason::MasterCount.refusal());
+        }
+        check_lengths(bytes, lengths)?;
+        let messages = cut(bytes, lengths);
+        if let Some(place) = messages.iter().position(|message| message[0] % 2 == 1) {
+            return Err(Reason::ReadMessage.at(place));
+        }
+        let longest = messages.iter().map(Vec::len).max();
+        if longest != Some(acks.len()) || acks.iter().any(|&ack| ack > 1) {
+            return Err(Reason::Acknowledges.refusal());
+        }
+        Ok(Request { messages, acks: acks.to_vec() })
+    }
+}
+
+/// Refusal 13: the first message of 0 or over 32 bytes, else a wrong sum at the message count.
+fn check_lengths(bytes: &[u8], lengths: &[u32]) -> Result<(), Refusal> {
+    let bad = |&length: &u32| length == 0 || length as usize > MESSAGE_BYTES;
+    if let Some(place) = lengths.iter().position(bad) {
+        return Err(Reason::MessageLength.at(place));
+    }
+    if lengths.iter().sum::<u32>() as usize != bytes.len() {
+        return Err(Reason::MessageLength.at(lengths.len()));
+    }
+    Ok(())
+}
+
+/// The messages, one after the other in the lent bytes.
+fn cut(bytes: &[u8], lengths: &[u32]) -> Vec<Vec<u8>> {
+    let mut rest = bytes;
+    let mut messages = Vec::new();
+    for &length in lengths {
+        let (message, after) = rest.split_at(length as usize);
+        messages.push(message.to_vec());
+        rest = after;
+    }
+    messages
+}

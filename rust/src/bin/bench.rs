@@ -1,0 +1,68 @@
+//! `bench`: 40 arbitrations of eight masters with 32-byte messages, by the proved library and by the model.
+
+use rehearsal_model::arbitration::{MASTERS, MESSAGE_BYTES};
+use rehearsal_model::ffi::Archive;
+use rehearsal_model::packed::{Asked, Interface, Lent, Model};
+use rehearsal_model::random::Random;
+use std::hint::black_box;
+use std::time::{Duration, Instant};
+
+const ARBITRATIONS: usize = 40;
+const REPETITIONS: usize = 9;
+
+fn main() {
+    let mut random = Random::new(1);
+    let requests: Vec<Asked> = (0..ARBITRATIONS).map(|_| late_losers(&mut random)).collect();
+    let mut lent = buffers();
+    let (mut library, mut model) = (Vec::new(), Vec::new());
+    for _ in 0..REPETITIONS {
+        library.push(time(&Archive, &requests, &mut lent));
+        model.push(time(&Model, &requests, &mut lent));
+    }
+    let (library, model) = (middle(library), middle(model));
+    println!("{ARBITRATIONS} arbitrations of {MASTERS} masters, {MESSAGE_BYTES} bytes each");
+    println!("middle of {REPETITIONS}: library {:.3} ms, model {:.3} ms", millis(library), millis(model));
+    println!("library / model = {:.2}", library.as_secs_f64() / model.as_secs_f64());
+}
+
+/// Messages with a long shared beginning, so that masters lose late; every byte is acknowledged.
+fn late_losers(random: &mut Random) -> Asked {
+    let mut shared: Vec<u8> = (0..MESSAGE_BYTES).map(|_| random.byte()).collect();
+    shared[0] &= 0xFE;
+    let mut bytes = Vec::new();
+    for master in 0..MASTERS {
+        let mut message = shared.clone();
+        message[MESSAGE_BYTES - 1 - master % 4] ^= 1 << random.below(8);
+        bytes.extend(message);
+    }
+    Asked { bytes, lengths: vec![MESSAGE_BYTES as u32; MASTERS], acks: vec![0; MESSAGE_BYTES] }
+}
+
+/// Buffers of just the size needed.
+fn buffers() -> Lent {
+    Lent {
+        carried: vec![0; MESSAGE_BYTES],
+        levels: vec![0; 5 + 18 * MESSAGE_BYTES],
+        modules: vec![0; MASTERS],
+        positions: vec![0; MASTERS],
+    }
+}
+
+fn time(side: &dyn Interface, requests: &[Asked], lent: &mut Lent) -> Duration {
+    let begin = Instant::now();
+    for request in requests {
+        let reply = side.arbitrate(black_box(request), lent);
+        assert_eq!(reply & 0xFF, 0, "no request is refused");
+        black_box(&lent);
+    }
+    begin.elapsed()
+}
+
+fn middle(mut times: Vec<Duration>) -> Duration {
+    times.sort();
+    times[times.len() / 2]
+}
+
+fn millis(time: Duration) -> f64 {
+    time.as_secs_f64() * 1000.0
+}

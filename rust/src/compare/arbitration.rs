@@ -1,0 +1,191 @@
+//! Random arbitrations: the reply, the final modules and all whole buffers; and the outcome from the messages alone.
+
+use super::lists::{draw_room, pattern};
+use super::{equal, Counts, Difference};
+use crate::arbitration::outcome::outcome;
+use crate::arbitration::{Outcome, Request, MASTERS, MESSAGE_BYTES};
+use crate::module::AL;
+use crate::packed::{unpack, Asked, Interface, Lent, Model};
+use crate::random::Random;
+use crate::refusal::{Reason, Refusal};
+
+/// One arbitration, asked of both sides.
+pub fn case(other: &dyn Interface, random: &mut Random, counts: &mut Counts) -> Result<(), Difference> {
+    let mut asked = draw_request(random);
+    if random.once_in(4) {
+        spoil(random, &mut asked);
+    }
+    let lent = draw_buffers(random, &asked);
+    let ask = |side: &dyn Interface| {
+        let mut lent = lent.clone();
+        (side.arbitrate(&asked, &mut lent), lent)
+    };
+    let (model, other) = (ask(&Model), ask(other));
+    count_kinds(&asked, &model, counts);
+    let inputs = || {
+        let rooms = [lent.carried.len(), lent.levels.len(), lent.modules.len(), lent.positions.len()];
+        format!("arbitrate {asked:X?}, rooms {rooms:?}")
+    };
+    equal(&model, &other, inputs, |(reply, lent)| format!("{}, {lent:X?}", reply_words(*reply)))?;
+    if lent.modules.len() >= MASTERS && lent.positions.len() >= MASTERS {
+        compare_outcome(&asked, &lent, &other)?;
+    }
+    Ok(())
+}
+
+fn reply_words(reply: u64) -> String {
+    let part = |low: u32, width: u32| reply >> low & ((1 << width) - 1);
+    format!("refused {} place {} k {} in {:#b}", part(0, 8), part(8, 16), part(24, 8), part(32, 16))
+}
+
+fn count_kinds(asked: &Asked, model: &(u64, Lent), counts: &mut Counts) {
+    counts.add(format!("refused {}", model.0 & 0xFF));
+    counts.add(match asked.lengths.len() {
+        masters @ 0..=MASTERS => format!("{masters} masters"),
+        _ => "9 or more masters".to_string(),
+    });
+    if model.0 & 0xFF == 0 {
+        let losers = asked.lengths.len() as u32 - (model.0 >> 32).count_ones();
+        counts.add(format!("{losers} lost"));
+        counts.add(if model.0 >> 24 & 0xFF > 8 { "carried over 8 bytes" } else { "carried 1 to 8 bytes" });
+    }
+}
+
+/// What demand 3 says of a reply, put together from an outcome or read from a reply.
+#[derive(PartialEq, Debug)]
+struct Visible {
+    refusal: u64,
+    outcome: Option<Outcome>,
+}
+
+/// The other side's answer against the outcome from messages and acknowledges alone.
+fn compare_outcome(asked: &Asked, before: &Lent, answer: &(u64, Lent)) -> Result<(), Difference> {
+    let Ok(request) = Request::new(&asked.bytes, &asked.lengths, &asked.acks) else {
+        return Ok(());
+    };
+    let expected = match outcome(&request).and_then(|outcome| enough(outcome, before)) {
+        Ok(outcome) => Visible { refusal: 0, outcome: Some(outcome) },
+        Err(refusal) => Visible { refusal: u64::from(refusal.number()), outcome: None },
+    };
+    let inputs = || format!("the outcome of {request:X?}");
+    equal(&expected, &visible(answer), inputs, |visible| format!("{visible:X?}"))
+}
+
+/// Refusal 8, after all others.
+fn enough(outcome: Outcome, lent: &Lent) -> Result<Outcome, Refusal> {
+    if lent.carried.len() < outcome.carried.len() || lent.levels.len() < outcome.levels.len() {
+        return Err(Reason::ShortBuffer.refusal());
+    }
+    Ok(outcome)
+}
+
+fn visible((reply, lent): &(u64, Lent)) -> Visible {
+    let refusal = reply & 0xFF;
+    if refusal > 0 {
+        return Visible { refusal, outcome: None };
+    }
+    let count = (reply >> 24 & 0xFF) as usize;
+    let outcome = Outcome {
+        carried: lent.carried[..count].to_vec(),
+        levels: lent.levels[..5 + 18 * count].to_vec(),
+        remaining: std::array::from_fn(|master| reply >> (32 + master) & 1 == 1),
+        positions: std::array::from_fn(|master| lent.positions[master]),
+        arbitration_lost: std::array::from_fn(|master| unpack(lent.modules[master]).is(AL)),
+    };
+    Visible { refusal, outcome: Some(outcome) }
+}
+
+/// One to eight messages that share beginnings, and acknowledges mostly 0.
+pub fn draw_request(random: &mut Random) -> Asked {
+    let base = draw_message(random);
+    let masters = random.between(1, MASTERS);
+    let messages: Vec<Vec<u8>> = (0..masters).map(|_| relative(random, &base)).collect();
+    let longest = messages.iter().map(Vec::len).max().unwrap_or(0);
+    let refusing = random.pick(&[2, 8, 1000]);
+    Asked {
+        bytes: messages.concat(),
+        lengths: messages.iter().map(|message| message.len() as u32).collect(),
+        acks: (0..longest).map(|_| u8::from(random.once_in(refusing))).collect(),
+    }
+}
+
+/// Most are short, some are as long as can be; the first byte is even (a write).
+fn draw_message(random: &mut Random) -> Vec<u8> {
+    let length = match random.below(16) {
+        0..=1 => MESSAGE_BYTES,
+        2..=4 => random.between(1, MESSAGE_BYTES),
+        _ => random.between(1, 5),
+    };
+    let mut message: Vec<u8> = (0..length).map(|_| random.byte()).collect();
+    message[0] &= 0xFE;
+    message
+}
+
+/// The base message, a beginning of it, a longer one, one that leaves it at some bit, or one of its own.
+fn relative(random: &mut Random, base: &[u8]) -> Vec<u8> {
+    let mut message = base.to_vec();
+    match random.below(8) {
+        0..=1 => {}
+        2 => message.truncate(random.between(1, base.len())),
+        3 => message.extend((0..random.between(1, 3)).map(|_| random.byte())),
+        4 => message = draw_message(random),
+        _ => {
+            let place = random.below(base.len());
+            message[place] ^= 1 << random.below(8);
+            let tail = random.between(place + 1, MESSAGE_BYTES.min(place + 4));
+            message.resize(tail.max(base.len() - random.below(base.len() - place)), 0x5A);
+        }
+    }
+    message.truncate(MESSAGE_BYTES);
+    message[0] &= 0xFE;
+    message
+}
+
+/// One to three faults, so that the order of the refusals shows too.
+fn spoil(random: &mut Random, asked: &mut Asked) {
+    for _ in 0..random.between(1, 3) {
+        let master = random.below(asked.lengths.len().max(1));
+        match random.below(9) {
+            0 => asked.lengths.clear(),
+            1 => asked.lengths.resize(random.between(9, 12), 1),
+            2 if master < asked.lengths.len() => asked.lengths[master] = random.pick(&[0, 33, 300, u32::MAX]),
+            3 => asked.bytes.push(random.byte()),
+            4 => drop(asked.bytes.pop()),
+            5 => make_odd(asked, master),
+            6 => drop(asked.acks.pop()),
+            7 => asked.acks.push(random.byte() % 3),
+            _ if asked.acks.is_empty() => {}
+            _ => {
+                let place = random.below(asked.acks.len());
+                asked.acks[place] = random.pick(&[2, 3, 255]);
+            }
+        }
+    }
+}
+
+/// The first byte of a message becomes odd.
+fn make_odd(asked: &mut Asked, master: usize) {
+    let first: usize = asked.lengths.iter().take(master).map(|&length| length.min(64) as usize).sum();
+    if let Some(byte) = asked.bytes.get_mut(first) {
+        *byte |= 1;
+    }
+}
+
+/// Buffers with a pattern in them: exact, too short or with a rest; the tables mostly of eight.
+fn draw_buffers(random: &mut Random, asked: &Asked) -> Lent {
+    let request = Request::new(&asked.bytes, &asked.lengths, &asked.acks);
+    let count = request.and_then(|request| outcome(&request)).map_or(0, |outcome| outcome.carried.len());
+    let salt = random.bits();
+    let fill = |length: usize| (0..length as u64).map(move |index| pattern(salt, index));
+    let table = |random: &mut Random| match random.below(64) {
+        0 => random.below(MASTERS),
+        1..=2 => random.between(MASTERS + 1, MASTERS + 3),
+        _ => MASTERS,
+    };
+    Lent {
+        carried: fill(draw_room(random, count)).map(|bits| bits as u8).collect(),
+        levels: fill(draw_room(random, 5 + 18 * count)).map(|bits| bits as u8).collect(),
+        modules: fill(table(random)).collect(),
+        positions: fill(table(random)).map(|bits| bits as u16).collect(),
+    }
+}

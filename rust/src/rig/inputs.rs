@@ -1,0 +1,80 @@
+//! Pseudo-random inputs for `rig`: a kind and a seed give the same file and the same arguments everywhere.
+//!
+//! Input `i` of seed `s` is input 0 of seed `s + i`, so that any one is drawn again by its seed.
+
+use crate::random::Random;
+
+mod arguments;
+mod clash;
+mod damage;
+mod decode;
+mod encode;
+mod page;
+mod session;
+
+/// A kind of input: the command it is for, and how its file is drawn.
+#[derive(Clone, Copy)]
+pub struct Kind {
+    pub word: &'static str,
+    command: &'static str,
+    text: fn(&mut Random) -> Vec<u8>,
+}
+
+/// Well-formed files, one in four of them damaged; random bytes for each command; and command lines.
+pub const KINDS: [Kind; 9] = [
+    Kind { word: "clash", command: "clash", text: |random| damage::some(random, clash::text) },
+    Kind { word: "decode", command: "decode", text: |random| damage::some(random, decode::text) },
+    Kind { word: "encode", command: "encode", text: |random| damage::some(random, encode::text) },
+    Kind { word: "session", command: "session", text: |random| damage::some(random, session::text) },
+    Kind { word: "clash-bytes", command: "clash", text: damage::bytes },
+    Kind { word: "decode-bytes", command: "decode", text: damage::bytes },
+    Kind { word: "encode-bytes", command: "encode", text: damage::bytes },
+    Kind { word: "session-bytes", command: "session", text: damage::bytes },
+    Kind { word: "arguments", command: "", text: arguments::text },
+];
+
+/// How the input reaches the program.
+#[derive(Clone, Copy, PartialEq, Eq, Debug)]
+pub enum Source {
+    /// By its name.
+    File,
+    /// The file is standard input.
+    Standard,
+    /// Standard input is a pipe, filled in pieces of this many bytes.
+    Pipe(usize),
+}
+
+/// One run of the program.
+pub struct Case {
+    pub arguments: Vec<Vec<u8>>,
+    pub input: Vec<u8>,
+    pub source: Source,
+}
+
+impl Kind {
+    pub fn named(word: &str) -> Option<Kind> {
+        KINDS.into_iter().find(|kind| kind.word == word)
+    }
+
+    /// The case of this seed; `file` is the name under which the program finds the input.
+    pub fn draw(&self, seed: u64, file: &[u8]) -> Case {
+        let salt = self.word.bytes().fold(0, |salt: u64, byte| salt.wrapping_mul(257) + u64::from(byte));
+        let mut random = Random::new(Random::new(seed).bits() ^ salt);
+        let input = (self.text)(&mut random);
+        let source = draw_source(&mut random);
+        let arguments = if self.command.is_empty() {
+            arguments::any(&mut random, file)
+        } else {
+            arguments::proper(&mut random, self.command, source, file)
+        };
+        Case { arguments, input, source }
+    }
+}
+
+fn draw_source(random: &mut Random) -> Source {
+    match random.below(8) {
+        0..=4 => Source::File,
+        5..=6 => Source::Standard,
+        _ => Source::Pipe(random.pick(&[1, 7, 100, 4095, 4096, 4097, 65_536])),
+    }
+}

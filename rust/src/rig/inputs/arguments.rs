@@ -1,0 +1,88 @@
+//! Arguments: the right ones for a file, and any command line.
+
+use super::Source;
+use crate::random::Random;
+
+/// The command with its file and options in any order that `rig` takes.
+pub fn proper(random: &mut Random, command: &str, source: Source, file: &[u8]) -> Vec<Vec<u8>> {
+    let mut parts: Vec<Vec<Vec<u8>>> = Vec::new();
+    let may_be_left_out = command == "encode" || command == "session";
+    match source {
+        Source::File => parts.push(vec![file.to_vec()]),
+        _ if may_be_left_out && random.once_in(2) => {}
+        _ => parts.push(vec![b"-".to_vec()]),
+    }
+    if command == "clash" && random.once_in(2) {
+        parts.push(vec![b"--brief".to_vec()]);
+    }
+    if command != "session" && random.once_in(4) {
+        parts.push(vec![b"--room".to_vec(), room(random, command).into_bytes()]);
+    }
+    let turn = random.below(parts.len().max(1));
+    parts.rotate_left(turn);
+    let mut arguments = vec![command.as_bytes().to_vec()];
+    arguments.extend(parts.concat());
+    arguments
+}
+
+/// Rooms about what is needed, and about the most that is lent.
+fn room(random: &mut Random, command: &str) -> String {
+    let rooms: &[&str] = match command {
+        "clash" => &["0", "22", "23", "41", "59", "580", "581", "582", "99999999999999999999"],
+        "decode" => &["0", "1", "2", "3", "5", "8", "13", "4096", "4097", "99999999999999999999"],
+        _ => &["0", "1", "22", "23", "40", "77", "0100", "4095", "4096", "4097", "99999999999999999999"],
+    };
+    random.pick(rooms).to_string()
+}
+
+/// A short file that three of the commands take.
+pub fn text(random: &mut Random) -> Vec<u8> {
+    let texts =
+        ["", "# nothing\n", "load a\nboard 90\n", "0 3\n5 1\n", "START\nA0 ACK\nSTOP\n", "tick\nlines\n"];
+    random.pick(&texts).as_bytes().to_vec()
+}
+
+/// Up to five arguments: commands, options, files that are there or not, and words that are neither.
+pub fn any(random: &mut Random, file: &[u8]) -> Vec<Vec<u8>> {
+    let mut arguments = Vec::new();
+    if !random.once_in(24) {
+        arguments.push(first(random));
+    }
+    for _ in 0..random.below(5) {
+        arguments.push(match random.below(24) {
+            0..=4 => file.to_vec(),
+            5..=7 => b"--brief".to_vec(),
+            8..=11 => b"--room".to_vec(),
+            12..=14 => random.pick(&["0", "23", "4096", "x", "99999999999999999999", "5x"]).into(),
+            15 => b"-".to_vec(),
+            16 => random.pick(&["clash", "decode", "encode", "session", "help"]).into(),
+            17 => [file, b"/below"].concat(),
+            18 => [file, b".missing"].concat(),
+            19 => random.pick(&["/", ".", "..", ""]).into(),
+            20 => random.pick(&["--verbose", "--", "-x", "--brie", "--briefs", "--room=5", "--ROOM"]).into(),
+            21 => vec![random.pick(b"aZ/"); random.pick(&[255, 256, 4095, 4096, 4097, 9000])],
+            _ => odd_word(random),
+        });
+    }
+    arguments
+}
+
+fn first(random: &mut Random) -> Vec<u8> {
+    match random.below(24) {
+        0 => vec![b'c'; random.pick(&[4096, 4097])],
+        1 => odd_word(random),
+        2 => random.pick(&["", "Clash", "CLASH", "clashes", "cl", "--help", "-h", "-", "--brief"]).into(),
+        3..=5 => b"help".to_vec(),
+        6..=10 => b"decode".to_vec(),
+        11..=14 => b"encode".to_vec(),
+        15..=18 => b"session".to_vec(),
+        _ => b"clash".to_vec(),
+    }
+}
+
+/// A word with control bytes and bytes above 7F in it; never the name of a file.
+fn odd_word(random: &mut Random) -> Vec<u8> {
+    let mut word = b"odd".to_vec();
+    word.extend((0..random.below(6)).map(|_| random.byte().max(1)));
+    word
+}

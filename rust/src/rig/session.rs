@@ -1,0 +1,146 @@
+//! `rig session`: one module, one answer to each line, and a count at the end.
+
+use super::refusals;
+use super::text::{counted, hexadecimal, lines, Words};
+use crate::cases::module_text;
+use crate::module::Module;
+use crate::refusal::Refusal;
+
+const REGISTERS: [&str; 6] = ["USICTL0", "USICTL1", "USICKCTL", "USICNT", "USISRL", "USISRH"];
+const HELP: &str =
+    "power [LL HH], read AAA, write AAA VV, readw AAA, writew AAA VVVV, sample L, tick, lines, help";
+
+/// What a command gives: the text after `ok`, a refusal, or `None` if it is not understood.
+type Reply = Option<Result<String, Refusal>>;
+
+/// The module, and what was counted so far.
+struct Session {
+    module: Module,
+    commands: usize,
+    /// Line numbers of the commands not understood.
+    errors: Vec<usize>,
+    /// Refusals with their line numbers.
+    refused: Vec<(Refusal, usize)>,
+}
+
+pub fn session(text: &[u8]) -> Vec<u8> {
+    let mut session =
+        Session { module: Module::power_up(0, 0), commands: 0, errors: Vec::new(), refused: Vec::new() };
+    let mut output = Vec::new();
+    for (line, words) in lines(text) {
+        let answer = match words {
+            Ok(words) if words.is_empty() => "ok".to_string(),
+            Ok(words) => session.answer(line, &words),
+            Err(fault) => session.error(line, fault.words()),
+        };
+        output.extend(answer.into_bytes());
+        output.push(b'\n');
+    }
+    output.extend(session.summary().into_bytes());
+    output
+}
+
+impl Session {
+    fn error(&mut self, line: usize, words: &str) -> String {
+        self.commands += 1;
+        self.errors.push(line);
+        format!("error {words}")
+    }
+
+    fn answer(&mut self, line: usize, words: &Words) -> String {
+        let Some(expected) = expected(words[0]) else {
+            return self.error(line, "unknown command; try help");
+        };
+        match self.command(words) {
+            Some(Ok(reply)) => {
+                self.commands += 1;
+                format!("ok {reply}")
+            }
+            Some(Err(refusal)) => {
+                self.commands += 1;
+                self.refused.push((refusal, line));
+                refusals::plain(refusal)
+            }
+            None => self.error(line, &format!("expected {expected}")),
+        }
+    }
+
+    fn command(&mut self, words: &Words) -> Reply {
+        let module = self.module;
+        match words[..] {
+            [b"power"] => self.step(Ok(Module::power_up(0, 0))),
+            [b"power", low, high] => self.step(Ok(Module::power_up(byte(low)?, byte(high)?))),
+            [b"write", at, value] => self.step(module.write(address(at)?, byte(value)?)),
+            [b"writew", at, value] => self.step(module.write_word(address(at)?, word(value)?)),
+            [b"sample", level] => self.step(module.sample(byte(level)?)),
+            [b"tick"] => self.step(module.tick()),
+            [b"read", at] => Some(module.read(address(at)?).map(|value| format!("{value:02X}"))),
+            [b"readw", at] => Some(module.read_word(address(at)?).map(|value| format!("{value:04X}"))),
+            [b"lines"] => Some(Ok(lines_text(&module))),
+            [b"help"] => Some(Ok(HELP.to_string())),
+            _ => None,
+        }
+    }
+
+    /// The module after a step; a refused one leaves it as it was.
+    fn step(&mut self, next: Result<Module, Refusal>) -> Reply {
+        Some(next.map(|next| {
+            self.module = next;
+            module_text(&next)
+        }))
+    }
+
+    fn summary(&self) -> String {
+        let all = self.commands;
+        if let Some(line) = self.errors.first() {
+            let errors = self.errors.len();
+            return format!("error {errors} of {all} commands not understood, the first on line {line}");
+        }
+        match self.refused.first() {
+            Some((refusal, line)) => {
+                let (number, refused) = (refusal.number(), self.refused.len());
+                format!("refused {number}: {refused} of {all} commands refused, the first on line {line}")
+            }
+            None => format!("ok {}", counted(all, "command")),
+        }
+    }
+}
+
+/// The form of each command.
+fn expected(command: &[u8]) -> Option<&'static str> {
+    Some(match command {
+        b"power" => "power or power LL HH",
+        b"read" => "read AAA",
+        b"write" => "write AAA VV",
+        b"readw" => "readw AAA",
+        b"writew" => "writew AAA VVVV",
+        b"sample" => "sample L",
+        b"tick" => "tick",
+        b"lines" => "lines",
+        b"help" => "help",
+        _ => return None,
+    })
+}
+
+fn lines_text(module: &Module) -> String {
+    let state = |low: bool| if low { "low" } else { "released" };
+    let lines = module.lines();
+    format!("scl={} sda={}", state(lines.scl), state(lines.sda))
+}
+
+fn byte(word: &[u8]) -> Option<u8> {
+    u8::try_from(hexadecimal(word)?).ok()
+}
+
+fn word(word: &[u8]) -> Option<u16> {
+    u16::try_from(hexadecimal(word)?).ok()
+}
+
+/// A register's name in any case, or its number.
+fn address(word_or_name: &[u8]) -> Option<u16> {
+    let named = |name: &&str| name.as_bytes().eq_ignore_ascii_case(word_or_name);
+    match REGISTERS.iter().position(named) {
+        Some(register) => Some(Module::USICTL0 + register as u16),
+        None => word(word_or_name),
+    }
+}

@@ -1,0 +1,173 @@
+//! The comparison itself: the model behind the C functions is equal to the model, and wrong sides are found.
+
+use rehearsal_model::compare::{run, Comparison, COMPARISONS};
+use rehearsal_model::packed::{Asked, Interface, Lent, Model, MODULE};
+
+/// The model with one function that is wrong now and then.
+#[derive(Clone, Copy, PartialEq, Debug)]
+enum Wrong {
+    PowerUp,
+    KeptScl,
+    RefusalNumber,
+    OddWord,
+    NeverWaits,
+    HighBitsMatter,
+    ReadsZero,
+    Lines,
+    EventCount,
+    EventsRest,
+    PendingValue,
+    RefusedBuffer,
+    LastStamp,
+    Position,
+    Module,
+    StillIn,
+    LevelsRest,
+    RefusedModules,
+}
+
+impl Interface for Wrong {
+    fn power_up(&self, usisrl: u8, usisrh: u8) -> u64 {
+        Model.power_up(usisrl, if *self == Wrong::PowerUp { 0 } else { usisrh })
+    }
+
+    fn write(&self, module: u64, address: u16, value: u8) -> u64 {
+        let next = Model.write(module, address, value);
+        match self {
+            Wrong::HighBitsMatter => next | module & !MODULE & !(0xFF << 56),
+            Wrong::RefusalNumber if next >> 56 == 1 => next ^ 3 << 56,
+            _ => next,
+        }
+    }
+
+    fn write_word(&self, module: u64, address: u16, value: u16) -> u64 {
+        let address = if *self == Wrong::OddWord && address == 0x07F { 0x07E } else { address };
+        Model.write_word(module, address, value)
+    }
+
+    fn sample(&self, module: u64, level: u8) -> u64 {
+        let next = Model.sample(module, level);
+        next | if *self == Wrong::KeptScl { module & 1 << 52 } else { 0 }
+    }
+
+    fn tick(&self, module: u64) -> u64 {
+        let next = Model.tick(module);
+        next & !if *self == Wrong::NeverWaits && module >> 48 & 0x1F == 0x0C { 1 << 50 } else { 0 }
+    }
+
+    fn read(&self, module: u64, address: u16) -> u32 {
+        Model.read(module, address) & if *self == Wrong::ReadsZero { 0xFF_FF00 } else { u32::MAX }
+    }
+
+    fn read_word(&self, module: u64, address: u16) -> u32 {
+        Model.read_word(module, address)
+    }
+
+    fn lines(&self, module: u64) -> u8 {
+        Model.lines(module) & if *self == Wrong::Lines { 2 } else { 3 }
+    }
+
+    fn decode(&self, stamps: &[u32], levels: &[u8], events: &mut [u16]) -> u64 {
+        let reply = Model.decode(stamps, levels, events);
+        match self {
+            Wrong::EventCount if levels.len() == 4096 => return reply ^ 1 << 24,
+            Wrong::EventsRest => events.iter_mut().skip(5).for_each(|event| *event = 0),
+            Wrong::RefusedBuffer if reply & 0xFF == 8 => events.iter_mut().for_each(|event| *event = 512),
+            Wrong::PendingValue if reply >> 48 & 0xFF == 0 => return reply | 1 << 56,
+            _ => {}
+        }
+        reply
+    }
+
+    fn encode(&self, events: &[u16], start: u32, gap: u32, stamps: &mut [u32], levels: &mut [u8]) -> u64 {
+        let gap = if *self == Wrong::LastStamp && gap == 1001 { 1000 } else { gap };
+        Model.encode(events, start, gap, stamps, levels)
+    }
+
+    fn arbitrate(&self, asked: &Asked, lent: &mut Lent) -> u64 {
+        let reply = Model.arbitrate(asked, lent);
+        let carried = (reply >> 24 & 0xFF) as usize;
+        match self {
+            Wrong::Position if carried == 32 => lent.positions[0] ^= 1,
+            Wrong::Module if carried > 5 => lent.modules[asked.lengths.len() - 1] ^= 1 << 48,
+            Wrong::StillIn if asked.lengths.len() == 8 && reply & 0xFF == 0 => return reply ^ 1 << 39,
+            Wrong::LevelsRest if reply & 0xFF == 0 => {
+                lent.levels.iter_mut().skip(585).for_each(|level| *level = 0)
+            }
+            Wrong::RefusedModules if reply & 0xFF == 14 => lent.modules[7] = 0,
+            _ => {}
+        }
+        reply
+    }
+}
+
+fn comparison(cases: &str) -> &'static Comparison {
+    COMPARISONS.iter().find(|comparison| comparison.cases == cases).unwrap()
+}
+
+fn check_detected(cases: &str, wrong: &[Wrong]) {
+    let comparison = comparison(cases);
+    for side in wrong {
+        let (seed, first) =
+            run(comparison, side, 1, 20_000).err().unwrap_or_else(|| panic!("{side:?} is not found"));
+        let (again, second) = run(comparison, side, seed, 1).err().expect("the seed repeats the difference");
+        assert_eq!((again, second.inputs, second.other), (seed, first.inputs, first.other));
+    }
+}
+
+#[test]
+fn the_model_is_equal_to_itself() {
+    for comparison in &COMPARISONS {
+        let count = comparison.count / 20;
+        let counts = run(comparison, &Model, 1, count).unwrap();
+        println!("{}compared {count} {}: all equal", counts.lines(), comparison.cases);
+    }
+}
+
+/// The default counts; meant for the release build.
+#[test]
+#[ignore]
+fn the_model_is_equal_to_itself_in_full() {
+    for comparison in &COMPARISONS {
+        let begin = std::time::Instant::now();
+        let counts = run(comparison, &Model, 1, comparison.count).unwrap();
+        let seconds = begin.elapsed().as_secs_f64();
+        println!("{}compared {} {}: {seconds:.1} s", counts.lines(), comparison.count, comparison.cases);
+    }
+}
+
+#[test]
+fn every_refusal_occurs() {
+    let expected: [(&str, &[usize]); 4] = [
+        ("step sequences", &[1, 2, 3, 4]),
+        ("traces", &[0, 4, 5, 6, 7, 8]),
+        ("lists", &[0, 6, 8, 9, 10, 11]),
+        ("arbitrations", &[0, 8, 12, 13, 14, 15, 16, 255]),
+    ];
+    for (cases, numbers) in expected {
+        let counts = run(comparison(cases), &Model, 1, 20_000).unwrap();
+        for number in numbers {
+            assert!(counts.get(&format!("refused {number}")) >= 5, "{cases}: refusal {number}");
+        }
+    }
+}
+
+#[test]
+fn wrong_modules_are_found() {
+    use Wrong::*;
+    let wrong = [PowerUp, KeptScl, RefusalNumber, OddWord, NeverWaits, HighBitsMatter, ReadsZero, Lines];
+    check_detected("step sequences", &wrong);
+}
+
+#[test]
+fn wrong_readers_and_writers_are_found() {
+    use Wrong::*;
+    check_detected("traces", &[EventCount, EventsRest, PendingValue, RefusedBuffer]);
+    check_detected("lists", &[LastStamp]);
+}
+
+#[test]
+fn wrong_arbitrations_are_found() {
+    use Wrong::*;
+    check_detected("arbitrations", &[Position, Module, StillIn, LevelsRest, RefusedModules]);
+}

@@ -1,0 +1,30 @@
+//! The mirror of the program `rig`: its text, its refusals and errors, its inputs and the comparison.
+
+mod arguments;
+mod clash;
+mod decode;
+mod differ;
+mod encode;
+mod inputs;
+mod refusals;
+mod session;
+
+use rehearsal_model::rig::answer;
+
+/// What the mirror prints for these arguments, split at blanks, with this standard input.
+fn rig(arguments: &str, input: impl AsRef<[u8]>) -> String {
+    let arguments: Vec<Vec<u8>> = arguments.split_whitespace().map(|word| word.into()).collect();
+    String::from_utf8(answer(&arguments, &mut input.as_ref())).unwrap()
+}
+
+/// The last line.
+fn last(arguments: &str, input: impl AsRef<[u8]>) -> String {
+    rig(arguments, input).lines().next_back().unwrap_or_default().to_string()
+}
+
+/// Each input gives this last line and no other.
+fn check_errors(arguments: &str, cases: &[(&str, &str)]) {
+    for (input, error) in cases {
+        assert_eq!(rig(arguments, input), format!("error {error}\n"), "{arguments}: {input:?}");
+    }
+}

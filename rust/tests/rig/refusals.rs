@@ -1,0 +1,98 @@
+//! Each refusal number, provoked from the command line, with its words.
+
+use std::io::Write;
+use std::process::{Command, Stdio};
+
+/// The output of the mirror's own program.
+fn run(arguments: &str, input: &str) -> String {
+    let mut child = Command::new(env!("CARGO_BIN_EXE_rig_model"))
+        .args(arguments.split(' '))
+        .stdin(Stdio::piped())
+        .stdout(Stdio::piped())
+        .spawn()
+        .unwrap();
+    child.stdin.take().unwrap().write_all(input.as_bytes()).unwrap();
+    let output = child.wait_with_output().unwrap();
+    assert!(output.status.success());
+    String::from_utf8(output.stdout).unwrap()
+}
+
+#[test]
+fn of_the_module() {
+    let cases = [
+        ("read 77", "1: the address is outside 078h to 07Dh"),
+        ("write 7E 0", "1: the address is outside 078h to 07Dh"),
+        ("writew 7E 0", "1: the address is outside 078h to 07Dh"),
+        ("readw 77", "2: a word access needs an even address"),
+        ("writew 7F 0", "2: a word access needs an even address"),
+        ("sample 3", "3: the set-up does not fit I2C mode"),
+        ("tick", "3: the set-up does not fit I2C mode"),
+        ("sample 4", "4: a level is above 3"),
+    ];
+    for (command, words) in cases {
+        let number = &words[..1];
+        let count = format!("refused {number}: 1 of 1 commands refused, the first on line 1");
+        assert_eq!(run("session", command), format!("refused {words}\n{count}\n"), "{command}");
+    }
+}
+
+#[test]
+fn of_the_reader() {
+    let samples: String = (0..4097).map(|stamp| format!("{stamp} 3\n")).collect();
+    let cases = [
+        ("decode -", "5 3\n6 4", "4 place 1 (line 2): a level is above 3"),
+        ("decode -", "5 9\n\n6", "5: stamps and levels differ in number; line 3 has no level"),
+        ("decode -", &samples, "6: more than 4096 samples"),
+        ("decode -", "5 3\n5 3", "7 place 1 (line 2): a stamp is not above the one before it"),
+        ("decode - --room 0", "5 3\n6 1", "8: the reply needs more room than was lent"),
+    ];
+    for (arguments, input, words) in cases {
+        assert_eq!(run(arguments, input), format!("refused {words}\n"), "{words}");
+    }
+}
+
+#[test]
+fn of_the_writer() {
+    let bytes = format!("512 {} 514", "0 ".repeat(228));
+    let cases = [
+        ("encode", &bytes[..], "6: more than 4096 samples"),
+        ("encode --room 0", "", "8: the reply needs more room than was lent"),
+        ("encode", "START", "9: the event list is not complete"),
+        ("encode", "gap 0", "10: the gap is 0 or above 1000"),
+        ("encode", "gap 1001", "10: the gap is 0 or above 1000"),
+        ("encode -", "start 4294967295\n512 0 514", "11: the last stamp is above 4294967295"),
+    ];
+    for (arguments, input, words) in cases {
+        assert_eq!(run(arguments, input), format!("refused {words}\n"), "{words}");
+    }
+}
+
+#[test]
+fn of_arbitration() {
+    let nine = "board 90\n".repeat(9);
+    let long = format!("board 90\nboard {}", "90 ".repeat(33));
+    let acks = "15: there is not one acknowledge, 0 or 1, for each byte of the longest board";
+    let cases = [
+        ("clash -", "", "12: no board, or more than eight"),
+        ("clash -", &nine, "12: no board, or more than eight"),
+        ("clash -", "board", "13 place 0 (line 2): a board has no bytes or more than 32"),
+        ("clash -", &long, "13 place 1 (line 3): a board has no bytes or more than 32"),
+        ("clash -", "board 90\n\nboard 91", "14 place 1 (line 4): a board's first byte is odd, a read"),
+        ("clash -", "ack\nboard 90", acks),
+        ("clash -", "board 90\nack 2", acks),
+        (
+            "clash -",
+            "board 90\nboard 90 0",
+            "16: the least message is acknowledged to its end and begins another",
+        ),
+        ("clash - --room 22", "board 90", "8: the reply needs more room than was lent"),
+    ];
+    for (arguments, boards, words) in cases {
+        let number: String = words.chars().take_while(char::is_ascii_digit).collect();
+        let count = format!("refused {number}: 1 of 1 loads refused, the first on line 1");
+        let (load, input) = ("load a, line 1", format!("load a\n{boards}"));
+        assert_eq!(run(arguments, &input), format!("{load}\n  refused {words}\n{count}\n"));
+        let brief = run(&format!("{arguments} --brief"), &input);
+        assert_eq!(brief, format!("{load}: refused {words}\n{count}\n"));
+    }
+}

@@ -1,0 +1,40 @@
+//! The scripts of the case programs: their stored answers are the model's, and they keep within their sizes.
+
+use rehearsal_model::cases::{arbitration, bus, usi};
+use std::fs::read_to_string;
+
+fn stored(program: &str, file: &str) -> String {
+    let path = format!("{}/../crates/cases_{program}/{file}", env!("CARGO_MANIFEST_DIR"));
+    read_to_string(&path).unwrap_or_else(|problem| panic!("{path}: {problem}"))
+}
+
+fn check(program: &str, answers: fn(&str) -> Result<String, String>) {
+    let script = stored(program, "stdin");
+    assert!(script.len() < 60_000, "script of {program}");
+    assert!(script.lines().all(|line| line.len() < 4_000), "a line of {program}");
+    assert_eq!(answers(&script).unwrap(), stored(program, "stdout"), "answers of {program}");
+}
+
+#[test]
+fn usi_answers_are_stored() {
+    check("usi", usi);
+}
+
+#[test]
+fn bus_answers_are_stored() {
+    check("bus", bus);
+}
+
+#[test]
+fn arbitration_answers_are_stored() {
+    check("arbitration", arbitration);
+}
+
+#[test]
+fn a_script_that_makes_no_sense_is_an_error() {
+    for script in ["tock", "write 078", "write 078 100", "sample", ""] {
+        assert_eq!(usi(script).is_err(), !script.is_empty(), "{script}");
+    }
+    assert!(bus("decode 3 1").is_err() && bus("fill").is_err() && bus("long 1 2 3").is_err());
+    assert!(arbitration("run 1 1 0 9").is_err() && arbitration("run 1 1 x 90").is_err());
+}
