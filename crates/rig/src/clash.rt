@@ -4,6 +4,7 @@ use crate::input::Line;
 use crate::input::Source;
 use crate::load;
 use crate::load::Load;
+use crate::numbers::more;
 use crate::outcome;
 use crate::output;
 use crate::output::ROOM;
@@ -18,10 +19,10 @@ use text::after_word;
 use text::first_word;
 use text::put_bytes;
 
-// Room for the bytes carried, and for the levels: 5 and 18 for each byte.
-const CARRIED: usize = 32;
+// Room for the bytes carried, and for the levels.
+const CARRIED: usize = outcome::LONGEST;
 
-const LEVELS: usize = 581;
+const LEVELS: usize = outcome::FRAME + outcome::BYTE * CARRIED;
 
 // A line on standard error after so many loads.
 const PROGRESS: u64 = 100;
@@ -41,10 +42,6 @@ struct Rehearsal {
     more: bool,
     // an error has been printed
     broken: bool,
-}
-
-fn more(count: u64) -> u64 {
-    if count < u64::MAX { count + 1 } else { count }
 }
 
 impl Rehearsal {

@@ -9,6 +9,7 @@ use crate::parts;
 use crate::refusals;
 use crate::store;
 use crate::trace;
+use crate::trace::LIMIT;
 use crate::trace::Reading;
 use crate::trace::SAMPLES;
 use bus::Decoded;
@@ -17,7 +18,7 @@ use text::put_decimal;
 use text::put_hex_byte;
 
 // No trace that the library takes lists more events: a sample lists one, or two where others before it list none.
-const EVENTS: usize = 4096;
+const EVENTS: usize = LIMIT;
 
 // Whether the byte at a position is an address: the event before it is a START.
 fn is_address(events: &[u16], at: usize) -> bool {
@@ -70,8 +71,8 @@ fn count_events(stamps: &[u32], levels: &[u8], samples: usize) -> usize {
     }
 }
 
-// Shows the events that the sample at a position completes: those that the trace lists up to it and not before. Answers
-// how many are shown by then.
+// Shows the events that the sample at a position completes: those that the trace lists up to it and not before.
+// Answers how many are shown by then.
 fn show_sample(stamps: &[u32], levels: &[u8], at: usize, events: &[u16], shown: usize) -> usize {
     if at < stamps.len() {
         if at < levels.len() {

@@ -14,6 +14,8 @@ use crate::output::put_count;
 use crate::parts;
 use crate::refusals;
 use crate::store;
+use crate::trace::LARGEST_STAMP;
+use crate::trace::LIMIT;
 use bus::Encoded;
 use check::same;
 use text::after_word;
@@ -22,12 +24,8 @@ use text::put_byte;
 use text::put_bytes;
 use text::put_decimal;
 
-// The longest event list, and the longest trace that the library draws.
-const EVENTS: usize = 4096;
-
-const SAMPLES: usize = 4096;
-
-const LARGEST_STAMP: u64 = 4294967295;
+// The longest event list. One that the library draws has fewer events than samples.
+const EVENTS: usize = LIMIT;
 
 // No number above it is an event.
 const LARGEST_EVENT: u64 = 65535;
@@ -270,8 +268,8 @@ fn answer(
 }
 
 fn answer_part(events: &[u16], listing: Listing, room: usize) {
-    let mut stamps = [0u32; SAMPLES];
-    let mut levels = [0u8; SAMPLES];
+    let mut stamps = [0u32; LIMIT];
+    let mut levels = [0u8; LIMIT];
     let count = parts::events(listing.count, events);
     answer(
         &events[..count],

@@ -1,5 +1,6 @@
 // Lines of a file or of standard input, however many, read piece by piece.
 use crate::files;
+use crate::numbers::more;
 use crate::output::fault;
 use crate::output::is_control;
 use crate::parts;
@@ -137,15 +138,12 @@ fn judged_last(line: &[u8], n: usize, errno: i32) -> Line {
 }
 
 fn counted(mut from: Source) -> Source {
-    let line = from.line;
-    if line < u64::MAX {
-        from.line = line + 1;
-    }
+    from.line = more(from.line);
     from
 }
 
-// Takes the next line whole, also one that is too long. Nothing says that a line ends, so turns are counted down from a
-// number that no line uses up.
+// Takes the next line whole, also one that is too long.
+// Nothing says that a line ends, so turns are counted down from a number that no line uses up.
 pub(crate) fn next_line(piece: &mut [u8], line: &mut [u8], from: Source) -> Taken {
     let mut from = counted(from);
     let mut n: usize = 0;

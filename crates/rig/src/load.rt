@@ -1,4 +1,5 @@
 // A load: what each board sends, and the acknowledges.
+use crate::boards;
 use crate::event;
 use crate::event::Byte;
 use text::Number;
@@ -9,7 +10,7 @@ use text::first_word;
 pub(crate) const NAME: usize = 32;
 
 // Boards that are kept: one more than the library takes, so that it sees that there are too many.
-pub(crate) const BOARDS: usize = 9;
+pub(crate) const BOARDS: usize = boards::BOARDS + 1;
 
 // Bytes and acknowledges that are kept. A load that has more has a board or an acknowledge too many, and is refused.
 pub(crate) const BYTES: usize = 512;

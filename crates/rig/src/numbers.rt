@@ -1,4 +1,4 @@
-// Numbers that a text says, and the lesser of two.
+// Numbers that a text says, counts, and the lesser of two.
 ghost use Prim.Native.Nat.{_≤_};
 use text::Number;
 
@@ -17,6 +17,11 @@ pub(crate) fn is_number(number: Number) -> bool {
         Number::TooLarge => true,
         Number::Bad => false,
     }
+}
+
+// One more, of a count that no input brings to its limit.
+pub(crate) fn more(count: u64) -> u64 {
+    if count < u64::MAX { count + 1 } else { count }
 }
 
 pub(crate) fn least(a: usize, b: usize) -> usize

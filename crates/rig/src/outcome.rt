@@ -16,6 +16,13 @@ use text::put_decimal;
 use text::put_hex_byte;
 use usi::Usi;
 
+// The most bytes that are carried, the levels recorded for START and STOP, and those for each byte.
+pub(crate) const LONGEST: usize = 32;
+
+pub(crate) const FRAME: usize = 5;
+
+pub(crate) const BYTE: usize = 18;
+
 // The load's name and line.
 fn put_header(out: &mut [u8], at: usize, load: Load) -> usize {
     let name = load.name;
@@ -105,10 +112,10 @@ fn show_modules(modules: [Usi; BOARDS], boards: usize) {
 
 // How many levels are recorded for so many bytes.
 fn recorded(count: usize) -> usize {
-    if count > 32 {
+    if count > LONGEST {
         return 0;
     }
-    5 + 18 * count
+    FRAME + BYTE * count
 }
 
 // The whole outcome of a load.

@@ -5,6 +5,7 @@ use crate::command::Form;
 use crate::input;
 use crate::input::Line;
 use crate::input::Source;
+use crate::numbers::more;
 use crate::output::ROOM;
 use crate::output::print;
 use crate::output::put_count;
@@ -31,11 +32,6 @@ struct Session {
     first_refusal: u64,
     number: u8,
     more: bool,
-}
-
-// A count of lines, which no input brings to its limit.
-fn more(count: u64) -> u64 {
-    if count < u64::MAX { count + 1 } else { count }
 }
 
 impl Session {

@@ -10,8 +10,10 @@ use check::same;
 use text::after_word;
 use text::first_word;
 
-// One sample more than the library takes, so that it sees a trace that is too long.
-pub(crate) const SAMPLES: usize = 4097;
+// The most samples of a trace, and one more, so that the library sees a trace that is too long.
+pub(crate) const LIMIT: usize = 4096;
+
+pub(crate) const SAMPLES: usize = LIMIT + 1;
 
 pub(crate) struct Reading {
     source: Source,
@@ -34,7 +36,7 @@ enum Sample {
     LargeLevel,
 }
 
-const LARGEST_STAMP: u64 = 4294967295;
+pub(crate) const LARGEST_STAMP: u64 = 4294967295;
 
 const LARGEST_LEVEL: u64 = 255;
 
