@@ -1,0 +1,4 @@
+pub mod Search
+pub mod Lengths
+pub mod Cut
+pub mod Held
