@@ -14,7 +14,7 @@ use Rattle.arbitration_rules.specs.Limits.{maxLength}
 use Rattle.arbitration_rules.specs.Reply.{firstBadLength, total, longest}
 use Rattle.arbitration.specs.Rows.{first}
 
-or-false : (a b : Bool) → a || b ≡ false → (a ≡ false) × (b ≡ false)
+pub or-false : (a b : Bool) → a || b ≡ false → (a ≡ false) × (b ≡ false)
 or-false true b e = absurd (true≢false e)
 or-false false b e = (refl, e)
 
@@ -64,3 +64,8 @@ pub good-at : (lengths : List ℕ) (i : ℕ) → firstBadLength lengths ≡ leng
 good-at [] i good less = absurd (not-suc-le-zero less)
 good-at (count ∷ counts) zero good less = let head = good-head count counts good in (head .0, head .1)
 good-at (count ∷ counts) (suc i) good less = good-at counts i (good-head count counts good .2) (le-of-suc-le-suc less)
+
+pub longest-at : (lengths : List ℕ) (i : ℕ) → i < length lengths → getD lengths i 0 ≤ longest lengths
+longest-at [] i less = absurd (not-suc-le-zero less)
+longest-at (count ∷ counts) zero less = omega arith
+longest-at (count ∷ counts) (suc i) less = omega (arith, longest-at counts i (le-of-suc-le-suc less))

@@ -2,3 +2,5 @@ pub mod Search
 pub mod Lengths
 pub mod Cut
 pub mod Held
+pub mod Compared
+pub mod Least
