@@ -82,7 +82,7 @@ acknowledged-not [] acknowledges bits some enough = absurd (not-suc-le-zero some
 acknowledged-not (byte ∷ bytes) [] bits some enough = absurd (not-suc-le-zero enough)
 acknowledged-not (byte ∷ bytes) (acknowledge ∷ acknowledges) bits some enough =
     cases (eqb acknowledge 1) refl some
-    (λ less. acknowledged-not bytes acknowledges (or-false _ _ bits .1) less (le-of-suc-le-suc enough))
+    (λ less. acknowledged-not bytes acknowledges (or-false (above acknowledge) (any above acknowledges) bits .1) less (le-of-suc-le-suc enough))
   where
     cases : (refused : Bool) → eqb acknowledge 1 ≡ refused
         → cond refused 0 (suc (refusedAt bytes acknowledges)) < suc (length bytes)
@@ -97,8 +97,8 @@ pub acknowledged-all : (message acknowledges : List ℕ) → any above acknowled
 acknowledged-all [] acknowledges bits all enough = refl
 acknowledged-all (byte ∷ bytes) [] bits all enough = absurd (not-suc-le-zero enough)
 acknowledged-all (byte ∷ bytes) (acknowledge ∷ acknowledges) bits all enough =
-    cases (eqb acknowledge 1) refl all (ltb-false 1 acknowledge (or-false _ _ bits .0))
-    (λ more. acknowledged-all bytes acknowledges (or-false _ _ bits .1) more (le-of-suc-le-suc enough))
+    cases (eqb acknowledge 1) refl all (ltb-false 1 acknowledge (or-false (above acknowledge) (any above acknowledges) bits .0))
+    (λ more. acknowledged-all bytes acknowledges (or-false (above acknowledge) (any above acknowledges) bits .1) more (le-of-suc-le-suc enough))
   where
     cases : (refused : Bool) → eqb acknowledge 1 ≡ refused
         → suc (length bytes) ≤ cond refused 0 (suc (refusedAt bytes acknowledges))

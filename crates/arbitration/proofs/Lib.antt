@@ -4,3 +4,5 @@ pub mod Cut
 pub mod Held
 pub mod Compared
 pub mod Least
+pub mod Mapped
+pub mod Steps

@@ -1,2 +1,4 @@
+mod masters;
 mod messages;
 mod order;
+mod state;
