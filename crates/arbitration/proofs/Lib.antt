@@ -6,3 +6,4 @@ pub mod Compared
 pub mod Least
 pub mod Mapped
 pub mod Steps
+pub mod Turns

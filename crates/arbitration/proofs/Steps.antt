@@ -3,7 +3,7 @@ use Prim.Native.Nat.{ℕ, _+_, _-_, _<_, _≤_}
 use mathlib.Core.Path.{_≡_, refl, sym, ap, ap₂, _∙_}
 use mathlib.Core.Bool.{Bool, true, false}
 use mathlib.Core.List.{List, [], _∷_, _++_, map}
-use native.Mathlib.Nat.{add-assoc}
+use native.Mathlib.Nat.{add-assoc, add-zero}
 use native.Mathlib.Numerals.{add-one}
 use native.Mathlib.Omega.{arith}
 use mir.Val.{boolByte}
@@ -130,3 +130,28 @@ module _ {f g : Bus → Bus} {a b c : BusState} where
           count = second .count ∙ first .count;
           idle = second .idle ∙ first .idle;
         }
+
+-- the same step and count in other words
+pub recorded-as : {f g : Bus → Bus} {a b : BusState} {at more other : ℕ} {entry exit : List ℕ}
+    → ((bus : Bus) → f bus ≡ g bus) → more ≡ other → Recorded f a b at more entry exit → Recorded g a b at other entry exit
+recorded-as {at = at} {entry = entry} same count step =
+    record {
+      bus = λ carried. rw (← count) (step .bus carried ∙ same (busOf _ carried (take at entry)));
+      rest = rw (← count) (step .rest);
+      count = step .count;
+      idle = step .idle;
+    }
+
+-- nothing done
+pub recorded-none : (state : BusState) (at : ℕ) (entry : List ℕ) → Recorded (λ bus. bus) state state at 0 entry entry
+recorded-none state at entry = record { bus = λ carried. rw add-zero; rest = refl; count = refl; idle = refl }
+
+-- what a step does to the byte
+pub moved-byte : {f : Bus → Bus} {a b : BusState} → Moved f a b → b .byte ≡ f (busOf a [] []) .byte
+unfolding busOf
+moved-byte step = ap (λ (bus : Bus). bus .byte) (step .bus [] [])
+
+pub recorded-byte : {f : Bus → Bus} {a b : BusState} {at more : ℕ} {entry exit : List ℕ}
+    → Recorded f a b at more entry exit → b .byte ≡ f (busOf a [] (take at entry)) .byte
+unfolding busOf
+recorded-byte step = ap (λ (bus : Bus). bus .byte) (step .bus [])
