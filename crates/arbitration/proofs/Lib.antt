@@ -7,3 +7,6 @@ pub mod Least
 pub mod Mapped
 pub mod Steps
 pub mod Turns
+pub mod Loading
+
+pub mod Bytes

@@ -1,4 +1,5 @@
 mod masters;
 mod messages;
 mod order;
+mod run;
 mod state;

@@ -1,9 +1,11 @@
 // The masters of an arbitration, by value: the first count of them have a message, the others are never touched.
 ghost use mathlib.Core.Path.{_≡_};
-ghost use Prim.Native.Nat.{_<_, _≤_};
-ghost use lib.ListN.{length};
+ghost use mathlib.Core.List.{List, map};
+ghost use Prim.Native.Nat.{ℕ, _<_, _≤_};
+ghost use lib.ListN.{length, take};
 ghost use Rattle.arbitration_rules.specs.Limits.{maxMasters, maxLength};
 ghost use Rattle.arbitration_rules.specs.Masters.{applied};
+ghost use Rattle.arbitration_rules.specs.Run.{through};
 ghost use Rattle.arbitration.specs.Masters.{mapped, pullsOf, poweredOf, enteredOf, loadedRows};
 use arbitration_rules::Master;
 use arbitration_rules::Operation;
@@ -78,7 +80,7 @@ pub(crate) fn entered(count: usize) -> [Master; 8]
 // Masters still contending write USISRL: the byte of their message at an index.
 pub(crate) fn load_all(masters: [Master; 8], count: usize, rows: [[u8; 32]; 8], index: usize) -> [Master; 8]
     requires { ⌜ (count ≤ maxMasters) × (index < maxLength) ⌝ }
-    ensures { λ r. ⌜ (r ≡ loadedRows index count rows masters) × (length masters ≡ maxMasters) ⌝ }
+    ensures { λ r. ⌜ (r ≡ loadedRows index count rows masters) × (length masters ≡ maxMasters) × (length rows ≡ maxMasters) ⌝ }
 {
     let mut out = masters;
     let mut i: usize = 0;
@@ -88,4 +90,20 @@ pub(crate) fn load_all(masters: [Master; 8], count: usize, rows: [[u8; 32]; 8], 
         i += 1;
     }
     out
+}
+
+// Some master, of as many as there are lengths, still contends and has sent all of its message.
+pub(crate) fn any_through(masters: [Master; 8], lengths: &[u32], sent: usize) -> bool
+    requires { ⌜ length (now lengths) ≤ maxMasters ⌝ }
+    ensures { λ r. ⌜ ((messages : List (List ℕ)) → now (lengths .entry) ≡ map length messages → r ≡ through messages sent (take (length (now (lengths .entry))) masters)) ⌝ }
+{
+    let mut i: usize = 0;
+    while i < lengths.len() {
+        let master = masters[i];
+        if master.contending & (lengths[i] as usize <= sent) {
+            return true;
+        }
+        i += 1;
+    }
+    false
 }

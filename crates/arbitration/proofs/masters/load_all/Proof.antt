@@ -62,7 +62,7 @@ loop-again c =
 returns : tie.Need-returns Inv-loop μ-loop
 returns c =
     let end : c .before .loop .i ≡ c .before .before .args .count = omega arith in
-    (rw (← end) (c .before .loop .inv .1), search needs)
+    (rw (← end) (c .before .loop .inv .1), search needs, search needs)
 
 pub load-all-spec : {M : Type 1} → statement M
 load-all-spec =
