@@ -49,21 +49,32 @@ byte-turn-carried messages index acknowledge bus =
     length-append (before .carried) (before .byte ∷ [])
         ∙ ap (λ (list : List ℕ). length list + 1) (data-turns-carried 8 (9 * index) (opened messages index bus))
 
+either-carries : (n : ℕ) (ends : Bool) (one other : Bus) → n ≤ length (one .carried) → n ≤ length (other .carried)
+    → n ≤ length (cond ends one other .carried)
+either-carries n true one other first second = first
+either-carries n false one other first second = second
+
 -- what is carried stays so
-bytes-grow : (messages : List (List ℕ)) (acknowledges : List ℕ) (index : ℕ) (bus : Bus)
-    → length (bus .carried) ≤ length (bytesTurn messages acknowledges index bus .carried)
-bytes-grow messages [] index bus = le-refl (length (bus .carried))
-bytes-grow messages (acknowledge ∷ acknowledges) index bus =
-    let after = byteTurn messages index acknowledge bus in
-    cases (eqb acknowledge 1 || through messages (suc index) (after .masters)) (bytes-grow messages acknowledges (suc index) after)
-  where
-    cases : (ends : Bool)
-        → length (byteTurn messages index acknowledge bus .carried)
-        ≤ length (bytesTurn messages acknowledges (suc index) (byteTurn messages index acknowledge bus) .carried)
-        → length (bus .carried)
-        ≤ length (cond ends (byteTurn messages index acknowledge bus) (bytesTurn messages acknowledges (suc index) (byteTurn messages index acknowledge bus)) .carried)
-    cases true rest = omega (arith, byte-turn-carried messages index acknowledge bus)
-    cases false rest = omega (arith, byte-turn-carried messages index acknowledge bus)
+module _ (messages : List (List ℕ)) where
+  bytes-grow : (acknowledges : List ℕ) (index : ℕ) (bus : Bus)
+      → length (bus .carried) ≤ length (bytesTurn messages acknowledges index bus .carried)
+  bytes-grow [] index bus = le-refl (length (bus .carried))
+  bytes-grow (acknowledge ∷ acknowledges) index bus =
+      let after = byteTurn messages index acknowledge bus in
+      let one-more = byte-turn-carried messages index acknowledge bus in
+      let grown = bytes-grow acknowledges (suc index) after in
+      either-carries (length (bus .carried)) (eqb acknowledge 1 || through messages (suc index) (after .masters)) after
+      (bytesTurn messages acknowledges (suc index) after) (omega arith) (omega arith)
+
+  -- with an acknowledge to come one byte more is carried
+  pub bytes-next : (acknowledge : ℕ) (acknowledges : List ℕ) (index : ℕ) (bus : Bus)
+      → length (bus .carried) + 1 ≤ length (bytesTurn messages (acknowledge ∷ acknowledges) index bus .carried)
+  bytes-next acknowledge acknowledges index bus =
+      let after = byteTurn messages index acknowledge bus in
+      let one-more = byte-turn-carried messages index acknowledge bus in
+      let grown = bytes-grow acknowledges (suc index) after in
+      either-carries (length (bus .carried) + 1) (eqb acknowledge 1 || through messages (suc index) (after .masters)) after
+      (bytesTurn messages acknowledges (suc index) after) (omega arith) (omega arith)
 
 -- STOP carries nothing
 pub run-carried : (messages : List (List ℕ)) (acknowledges : List ℕ)

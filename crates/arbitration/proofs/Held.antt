@@ -5,8 +5,8 @@ use mathlib.Core.Bool.{Bool, cond, true, false}
 use mathlib.Core.List.{List, [], _∷_, _++_, map}
 use native.Mathlib.Nat.{not-suc-le-zero, le-of-suc-le-suc}
 use native.Mathlib.Omega.{arith}
-use lib.ListN.{length, getD, take, drop, replicate, length-append, length-drop, length-replicate}
-use lib.Seq.{getD-take, length-take-le, take-at}
+use lib.ListN.{length, getD, take, drop, replicate, length-append, length-drop, length-replicate, length-map, List·getD-map}
+use lib.Seq.{getD-take, length-take-le, take-at, ext-getD}
 use Rattle.bits.specs.Positions.{isSet}
 use Rattle.arbitration_rules.specs.Limits.{maxLength}
 use Rattle.arbitration_rules.specs.Reply.{firstBadLength, total, messagesOf, firstRead}
@@ -106,3 +106,10 @@ asksRead message = isSet 0 (getD message 0 0)
 pub read-first : (messages : List (List ℕ)) → firstRead messages ≡ first asksRead messages
 read-first [] = refl
 read-first (message ∷ messages) = ap (λ (n : ℕ). cond (asksRead message) 0 (suc n)) (read-first messages)
+
+pub in-lengths : (lengths : List ℕ) (rows : List (List ℕ)) → Rowed lengths rows → length lengths ≤ length rows
+    → lengths ≡ map length (messagesIn lengths rows)
+in-lengths lengths rows rowed many =
+    let messages = messagesIn lengths rows in
+    ext-getD 0 lengths (map length messages) (sym (length-map messages length ∙ in-length lengths rows many))
+    (λ i less. sym (List·getD-map length messages i [] ∙ length-at lengths rows rowed many i less))

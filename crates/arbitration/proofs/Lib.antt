@@ -10,3 +10,4 @@ pub mod Turns
 pub mod Loading
 
 pub mod Bytes
+pub mod Sending
