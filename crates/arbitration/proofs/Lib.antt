@@ -11,3 +11,4 @@ pub mod Loading
 
 pub mod Bytes
 pub mod Sending
+pub mod Ending

@@ -19,7 +19,7 @@ abbrev pub wholeOf : List (List ℕ) → List ℕ → BusState → List ℕ → 
 wholeOf messages acknowledges self levels = bytesTurn messages acknowledges 0 (busOf self [] (take 2 levels))
 
 -- the rest of the buffers is as it was before the byte
-rest-after : {A : Type 0} (n m : ℕ) (x y z : List A) → n ≤ m → drop m x ≡ drop m y → drop n y ≡ drop n z → drop m x ≡ drop m z
+pub rest-after : {A : Type 0} (n m : ℕ) (x y z : List A) → n ≤ m → drop m x ≡ drop m y → drop n y ≡ drop n z → drop m x ≡ drop m z
 rest-after n m x y z before one two =
     let apart : n + (m - n) ≡ m = omega arith in
     one
