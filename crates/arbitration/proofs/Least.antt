@@ -72,6 +72,17 @@ and-end : (a : Bool) → a && false ≡ false
 and-end true = refl
 and-end false = refl
 
+-- k is at most the length
+pub carried-within : (message acknowledges : List ℕ) → carriedCount message acknowledges ≤ length message
+carried-within [] acknowledges = omega arith
+carried-within (byte ∷ bytes) [] = omega (arith, carried-within bytes [])
+carried-within (byte ∷ bytes) (acknowledge ∷ acknowledges) = cases (eqb acknowledge 1) (carried-within bytes acknowledges)
+  where
+    cases : (refused : Bool) → carriedCount bytes acknowledges ≤ length bytes
+        → cond refused 1 (suc (carriedCount bytes acknowledges)) ≤ suc (length bytes)
+    cases true rest = omega arith
+    cases false rest = omega arith
+
 abbrev above : ℕ → Bool
 above acknowledge = ltb 1 acknowledge
 

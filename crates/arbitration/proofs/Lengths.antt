@@ -1,17 +1,18 @@
 -- Lengths of messages: the first out of the limits, their sum and the greatest, as loops over them find these.
 use Prim.Native.Nat.{ℕ, zero, suc, _+_, _<_, _≤_, max}
 use mathlib.Core.Path.{_≡_, refl, sym, ap, _∙_}
-use mathlib.Core.Bool.{Bool, cond, true, false, true≢false, _||_}
+use mathlib.Core.Bool.{Bool, cond, true, false, true≢false, not, _||_}
 use mathlib.Core.List.{List, [], _∷_}
 use native.Mathlib.Nat.{not-suc-le-zero, le-of-suc-le-suc, pos-of-ne-zero}
 use native.Mathlib.Numerals.{add-one}
 use native.Mathlib.Omega.{arith}
 use lib.Dec.{eqb, ltb}
-use borrow.Author.Tests.{eqb-false, ltb-false}
+use borrow.Author.Tests.{eqb-true, eqb-false, ltb-false, not-false}
 use lib.ListN.{length, getD, drop, drop-of-length-le}
 use lib.Seq.{drop-cons}
-use Rattle.arbitration_rules.specs.Limits.{maxLength}
-use Rattle.arbitration_rules.specs.Reply.{firstBadLength, total, longest}
+use Rattle.arbitration_rules.specs.Limits.{maxMasters, maxLength}
+use Rattle.arbitration_rules.specs.Outcome.{any}
+use Rattle.arbitration_rules.specs.Reply.{badCount, badLengths, firstBadLength, total, longest, badAcknowledges}
 use Rattle.arbitration.specs.Rows.{first}
 
 pub or-false : (a b : Bool) → a || b ≡ false → (a ≡ false) × (b ≡ false)
@@ -69,3 +70,32 @@ pub longest-at : (lengths : List ℕ) (i : ℕ) → i < length lengths → getD 
 longest-at [] i less = absurd (not-suc-le-zero less)
 longest-at (count ∷ counts) zero less = omega arith
 longest-at (count ∷ counts) (suc i) less = omega (arith, longest-at counts i (le-of-suc-le-suc less))
+
+-- acknowledges that 15 passes
+pub good-acknowledges : (lengths acknowledges : List ℕ) → badAcknowledges lengths acknowledges ≡ false
+    → (length acknowledges ≡ longest lengths) × (any (λ acknowledge. ltb 1 acknowledge) acknowledges ≡ false)
+good-acknowledges lengths acknowledges good =
+    let two = or-false (not (eqb (length acknowledges) (longest lengths))) (any (λ acknowledge. ltb 1 acknowledge) acknowledges) good in
+    (eqb-true _ _ (not-false _ (two .0)), two .1)
+
+-- lengths that 12 and 13 pass
+pub good-count : (lengths : List ℕ) → badCount lengths ≡ false → (0 < length lengths) × (length lengths ≤ maxMasters)
+good-count lengths good =
+    let two = or-false (eqb (length lengths) 0) (ltb maxMasters (length lengths)) good in
+    let some = eqb-false (length lengths) 0 (two .0) in
+    (pos-of-ne-zero some, ltb-false _ _ (two .1))
+
+bad-within : (lengths : List ℕ) → firstBadLength lengths ≤ length lengths
+bad-within [] = omega arith
+bad-within (count ∷ counts) = cases (badLength count) (bad-within counts)
+  where
+    cases : (bad : Bool) → firstBadLength counts ≤ length counts → cond bad 0 (suc (firstBadLength counts)) ≤ suc (length counts)
+    cases true rest = omega arith
+    cases false rest = omega arith
+
+pub good-lengths : (bytes lengths : List ℕ) → badLengths bytes lengths ≡ false
+    → (firstBadLength lengths ≡ length lengths) × (total lengths ≡ length bytes)
+good-lengths bytes lengths good =
+    let two = or-false (ltb (firstBadLength lengths) (length lengths)) (not (eqb (total lengths) (length bytes))) good in
+    let none = ltb-false (firstBadLength lengths) (length lengths) (two .0) in
+    (omega (arith, bad-within lengths), eqb-true _ _ (not-false _ (two .1)))

@@ -2,13 +2,28 @@
 use Prim.Native.Nat.{ℕ, zero, suc, _+_, _-_, _<_, _≤_}
 use mathlib.Core.Path.{_≡_, refl, sym, ap, _∙_}
 use mathlib.Core.Bool.{Bool, true, false, _||_}
-use mathlib.Core.List.{List, [], _∷_, _++_, map, zipWith}
+use mathlib.Core.List.{List, [], _∷_, _++_, map, zipWith, append-nil}
 use native.Mathlib.Nat.{not-suc-le-zero, le-of-suc-le-suc, suc-sub-suc, sub-zero}
 use native.Mathlib.Numerals.{add-one}
-use lib.ListN.{length, getD, set, take, drop, replicate}
-use lib.Seq.{take-suc}
+use lib.ListN.{length, getD, set, take, drop, replicate, drop-of-length-le}
+use lib.Seq.{take-suc, take-all}
 use Rattle.arbitration_rules.specs.Outcome.{any}
 use Rattle.arbitration.specs.Masters.{mapped}
+
+-- each element by a function of another list's
+module _ {A B : Type 0} (f : A → B) where
+  gathered-suc : (list : List A) (out : List B) (i : ℕ) (empty : A) → i < length list → i < length out
+      → set (map f (take i list) ++ drop i out) i (f (getD list i empty)) ≡ map f (take (suc i) list) ++ drop (suc i) out
+  gathered-suc [] out i empty less room = absurd (not-suc-le-zero less)
+  gathered-suc (a ∷ list) [] i empty less room = absurd (not-suc-le-zero room)
+  gathered-suc (a ∷ list) (b ∷ out) zero empty less room = refl
+  gathered-suc (a ∷ list) (b ∷ out) (suc i) empty less room =
+      ap (λ (l : List B). f a ∷ l) (gathered-suc list out i empty (le-of-suc-le-suc less) (le-of-suc-le-suc room))
+
+  pub gathered-more : (list : List A) (entry out : List B) (i : ℕ) (empty : A)
+      → out ≡ map f (take i list) ++ drop i entry → i < length list → i < length entry
+      → set out i (f (getD list i empty)) ≡ map f (take (i + 1) list) ++ drop (i + 1) entry
+  gathered-more list entry out i empty same less room = rw (same, add-one) (gathered-suc list entry i empty less room)
 
 -- each element by a function
 module _ {A : Type 0} (f : A → A) where
@@ -17,16 +32,10 @@ module _ {A : Type 0} (f : A → A) where
   mapped-at [] (suc i) empty = refl
   mapped-at (a ∷ list) (suc i) empty = mapped-at list i empty
 
-  mapped-suc : (list : List A) (i : ℕ) (empty : A) → i < length list
-      → set (mapped f i list) i (f (getD list i empty)) ≡ mapped f (suc i) list
-  mapped-suc [] i empty less = absurd (not-suc-le-zero less)
-  mapped-suc (a ∷ list) zero empty less = refl
-  mapped-suc (a ∷ list) (suc i) empty less = ap (λ (l : List A). f a ∷ l) (mapped-suc list i empty (le-of-suc-le-suc less))
-
   pub mapped-more : (list out : List A) (i : ℕ) (empty r : A) → out ≡ mapped f i list → r ≡ f (getD out i empty)
       → i < length list → set out i r ≡ mapped f (i + 1) list
   mapped-more list out i empty r same is less =
-      rw (is, same, mapped-at list i empty, add-one) (mapped-suc list i empty less)
+      rw (is, same, mapped-at list i empty, add-one) (gathered-suc f list list i empty less less)
 
 -- each element by a function of it and of another list's element
 module _ {A B : Type 0} (f : A → B → A) where
@@ -93,3 +102,8 @@ module _ {A : Type 0} (test : A → Bool) where
       → here ≡ test (getD list i empty) → i < length list → so-far || here ≡ any test (take (i + 1) list)
   any-more list i empty so-far here same is less =
       rw (same, is, add-one, take-suc list i empty less) (sym (any-end (take i list) (getD list i empty)))
+
+pub gathered-all : {A B : Type 0} (f : A → B) (list : List A) (entry out : List B) (i : ℕ)
+    → out ≡ map f (take i list) ++ drop i entry → length list ≤ i → length entry ≤ i → out ≡ map f list
+gathered-all f list entry out i same all none =
+    rw (same, take-all i list all, drop-of-length-le entry none) (append-nil (map f list))

@@ -1,5 +1,7 @@
 mod masters;
 mod messages;
 mod order;
+mod refusals;
+mod reply;
 mod run;
 mod state;
