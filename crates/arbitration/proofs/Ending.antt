@@ -36,19 +36,24 @@ module _ (messages : List (List ℕ)) (acknowledges : List ℕ) (count : ℕ) (m
   -- the bytes sent so far fit
   pub room-sent : (carried : List ℕ) (k : ℕ) → Room (run messages acknowledges) acknowledges carried levels
       → k ≤ length (bytesTurn messages acknowledges 0 (busOf second [] (take 2 levelsStarted)) .carried)
-      → 5 + 18 * k ≤ length levels
-  room-sent carried k room few = omega (arith, room .samples, ap (length {A = ℕ}) same-carried)
+      → (k ≤ length carried) × (5 + 18 * k ≤ length levels)
+  room-sent carried k room few =
+      let same = ap (length {A = ℕ}) same-carried in
+      (omega (arith, room .bytes), omega (arith, room .samples))
 
   pub ran : (third fourth : BusState) (k : ℕ) (carried carriedAfter levelsSent levelsAfter : List ℕ)
       → Carried (bytesTurn messages acknowledges 0) second third 0 k carried carriedAfter levelsStarted levelsSent
       → Recorded stopped third fourth (levelsBefore k) 3 levelsSent levelsAfter
+      → k ≤ length carriedAfter → 5 + 18 * k ≤ length levelsAfter
       → Ran (run messages acknowledges) count (record { state = fourth; k = k }) carried carriedAfter levels levelsAfter
   unfolding run
-  ran third fourth k carried carriedAfter levelsSent levelsAfter sent stop =
+  ran third fourth k carried carriedAfter levelsSent levelsAfter sent stop within levels-within =
       let end : levelsBefore k + 3 ≡ 5 + 18 * k = omega arith in
       let sent-rest =
           rest-after 2 (levelsBefore k) levelsSent levelsStarted levels (omega arith) (sent .levels-rest) (start .rest) in
       record {
+        within = within;
+        levels-within = levels-within;
         same =
             rw (← end)
             (stop .bus (take k carriedAfter) ∙ ap stopped (sent .bus ∙ ap (bytesTurn messages acknowledges 0) begun));

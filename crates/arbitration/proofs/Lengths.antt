@@ -99,3 +99,9 @@ good-lengths bytes lengths good =
     let two = or-false (ltb (firstBadLength lengths) (length lengths)) (not (eqb (total lengths) (length bytes))) good in
     let none = ltb-false (firstBadLength lengths) (length lengths) (two .0) in
     (omega (arith, bad-within lengths), eqb-true _ _ (not-false _ (two .1)))
+
+pub longest-within : (lengths : List ℕ) → firstBadLength lengths ≡ length lengths → longest lengths ≤ maxLength
+longest-within [] good = omega arith
+longest-within (count ∷ counts) good =
+    let head = good-head count counts good in
+    omega (arith, head .1, longest-within counts (head .2))

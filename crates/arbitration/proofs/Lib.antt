@@ -12,3 +12,6 @@ pub mod Loading
 pub mod Bytes
 pub mod Sending
 pub mod Ending
+pub mod Refused
+pub mod Answered
+pub mod Accepted

@@ -77,6 +77,8 @@ pub record Room (bus : Bus) (acknowledges carried levels : List ℕ) : Type 0 wh
 
 -- the end of a run: what it carried and recorded stands in the buffers, whose rest stays
 pub record Ran (bus : Bus) (count : ℕ) (ended : Ended) (entry exit levels levelsExit : List ℕ) : Type 0 where
+  pub within : ended .k ≤ length exit
+  pub levels-within : 5 + 18 * ended .k ≤ length levelsExit
   pub same : busOf (ended .state) (take (ended .k) exit) (take (5 + 18 * ended .k) levelsExit) ≡ bus
   pub rest : drop (ended .k) exit ≡ drop (ended .k) entry
   pub levels-rest : drop (5 + 18 * ended .k) levelsExit ≡ drop (5 + 18 * ended .k) levels

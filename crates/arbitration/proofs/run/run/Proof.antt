@@ -41,7 +41,9 @@ bytes-turn-requires c κs =
 
 -- src/run.rt:124:48
 -- what was sent leaves room for STOP
-sent-room : (c : tie.After-stopped-arg) → 5 + 18 * c .before .before .before .before .before .bytes-turn .result .k ≤ length (c .before .before .before .before .before .before .before .before .before .before .before .before .before .before .before .before .before .args .levels .now)
+sent-room : (c : tie.After-stopped-arg)
+    → (c .before .before .before .before .before .bytes-turn .result .k ≤ length (c .before .before .before .before .before .before .before .before .before .before .before .before .before .before .before .before .before .args .carried .now))
+    × (5 + 18 * c .before .before .before .before .before .bytes-turn .result .k ≤ length (c .before .before .before .before .before .before .before .before .before .before .before .before .before .before .before .before .before .args .levels .now))
 sent-room c =
     let a = c .before .before .before .before .before .before .before .before .before .before .before .before .before .before .before .before .before in
     let list = a .args .lengths .now in
@@ -53,11 +55,11 @@ sent-room c =
     (c .before .before .before .before .before .bytes-turn .ensures .1)
 
 mul-stopped : tie.Need-mul-stopped
-mul-stopped c = omega (arith, sent-room c, c .before .before .before .before .before .before .before .before .before .before .before .before .before .before .before .before .before .good .1 .1 .1 .1 .0 .0)
+mul-stopped c = omega (arith, sent-room c .1, c .before .before .before .before .before .before .before .before .before .before .before .before .before .before .before .before .before .good .1 .1 .1 .1 .0 .0)
 
 -- src/run.rt:124:44
 add-stopped : tie.Need-add-stopped
-add-stopped c = omega (arith, sent-room c, c .before .before .before .before .before .before .before .before .before .before .before .before .before .before .before .before .before .good .1 .1 .1 .1 .0 .0)
+add-stopped c = omega (arith, sent-room c .1, c .before .before .before .before .before .before .before .before .before .before .before .before .before .before .before .before .before .good .1 .1 .1 .1 .0 .0)
 
 -- src/run.rt:124:9
 stopped-requires : tie.Need-stopped-requires
@@ -69,7 +71,7 @@ stopped-requires c κs = (
     c .before .before .before .before .before .before .before .before .before .before .before .before .prepared .ensures .same,
     c .before .before .before .before .before .before .before .before .before .before .before .before .before .before .before .before .before .pre .0 .few,
   ),
-  omega (arith, sent-room c, c .before .before .before .before .before .bytes-turn .kept .1 .1 .1 .1 .1 .0, c .before .before .before .before .before .before .before .before .before .before .started .kept .1 .0),
+  omega (arith, sent-room c .1, c .before .before .before .before .before .bytes-turn .kept .1 .1 .1 .1 .1 .0, c .before .before .before .before .before .before .before .before .before .before .started .kept .1 .0),
 )
 
 -- src/run.rt:117:1
@@ -89,8 +91,17 @@ returns c =
     let many = in-length list rows (omega (arith, a .pre .0 .few)) in
     let ready = c .before .before .before .before .before .before .before .before .before .before .before .before .before .before .before .prepared .ensures in
     let start = c .before .before .before .before .before .before .before .before .before .before .before .before .before .started .ensures in
+    let room = sent-room (c .before .before .before) in
     ran (messagesIn list rows) (a .args .acks .now) (length list) many _ _ _ _ ready start _ _ _ _ _ _ _
     (c .before .before .before .before .before .before .before .before .bytes-turn .ensures .0) (c .before .before .stopped .ensures)
+    (omega (arith, room .0, c .before .before .before .before .before .before .before .before .bytes-turn .kept .1 .1 .1 .1 .0))
+    (omega (
+      arith,
+      room .1,
+      c .before .before .stopped .kept .1 .0,
+      c .before .before .before .before .before .before .before .before .bytes-turn .kept .1 .1 .1 .1 .1 .0,
+      c .before .before .before .before .before .before .before .before .before .before .before .before .before .started .kept .1 .0,
+    ))
 
 pub run-spec : {M : Type 1} → statement M
 run-spec =
