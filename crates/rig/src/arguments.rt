@@ -2,12 +2,9 @@
 use crate::numbers::is_number;
 use crate::numbers::least_number;
 use crate::numbers::value;
-use crate::output::ROOM;
-use crate::output::print;
-use crate::output::put_word;
+use crate::output::Output;
 use crate::output::trouble;
 use check::same;
-use text::put_bytes;
 
 pub(crate) struct Arguments {
     // which argument names the file; 0: none does
@@ -27,10 +24,10 @@ pub(crate) struct Arguments {
 const ALL_ROOM: usize = 65536;
 
 fn unexpected(word: &[u8]) {
-    let mut out = [0u8; ROOM];
-    let past_label = put_bytes(&mut out, 0, b"error unexpected argument ");
-    let end = put_word(&mut out, past_label, word);
-    print(&mut out, end);
+    Output::new()
+        .words(b"error unexpected argument ")
+        .argument(word)
+        .print();
 }
 
 fn is_option(word: &[u8]) -> bool {

@@ -1,8 +1,5 @@
 // Who won and who lost a rehearsal.
-use crate::output::ROOM;
-use crate::output::print;
-use text::put_bytes;
-use text::put_decimal;
+use crate::output::Output;
 
 // The boards that an arbitration has.
 pub(crate) const BOARDS: usize = 8;
@@ -10,76 +7,44 @@ pub(crate) const BOARDS: usize = 8;
 // The bits on the bus for each byte: eight, and the acknowledge.
 const BITS: u16 = 9;
 
-// What stands between the items of a list: nothing in front of the first.
-pub(crate) fn put_between(out: &mut [u8], at: usize, first: bool) -> usize {
-    if first {
-        return at;
+// A board in a list, where it belongs there.
+fn listed(out: Output, label: &[u8], board: usize, belongs: bool, first: bool) -> Output {
+    if belongs {
+        return out.between(first).words(label).number(board as u64);
     }
-    put_bytes(out, at, b", ")
+    out
 }
 
-// A board that is still in.
-fn put_winner(out: &mut [u8], at: usize, label: &[u8], board: usize, first: bool) -> usize {
-    let past_comma = put_between(out, at, first);
-    let past_label = put_bytes(out, past_comma, label);
-    put_decimal(out, past_label, board as u64)
-}
-
-fn put_if_won(
-    out: &mut [u8],
-    at: usize,
-    label: &[u8],
-    board: usize,
-    won: bool,
-    first: bool,
-) -> usize {
-    if won {
-        return put_winner(out, at, label, board, first);
-    }
-    at
-}
-
-fn put_winners(
-    out: &mut [u8],
-    at: usize,
+// The boards that are still in.
+pub(crate) fn winners(
+    out: Output,
     label: &[u8],
     contending: [bool; BOARDS],
     boards: usize,
-) -> usize {
-    let mut next = at;
+) -> Output {
+    let mut line = out;
+    let mut first = true;
     let mut i: usize = 0;
     while i < BOARDS {
-        next = put_if_won(
-            out,
-            next,
-            label,
-            i,
-            contending[i] & (i < boards),
-            next == at,
-        );
+        let won = contending[i] & (i < boards);
+        line = listed(line, label, i, won, first);
+        first = first & !won;
         i += 1;
     }
-    next
-}
-
-pub(crate) fn show_winners(contending: [bool; BOARDS], boards: usize) {
-    let mut out = [0u8; ROOM];
-    let past_label = put_bytes(&mut out, 0, b"  won ");
-    let end = put_winners(&mut out, past_label, b"board ", contending, boards);
-    print(&mut out, end);
+    line
 }
 
 fn show_loser(board: usize, position: u16) {
-    let mut out = [0u8; ROOM];
-    let past_label = put_bytes(&mut out, 0, b"  lost board ");
-    let past_board = put_decimal(&mut out, past_label, board as u64);
-    let past_at = put_bytes(&mut out, past_board, b" at byte ");
-    let past_byte = put_decimal(&mut out, past_at, (position / BITS) as u64);
-    let past_word = put_bytes(&mut out, past_byte, b" bit ");
-    let past_bit = put_decimal(&mut out, past_word, (position % BITS) as u64);
-    let past_place = put_bytes(&mut out, past_bit, b", place ");
-    let end = put_decimal(&mut out, past_place, position as u64);
-    print(&mut out, end);
+    Output::new()
+        .words(b"  lost board ")
+        .number(board as u64)
+        .words(b" at byte ")
+        .number((position / BITS) as u64)
+        .words(b" bit ")
+        .number((position % BITS) as u64)
+        .words(b", place ")
+        .number(position as u64)
+        .print();
 }
 
 // The boards that lost, one a line; answers whether there is one.
@@ -101,63 +66,34 @@ pub(crate) fn show_losers(
 }
 
 // A board that lost, and its place.
-fn put_loser(out: &mut [u8], at: usize, board: usize, position: u16, first: bool) -> usize {
-    let past_comma = put_between(out, at, first);
-    let past_board = put_decimal(out, past_comma, board as u64);
-    let past_at = put_bytes(out, past_board, b" at ");
-    put_decimal(out, past_at, position as u64)
-}
-
-fn put_if_lost(
-    out: &mut [u8],
-    at: usize,
-    board: usize,
-    position: u16,
-    lost: bool,
-    first: bool,
-) -> usize {
+fn loser(out: Output, board: usize, position: u16, lost: bool, first: bool) -> Output {
     if lost {
-        return put_loser(out, at, board, position, first);
+        return out.between(first)
+            .number(board as u64)
+            .words(b" at ")
+            .number(position as u64);
     }
-    at
+    out
 }
 
-fn put_losers(
-    out: &mut [u8],
-    at: usize,
+// The same in one line.
+pub(crate) fn losers(
+    out: Output,
     contending: [bool; BOARDS],
     positions: [u16; BOARDS],
     boards: usize,
-) -> usize {
-    let mut next = at;
+) -> Output {
+    let mut line = out;
+    let mut first = true;
     let mut i: usize = 0;
     while i < BOARDS {
-        next = put_if_lost(
-            out,
-            next,
-            i,
-            positions[i],
-            !contending[i] & (i < boards),
-            next == at,
-        );
+        let lost = !contending[i] & (i < boards);
+        line = loser(line, i, positions[i], lost, first);
+        first = first & !lost;
         i += 1;
     }
-    if next == at {
-        return put_bytes(out, next, b"none");
+    if first {
+        return line.words(b"none");
     }
-    next
-}
-
-// Who won and who lost, in one line.
-pub(crate) fn put_boards(
-    out: &mut [u8],
-    at: usize,
-    contending: [bool; BOARDS],
-    positions: [u16; BOARDS],
-    boards: usize,
-) -> usize {
-    let past_won = put_bytes(out, at, b": won ");
-    let past_winners = put_winners(out, past_won, b"", contending, boards);
-    let past_lost = put_bytes(out, past_winners, b"; lost ");
-    put_losers(out, past_lost, contending, positions, boards)
+    line
 }

@@ -7,9 +7,7 @@ use crate::load::Load;
 use crate::numbers::more;
 use crate::outcome;
 use crate::output;
-use crate::output::ROOM;
-use crate::output::print;
-use crate::output::put_count;
+use crate::output::Output;
 use crate::output::trouble;
 use crate::parts;
 use crate::refusals;
@@ -17,7 +15,6 @@ use arbitration::Arbitrated;
 use check::same;
 use text::after_word;
 use text::first_word;
-use text::put_bytes;
 
 // Room for the bytes carried, and for the levels.
 const CARRIED: usize = outcome::LONGEST;
@@ -186,12 +183,12 @@ impl Rehearsal {
             return trouble(b"no load in the file");
         }
         if self.refusals > 0 {
-            return refusals::count(self.number, self.refusals, self.loads, b"loads", self.line);
+            return refusals::count(self.number, self.refusals, self.loads, b" loads", self.line);
         }
-        let mut out = [0u8; ROOM];
-        let past_ok = put_bytes(&mut out, 0, b"ok ");
-        let end = put_count(&mut out, past_ok, self.loads, b"load");
-        print(&mut out, end);
+        Output::new()
+            .words(b"ok ")
+            .count(self.loads, b"load")
+            .print();
     }
 }
 

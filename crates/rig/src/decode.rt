@@ -2,9 +2,7 @@
 use crate::event;
 use crate::input;
 use crate::input::Source;
-use crate::output::ROOM;
-use crate::output::print;
-use crate::output::put_count;
+use crate::output::Output;
 use crate::parts;
 use crate::refusals;
 use crate::store;
@@ -13,9 +11,6 @@ use crate::trace::LIMIT;
 use crate::trace::Reading;
 use crate::trace::SAMPLES;
 use bus::Decoded;
-use text::put_bytes;
-use text::put_decimal;
-use text::put_hex_byte;
 
 // No trace that the library takes lists more events: a sample lists one, or two where others before it list none.
 const EVENTS: usize = LIMIT;
@@ -34,12 +29,9 @@ fn is_address(events: &[u16], at: usize) -> bool {
 }
 
 fn show_event(events: &[u16], at: usize, stamp: u32) {
-    let mut out = [0u8; ROOM];
     if at < events.len() {
-        let past_stamp = put_decimal(&mut out, 0, stamp as u64);
-        let past_colon = put_bytes(&mut out, past_stamp, b": ");
-        let end = event::put_event(&mut out, past_colon, events[at], is_address(events, at));
-        print(&mut out, end);
+        let stamped = Output::new().number(stamp as u64).words(b": ");
+        event::put(stamped, events[at], is_address(events, at)).print();
     }
 }
 
@@ -93,42 +85,37 @@ fn show_all(stamps: &[u32], levels: &[u8], events: &[u16]) {
     }
 }
 
-fn put_pending(out: &mut [u8], at: usize, pending: u8, value: u8) -> usize {
-    let past_count = put_count(out, at, pending as u64, b"bit");
-    let past_words = put_bytes(out, past_count, b" pending");
-    if pending == 0 {
-        return past_words;
-    }
-    let past_label = put_bytes(out, past_words, b", value ");
-    let past_value = put_hex_byte(out, past_label, value);
-    put_bytes(out, past_value, b"h")
-}
-
-fn put_frame(out: &mut [u8], at: usize, framed: bool) -> usize {
+fn frame(out: Output, framed: bool) -> Output {
     if framed {
-        return put_bytes(out, at, b", frame open, ");
+        return out.words(b", frame open, ");
     }
-    put_bytes(out, at, b", no frame open, ")
+    out.words(b", no frame open, ")
 }
 
+fn rest(out: Output, pending: u8, value: u8) -> Output {
+    let counted = out.count(pending as u64, b"bit").words(b" pending");
+    if pending == 0 {
+        return counted;
+    }
+    counted.words(b", value ").byte(value).words(b"h")
+}
+
+// The last line: how the trace ends.
 fn summary(samples: usize, count: usize, framed: bool, pending: u8, value: u8) {
-    let mut out = [0u8; ROOM];
-    let past_ok = put_bytes(&mut out, 0, b"ok ");
-    let past_events = put_count(&mut out, past_ok, count as u64, b"event");
-    let past_in = put_bytes(&mut out, past_events, b" in ");
-    let past_samples = put_count(&mut out, past_in, samples as u64, b"sample");
-    let past_frame = put_frame(&mut out, past_samples, framed);
-    let end = put_pending(&mut out, past_frame, pending, value);
-    print(&mut out, end);
+    let counted = Output::new()
+        .words(b"ok ")
+        .count(count as u64, b"event")
+        .words(b" in ")
+        .count(samples as u64, b"sample");
+    rest(frame(counted, framed), pending, value).print();
 }
 
 fn refuse_unpaired(line: u64) {
-    let mut out = [0u8; ROOM];
-    let past_refusal = refusals::put_refusal(&mut out, 0, 5);
-    let past_label = put_bytes(&mut out, past_refusal, b"; line ");
-    let past_line = put_decimal(&mut out, past_label, line);
-    let end = put_bytes(&mut out, past_line, b" has no level");
-    print(&mut out, end);
+    refusals::refusal(Output::new(), 5)
+        .words(b"; line ")
+        .number(line)
+        .words(b" has no level")
+        .print();
 }
 
 fn refuse(number: u8, place: usize, lines: &[u64], unpaired: u64) {

@@ -8,9 +8,7 @@ use crate::numbers::is_number;
 use crate::numbers::least_number;
 use crate::numbers::value;
 use crate::output;
-use crate::output::ROOM;
-use crate::output::print;
-use crate::output::put_count;
+use crate::output::Output;
 use crate::parts;
 use crate::refusals;
 use crate::store;
@@ -20,9 +18,6 @@ use bus::Encoded;
 use check::same;
 use text::after_word;
 use text::first_word;
-use text::put_byte;
-use text::put_bytes;
-use text::put_decimal;
 
 // The longest event list. One that the library draws has fewer events than samples.
 const EVENTS: usize = LIMIT;
@@ -215,11 +210,11 @@ fn read_all(piece: &mut [u8], line: &mut [u8], source: Source, events: &mut [u16
 }
 
 fn show_sample(stamp: u32, level: u8) {
-    let mut out = [0u8; 64];
-    let past_stamp = put_decimal(&mut out, 0, stamp as u64);
-    let past_blank = put_byte(&mut out, past_stamp, b' ');
-    let end = put_decimal(&mut out, past_blank, level as u64);
-    print(&mut out, end);
+    Output::new()
+        .number(stamp as u64)
+        .words(b" ")
+        .number(level as u64)
+        .print();
 }
 
 fn show_all(stamps: &[u32], levels: &[u8], count: usize) {
@@ -235,10 +230,10 @@ fn show_all(stamps: &[u32], levels: &[u8], count: usize) {
 }
 
 fn summary(count: usize) {
-    let mut out = [0u8; ROOM];
-    let past_ok = put_bytes(&mut out, 0, b"ok ");
-    let end = put_count(&mut out, past_ok, count as u64, b"sample");
-    print(&mut out, end);
+    Output::new()
+        .words(b"ok ")
+        .count(count as u64, b"sample")
+        .print();
 }
 
 // Hands an event list to the library, and shows the trace that it draws.

@@ -1,11 +1,9 @@
 // Events of a trace in words.
+use crate::output::Output;
 use check::same;
 use text::Number;
 use text::after_word;
 use text::first_word;
-use text::put_byte;
-use text::put_bytes;
-use text::put_hex_byte;
 
 // The bus library's event numbers: 0 to 511 a byte, 256 more where it was not acknowledged.
 pub(crate) const START: u16 = 512;
@@ -18,31 +16,26 @@ pub(crate) const CUT_BYTE: u16 = 515;
 
 pub(crate) const NACK: u16 = 256;
 
-fn put_direction(out: &mut [u8], at: usize, byte: u8, addressed: bool) -> usize {
+fn direction(out: Output, byte: u8, addressed: bool) -> Output {
     if !addressed {
-        return put_byte(out, at, b' ');
+        return out.words(b" ");
     }
     if byte % 2 == 1 {
-        return put_bytes(out, at, b" read ");
+        return out.words(b" read ");
     }
-    put_bytes(out, at, b" write ")
-}
-
-fn put_transfer(out: &mut [u8], at: usize, byte: u8, addressed: bool, ninth: &[u8]) -> usize {
-    let past_byte = put_hex_byte(out, at, byte);
-    let past_direction = put_direction(out, past_byte, byte, addressed);
-    put_bytes(out, past_direction, ninth)
+    out.words(b" write ")
 }
 
 // An event; the byte after a START is an address with its direction.
-pub(crate) fn put_event(out: &mut [u8], at: usize, event: u16, addressed: bool) -> usize {
+pub(crate) fn put(out: Output, event: u16, addressed: bool) -> Output {
+    let byte = (event % 256) as u8;
     match event {
-        0..=255 => put_transfer(out, at, (event % 256) as u8, addressed, b"ACK"),
-        256..=511 => put_transfer(out, at, (event % 256) as u8, addressed, b"NACK"),
-        START => put_bytes(out, at, b"START"),
-        REPEATED_START => put_bytes(out, at, b"repeated START"),
-        STOP => put_bytes(out, at, b"STOP"),
-        _ => put_bytes(out, at, b"cut byte"),
+        0..=255 => direction(out.byte(byte), byte, addressed).words(b"ACK"),
+        256..=511 => direction(out.byte(byte), byte, addressed).words(b"NACK"),
+        START => out.words(b"START"),
+        REPEATED_START => out.words(b"repeated START"),
+        STOP => out.words(b"STOP"),
+        _ => out.words(b"cut byte"),
     }
 }
 

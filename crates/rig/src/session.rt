@@ -6,16 +6,10 @@ use crate::input;
 use crate::input::Line;
 use crate::input::Source;
 use crate::numbers::more;
-use crate::output::ROOM;
-use crate::output::print;
-use crate::output::put_count;
+use crate::output::Output;
 use crate::output::say;
 use crate::output::trouble;
 use crate::refusals;
-use text::put_bytes;
-use text::put_decimal;
-use text::put_hex_byte;
-use text::put_hex_word;
 use usi::Read;
 use usi::Step;
 use usi::Usi;
@@ -99,10 +93,7 @@ impl Session {
     fn step(self, step: Step) -> Session {
         match step {
             Step::Next(device) => {
-                let mut out = [0u8; ROOM];
-                let past_ok = put_bytes(&mut out, 0, b"ok ");
-                let end = usi_text::put_module(&mut out, past_ok, device);
-                print(&mut out, end);
+                Output::new().words(b"ok ").module(device).print();
                 self.with_device(device)
             }
             Step::Refused(number, _) => self.refused(number),
@@ -112,10 +103,10 @@ impl Session {
     fn read(self, read: Read) -> Session {
         match read {
             Read::Value(value) => {
-                let mut out = [0u8; ROOM];
-                let past_ok = put_bytes(&mut out, 0, b"ok ");
-                let end = put_hex_byte(&mut out, past_ok, (value % 256) as u8);
-                print(&mut out, end);
+                Output::new()
+                    .words(b"ok ")
+                    .byte((value % 256) as u8)
+                    .print();
                 self.with_device(self.device)
             }
             Read::Refused(number) => self.refused(number),
@@ -125,10 +116,7 @@ impl Session {
     fn read_word(self, read: Read) -> Session {
         match read {
             Read::Value(value) => {
-                let mut out = [0u8; ROOM];
-                let past_ok = put_bytes(&mut out, 0, b"ok ");
-                let end = put_hex_word(&mut out, past_ok, value);
-                print(&mut out, end);
+                Output::new().words(b"ok ").word(value).print();
                 self.with_device(self.device)
             }
             Read::Refused(number) => self.refused(number),
@@ -137,12 +125,8 @@ impl Session {
 
     fn lines(self) -> Session {
         let device = self.device;
-        let mut out = [0u8; ROOM];
-        let past_scl = put_bytes(&mut out, 0, b"ok scl=");
-        let past_level = put_pull(&mut out, past_scl, device.pulls_scl());
-        let past_sda = put_bytes(&mut out, past_level, b" sda=");
-        let end = put_pull(&mut out, past_sda, device.pulls_sda());
-        print(&mut out, end);
+        let scl = pull(Output::new().words(b"ok scl="), device.pulls_scl());
+        pull(scl.words(b" sda="), device.pulls_sda()).print();
         self.with_device(device)
     }
 
@@ -199,37 +183,34 @@ impl Session {
                 self.number,
                 self.refusals,
                 self.commands,
-                b"commands",
+                b" commands",
                 self.first_refusal,
             );
         }
-        let mut out = [0u8; ROOM];
-        let past_ok = put_bytes(&mut out, 0, b"ok ");
-        let end = put_count(&mut out, past_ok, self.commands, b"command");
-        print(&mut out, end);
+        Output::new()
+            .words(b"ok ")
+            .count(self.commands, b"command")
+            .print();
     }
 }
 
-fn put_pull(out: &mut [u8], at: usize, low: bool) -> usize {
+// Whether a line is pulled low.
+fn pull(out: Output, low: bool) -> Output {
     if low {
-        return put_bytes(out, at, b"low");
+        return out.words(b"low");
     }
-    put_bytes(out, at, b"released")
+    out.words(b"released")
 }
 
 fn count_faults(faults: u64, commands: u64, line: u64) {
-    let mut out = [0u8; ROOM];
-    let past_label = put_bytes(&mut out, 0, b"error ");
-    let past_faults = put_decimal(&mut out, past_label, faults);
-    let past_of = put_bytes(&mut out, past_faults, b" of ");
-    let past_all = put_decimal(&mut out, past_of, commands);
-    let past_words = put_bytes(
-        &mut out,
-        past_all,
-        b" commands not understood, the first on line ",
-    );
-    let end = put_decimal(&mut out, past_words, line);
-    print(&mut out, end);
+    Output::new()
+        .words(b"error ")
+        .number(faults)
+        .words(b" of ")
+        .number(commands)
+        .words(b" commands not understood, the first on line ")
+        .number(line)
+        .print();
 }
 
 // Answers what taking a line found.

@@ -1,8 +1,5 @@
 // The lines of the bus as text, a character a sample, as logic analysers print them.
-use crate::output::ROOM;
-use crate::output::print;
-use text::put_byte;
-use text::put_bytes;
+use crate::output::Output;
 
 // A line in a level byte: SCL + 2 SDA.
 fn is_high(level: u8, sda: bool) -> bool {
@@ -38,25 +35,18 @@ fn mark_at(levels: &[u8], at: usize, sda: bool) -> u8 {
     b'?'
 }
 
-fn put_marks(out: &mut [u8], at: usize, levels: &[u8], count: usize, sda: bool) -> usize {
-    let mut next = at;
+fn marks(out: Output, levels: &[u8], count: usize, sda: bool) -> Output {
+    let mut line = out;
     let mut i = 0;
     while i < count {
-        next = put_byte(out, next, mark_at(levels, i, sda));
+        line = line.character(mark_at(levels, i, sda));
         i += 1;
     }
-    next
-}
-
-fn show_line(label: &[u8], levels: &[u8], count: usize, sda: bool) {
-    let mut out = [0u8; ROOM];
-    let past_label = put_bytes(&mut out, 0, label);
-    let end = put_marks(&mut out, past_label, levels, count, sda);
-    print(&mut out, end);
+    line
 }
 
 // The recorded levels of an arbitration.
 pub(crate) fn show(levels: &[u8], count: usize) {
-    show_line(b"  scl:", levels, count, false);
-    show_line(b"  sda:", levels, count, true);
+    marks(Output::new().words(b"  scl:"), levels, count, false).print();
+    marks(Output::new().words(b"  sda:"), levels, count, true).print();
 }

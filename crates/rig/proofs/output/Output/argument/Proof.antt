@@ -1,16 +1,15 @@
--- `rig::output::put_word` is safe and ends.
-use mathlib.Core.Path.{_≡_}
+-- `rig::output::Output::argument` is safe and ends.
 use Prim.Native.Nat.{_-_}
 use lib.ListN.{length}
 use borrow.Author.Needs.{needs}
-use Rattle.rig.proofs.output.put_word.Statement.{statement}
-use Rattle.rig.proofs.output.put_word.Tie as tie
+use Rattle.rig.proofs.output.Output.argument.Statement.{statement}
+use Rattle.rig.proofs.output.Output.argument.Tie as tie
 
 abbrev Inv-loop : tie.InvT-loop
-Inv-loop out₀ at word next₀ i₀ out next i = length out ≡ length out₀
+Inv-loop word out₀ i₀ out i = Unit {0}
 
 abbrev μ-loop : tie.MeasureT-loop
-μ-loop out₀ at word next₀ i₀ out next i = length word - i
+μ-loop word out₀ i₀ out i = length word - i
 
 loop-holds : tie.Need-loop-holds Inv-loop μ-loop
 loop-holds c = search needs
@@ -21,8 +20,8 @@ shared-slice-read-shown c = search needs
 shown-requires : tie.Need-shown-requires Inv-loop μ-loop
 shown-requires c κs = search needs
 
-put-byte-requires : tie.Need-put-byte-requires Inv-loop μ-loop
-put-byte-requires c κs = search needs
+character-requires : tie.Need-character-requires Inv-loop μ-loop
+character-requires c κs = search needs
 
 add-i : tie.Need-add-i Inv-loop μ-loop
 add-i c = search needs
@@ -33,14 +32,11 @@ loop-less c = search needs
 loop-again : tie.Need-loop-again Inv-loop μ-loop
 loop-again c = search needs
 
-same-length : tie.Need-same-length Inv-loop μ-loop
-same-length c = search needs
-
 returns : tie.Need-returns Inv-loop μ-loop
 returns c = search needs
 
-pub put-word-spec : {M : Type 1} → statement M
-put-word-spec =
+pub argument-spec : {M : Type 1} → statement M
+argument-spec =
     tie.close
     (tie.spec
     Inv-loop
@@ -48,9 +44,8 @@ put-word-spec =
     loop-holds
     shared-slice-read-shown
     shown-requires
-    put-byte-requires
+    character-requires
     add-i
     loop-less
     loop-again
-    same-length
     returns)

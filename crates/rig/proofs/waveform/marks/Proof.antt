@@ -1,16 +1,14 @@
--- `rig::waveform::put_marks` is safe and ends.
-use mathlib.Core.Path.{_≡_}
+-- `rig::waveform::marks` is safe and ends.
 use Prim.Native.Nat.{_-_}
-use lib.ListN.{length}
 use borrow.Author.Needs.{needs}
-use Rattle.rig.proofs.waveform.put_marks.Statement.{statement}
-use Rattle.rig.proofs.waveform.put_marks.Tie as tie
+use Rattle.rig.proofs.waveform.marks.Statement.{statement}
+use Rattle.rig.proofs.waveform.marks.Tie as tie
 
 abbrev Inv-loop : tie.InvT-loop
-Inv-loop out₀ at levels count sda next₀ i₀ out next i = length out ≡ length out₀
+Inv-loop levels count sda line₀ i₀ line i = Unit {0}
 
 abbrev μ-loop : tie.MeasureT-loop
-μ-loop out₀ at levels count sda next₀ i₀ out next i = count - i
+μ-loop levels count sda line₀ i₀ line i = count - i
 
 loop-holds : tie.Need-loop-holds Inv-loop μ-loop
 loop-holds c = search needs
@@ -18,8 +16,8 @@ loop-holds c = search needs
 mark-at-requires : tie.Need-mark-at-requires Inv-loop μ-loop
 mark-at-requires c κs = search needs
 
-put-byte-requires : tie.Need-put-byte-requires Inv-loop μ-loop
-put-byte-requires c κs = search needs
+character-requires : tie.Need-character-requires Inv-loop μ-loop
+character-requires c κs = search needs
 
 add-i : tie.Need-add-i Inv-loop μ-loop
 add-i c = search needs
@@ -30,23 +28,19 @@ loop-less c = search needs
 loop-again : tie.Need-loop-again Inv-loop μ-loop
 loop-again c = search needs
 
-same-length : tie.Need-same-length Inv-loop μ-loop
-same-length c = search needs
-
 returns : tie.Need-returns Inv-loop μ-loop
 returns c = search needs
 
-pub put-marks-spec : {M : Type 1} → statement M
-put-marks-spec =
+pub marks-spec : {M : Type 1} → statement M
+marks-spec =
     tie.close
     (tie.spec
     Inv-loop
     μ-loop
     loop-holds
     mark-at-requires
-    put-byte-requires
+    character-requires
     add-i
     loop-less
     loop-again
-    same-length
     returns)
