@@ -1,6 +1,7 @@
 #!/usr/bin/env bash
-# Drives ./rig with good and damaged input: every refusal and error from the command line, truncated files, ten thousand
-# files of random bytes and words, huge numbers. Each run must end in a last line of the right kind, and none may crash.
+# Drives ./rig with good and damaged input: every refusal and error from the command line, truncated files, huge
+# numbers, ten thousand files of random bytes and words. Each run must end in a last line of the right kind; none may
+# crash.
 set -u
 root=$(dirname "$(dirname "$(readlink -f "$0")")")
 rig=$root/rig
@@ -104,8 +105,10 @@ traces() {
     input "99999999999999999999999999 3" && expect 2 "error line 1: the stamp is above 4294967295" decode -
     input "4294967295 256" && expect 2 "error line 1: the level is above 255" decode -
     expect 0 "ok 8 events in 98 samples, no frame open, 0 bits pending" decode "$root/examples/clean.trace"
-    expect 0 "ok 5 events in 60 samples, frame open, 5 bits pending, value 06h" decode "$root/examples/damaged.trace"
-    expect 1 "refused 7 place 48 (line 50): a stamp is not above the one before it" decode "$root/examples/crossed.trace"
+    expect 0 "ok 5 events in 60 samples, frame open, 5 bits pending, value 06h" \
+        decode "$root/examples/damaged.trace"
+    expect 1 "refused 7 place 48 (line 50): a stamp is not above the one before it" \
+        decode "$root/examples/crossed.trace"
     alone
 }
 
@@ -132,13 +135,15 @@ lists() {
     input "A1 write ACK" && expect 2 "error line 1: an even address byte is a write, an odd one a read" encode
     seq 5000 >in && expect 2 "error line 4097: more than 4096 events" encode
     input "50: gap 3" &&
-        expect 2 "error line 1: expected START, repeated START, STOP, cut byte, HH ACK, HH NACK or event numbers" encode
+        expect 2 "error line 1: expected START, repeated START, STOP, cut byte, HH ACK, HH NACK or event numbers" \
+            encode
     # what is drawn is read back, and what is read is drawn again
     "$rig" encode "$root/examples/message.events" 2>err | tee first | "$rig" decode - >events
     (echo start 1000 && cat events) | "$rig" encode - >second
     checks=$((checks + 2))
     cmp -s first second || failed "encode, decode and encode again: another trace"
-    grep -v '^#' "$root/examples/clean.trace" | cmp -s - <(grep -v '^ok' first) || failed "examples/clean.trace is another"
+    grep -v '^#' "$root/examples/clean.trace" | cmp -s - <(grep -v '^ok' first) ||
+        failed "examples/clean.trace is another"
 }
 
 loads() {
@@ -155,7 +160,8 @@ loads() {
     grep -qx "  refused 15: there is not one acknowledge, 0 or 1, for each byte of the longest board" out ||
         failed "words of 15"
     input "load a" "board 90" "board 90 00" && expect 1 "refused 16: 1 of 1 loads refused, the first on line 1" clash -
-    grep -qx "  refused 16: the least message is acknowledged to its end and begins another" out || failed "words of 16"
+    grep -qx "  refused 16: the least message is acknowledged to its end and begins another" out ||
+        failed "words of 16"
     input "load a" "board 90" && expect 1 "refused 8: 1 of 1 loads refused, the first on line 1" clash - --room 22
     grep -qx "  refused 8: the reply needs more room than was lent" out || failed "words of 8"
     input "load a" "board 90" && expect 0 "ok 1 load" clash - --room 23
@@ -195,7 +201,8 @@ examples() {
             brief) "$rig" clash "$file" --brief >out 2>>err ;;
             *) "$rig" "$command" "$file" >out 2>>err ;;
         esac
-        cmp -s out "$stored" || failed "rig $command examples/${name#*.}: not the stored output: $(diff out "$stored" | head -n 3)"
+        cmp -s out "$stored" ||
+            failed "rig $command examples/${name#*.}: not the stored output: $(diff out "$stored" | head -n 3)"
     done
 }
 
@@ -214,7 +221,13 @@ run_on() {
 judge() {
     local runs
     runs=$(awk '
-        /^== status/ { if ($3 != 0 || last !~ /^(ok|refused [0-9]+[: ]|error )/) { print name ": status " $3 ": " last; bad++ } n++; next }
+        /^== status/ {
+            n++
+            if ($3 == 0 && last ~ /^(ok|refused [0-9]+[: ]|error )/) next
+            print name ": status " $3 ": " last
+            bad++
+            next
+        }
         /^== / { name = $0; last = ""; next }
         { last = $0 }
         END { print n; exit bad > 0 }' all)
@@ -239,8 +252,9 @@ truncated() {
 
 # Ten thousand files: a third of random bytes, the rest of random words of the formats.
 random() {
-    local words=(load board ack a 90 12 0F 0 1 2 255 256 4294967295 99999999999999999999 START STOP repeated cut byte ACK NACK
-        write read power tick sample lines readw writew USICNT 078 07F start gap 512 513 514 515 : 50: ok '#' $'\n' $'\n' $'\n' $'\t')
+    local words=(load board ack a 90 12 0F 0 1 2 255 256 4294967295 99999999999999999999 START STOP repeated cut byte
+        ACK NACK write read power tick sample lines readw writew USICNT 078 07F start gap 512 513 514 515 : 50: ok '#'
+        $'\n' $'\n' $'\n' $'\t')
     local text i n
     RANDOM=1
     mkdir -p random
