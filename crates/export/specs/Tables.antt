@@ -1,13 +1,12 @@
 -- The reply of an arbitration: one 64-bit number, and two tables of eight entries that the caller lends.
 use Prim.Native.Nat.{ℕ, _+_, _*_, _%_, _^_}
 use mathlib.Core.Bool.{Bool, cond, false, _||_}
-use mathlib.Core.List.{List, [], _∷_}
+use mathlib.Core.List.{List, map}
 use mir.Val.{boolByte}
 use lib.Dec.{ltb}
 use lib.ListN.{getD}
-use lib.Seq.{sets}
 use Rattle.usi.specs.declared.Usi.{Usi}
-use Rattle.usi.specs.Module.{powerUp}
+use Rattle.bus.specs.Buffer.{filled}
 use Rattle.arbitration_rules.specs.declared.Arbitrated.{Arbitrated}
 use Rattle.arbitration_rules.specs.Limits.{maxMasters}
 use Rattle.export.specs.Packed.{packed}
@@ -32,13 +31,10 @@ abbrev pub packedReply : Arbitrated → ℕ
 packedReply reply =
     reply .refusal + 256 * short (reply .place) + 256 ^ 3 * (reply .k % 256) + 256 ^ 4 * contenders (reply .contending)
 
--- the first eight entries of a table, and the rest as it was
-abbrev pub eight : (ℕ → ℕ) → List ℕ → List ℕ
-eight entry table =
-    sets table 0 (entry 0 ∷ entry 1 ∷ entry 2 ∷ entry 3 ∷ entry 4 ∷ entry 5 ∷ entry 6 ∷ entry 7 ∷ [])
+-- the eight modules, each as a number, and the rest of the table as it was
+abbrev pub modulesTable : List Usi → List ℕ → List ℕ
+modulesTable modules table = filled (map packed modules) table
 
-unfoldable pub modulesTable : List Usi → List ℕ → List ℕ
-modulesTable modules table = eight (λ i. packed (getD modules i (powerUp 0 0))) table
-
-unfoldable pub positionsTable : List ℕ → List ℕ → List ℕ
-positionsTable positions table = eight (λ i. getD positions i 0) table
+-- the eight positions likewise
+abbrev pub positionsTable : List ℕ → List ℕ → List ℕ
+positionsTable positions table = filled positions table

@@ -38,26 +38,20 @@ fn put_modules(modules: [Usi; 8], table: &mut [u64])
     requires { ⌜ maxMasters ≤ length (now table) ⌝ }
     ensures { λ r. ⌜ now (table .exit) ≡ modulesTable modules (now (table .entry)) ⌝ }
 {
-    table[0] = crate::packed(modules[0]);
-    table[1] = crate::packed(modules[1]);
-    table[2] = crate::packed(modules[2]);
-    table[3] = crate::packed(modules[3]);
-    table[4] = crate::packed(modules[4]);
-    table[5] = crate::packed(modules[5]);
-    table[6] = crate::packed(modules[6]);
-    table[7] = crate::packed(modules[7]);
+    let mut i: usize = 0;
+    while i < TABLE {
+        table[i] = crate::packed(modules[i]);
+        i += 1;
+    }
 }
 
 fn put_positions(positions: [u16; 8], table: &mut [u16])
     requires { ⌜ maxMasters ≤ length (now table) ⌝ }
     ensures { λ r. ⌜ now (table .exit) ≡ positionsTable positions (now (table .entry)) ⌝ }
 {
-    table[0] = positions[0];
-    table[1] = positions[1];
-    table[2] = positions[2];
-    table[3] = positions[3];
-    table[4] = positions[4];
-    table[5] = positions[5];
-    table[6] = positions[6];
-    table[7] = positions[7];
+    let mut i: usize = 0;
+    while i < TABLE {
+        table[i] = positions[i];
+        i += 1;
+    }
 }
