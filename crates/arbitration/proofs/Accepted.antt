@@ -1,0 +1,84 @@
+-- What no refusal turns down: an arbitration of which demand 3 holds, with room for all that its run carries.
+use Prim.Native.Nat.{ℕ, zero, suc, _+_, _*_, _<_, _≤_}
+use mathlib.Core.Path.{_≡_, refl, sym, ap, _∙_}
+use mathlib.Core.Bool.{false}
+use mathlib.Core.List.{List, [], _∷_, _++_}
+use native.Mathlib.Omega.{arith}
+use lib.ListN.{length, getD, drop}
+use lib.Seq.{length-take-le}
+use Rattle.arbitration_rules.specs.declared.Arbitrated.{Arbitrated}
+use Rattle.arbitration_rules.specs.Outcome.{least, carriedCount, carriedOf}
+use Rattle.arbitration_rules.specs.Reply.{messagesOf, badCount, badLengths, badAcknowledges, levelCount}
+use Rattle.arbitration_rules.specs.Reply.{refusal, answered, arbitrated, carriedAfter, levelsAfter}
+use Rattle.arbitration_rules.specs.Run.{run}
+use Rattle.arbitration_rules.proofs.Lists.{nobody, also}
+use Rattle.arbitration_rules.proofs.Carry.{Bytes}
+use Rattle.arbitration_rules.proofs.Demand.{Arbitration, ended}
+use Rattle.arbitration_rules.proofs.Accepted.{arbitration}
+use Rattle.arbitration.specs.Rows.{Cuttable}
+use Rattle.arbitration.specs.State.{Room}
+use Rattle.arbitration.proofs.Lengths.{good-count, good-lengths, good-acknowledges, longest-within}
+use Rattle.arbitration.proofs.Least.{carried-within}
+
+-- bytes, index by index
+pub bytes-below : (bytes : List ℕ) → ((i : ℕ) → getD bytes i 0 < 256) → Bytes bytes
+bytes-below [] below = nobody
+bytes-below (byte ∷ bytes) below = also (below zero) (bytes-below bytes (λ i. below (suc i)))
+
+pub cuttable : (bytes lengths : List ℕ) → badCount lengths ≡ false → badLengths bytes lengths ≡ false
+    → Cuttable bytes lengths
+cuttable bytes lengths count sizes =
+    let sized = good-lengths bytes lengths sizes in
+    record { few = good-count lengths count .1; fit = sized .0; all = sized .1 }
+
+-- a run carries k bytes
+run-count : (messages : List (List ℕ)) (acknowledges : List ℕ) → Arbitration messages acknowledges
+    → length (run messages acknowledges .carried) ≡ carriedCount (least messages) acknowledges
+unfolding carriedOf
+run-count messages acknowledges given =
+    ap length (ended messages acknowledges given .bytes)
+        ∙ length-take-le _ (least messages) (carried-within (least messages) acknowledges)
+
+module _ (bytes lengths acknowledges : List ℕ) (small : Bytes bytes) (count : badCount lengths ≡ false)
+    (sizes : badLengths bytes lengths ≡ false) (answers : badAcknowledges lengths acknowledges ≡ false) where
+  pub given : Arbitration (messagesOf lengths bytes) acknowledges
+  given = arbitration bytes lengths acknowledges small count sizes answers
+
+  pub run-room : (carried levels : List ℕ)
+      → let k = carriedCount (least (messagesOf lengths bytes)) acknowledges in
+      k ≤ length carried → levelCount k ≤ length levels
+      → Room (run (messagesOf lengths bytes) acknowledges) acknowledges carried levels
+  run-room carried levels room samples =
+      let k = run-count (messagesOf lengths bytes) acknowledges given in
+      let long = longest-within lengths (good-lengths bytes lengths sizes .0) in
+      record {
+        few = omega (arith, good-acknowledges lengths acknowledges answers .0);
+        bytes = rw k room;
+        samples = rw k samples;
+      }
+
+-- the reply of a run that no refusal turns down, and the buffers after it
+module _ (bytes lengths acknowledges : List ℕ) (reply : Arbitrated)
+    (is : reply ≡ answered (run (messagesOf lengths bytes) acknowledges)) where
+  none-refused : reply .refusal ≡ 0
+  unfolding answered
+  none-refused = ap (λ (r : Arbitrated). r .refusal) is
+
+  pub accepted-reply : (carriedRoom levelRoom : ℕ) → refusal bytes lengths acknowledges carriedRoom levelRoom ≡ 0
+      → reply ≡ arbitrated bytes lengths acknowledges carriedRoom levelRoom
+  unfolding arbitrated
+  accepted-reply carriedRoom levelRoom none = rw none is
+
+  pub accepted-carried : (entry exit : List ℕ)
+      → let content = run (messagesOf lengths bytes) acknowledges .carried in
+      exit ≡ content ++ drop (length content) entry
+      → exit ≡ carriedAfter bytes lengths acknowledges (reply .refusal) entry
+  unfolding carriedAfter
+  accepted-carried entry exit kept = rw none-refused kept
+
+  pub accepted-levels : (entry exit : List ℕ)
+      → let content = run (messagesOf lengths bytes) acknowledges .levels in
+      exit ≡ content ++ drop (length content) entry
+      → exit ≡ levelsAfter bytes lengths acknowledges (reply .refusal) entry
+  unfolding levelsAfter
+  accepted-levels entry exit kept = rw none-refused kept

@@ -1,0 +1,17 @@
+-- The module's own power-up.
+use borrow.Author.Needs.{needs}
+use borrow.Author.Needs.{needs}
+use Rattle.arbitration.proofs.masters.powered.Statement.{statement}
+use Rattle.arbitration.proofs.masters.powered.Tie as tie
+use Rattle.arbitration.proofs.masters.powered.Reads as reads
+use Rattle.arbitration.proofs.masters.powered.Lts as lts
+use Rattle.usi.proofs.Usi.power_up.Reads as power-up-reads
+
+power-up-requires : tie.Need-power-up-requires
+power-up-requires c κs = search needs
+
+returns : tie.Need-returns
+returns c = rw (c .power-up .ensures)
+
+pub powered-spec : {M : Type 1} → statement M
+powered-spec = tie.close (tie.spec power-up-requires returns)

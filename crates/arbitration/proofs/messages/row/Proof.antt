@@ -1,0 +1,66 @@
+-- The loop's invariant: the row of the first i bytes.
+use Prim.Native.Nat.{_+_, _-_, _<_, _≤_}
+use mathlib.Core.Path.{_≡_, ap}
+use native.Mathlib.Omega.{arith}
+use lib.ListN.{length, take, drop, length-drop}
+use lib.Seq.{getD-drop}
+use Rattle.arbitration_rules.specs.Limits.{maxLength}
+use Rattle.arbitration.specs.Rows.{rowOf}
+use Rattle.arbitration.proofs.Cut.{row-more}
+use borrow.Author.Needs.{needs}
+use Rattle.arbitration.proofs.messages.row.Statement.{statement}
+use Rattle.arbitration.proofs.messages.row.Tie as tie
+use Rattle.arbitration.proofs.messages.row.Reads as reads
+use Rattle.arbitration.proofs.messages.row.Lts as lts
+
+abbrev Inv-loop : tie.InvT-loop
+Inv-loop bytes from count out₀ i₀ out i = (i ≤ count) × (out ≡ rowOf (take i (drop from bytes)))
+
+abbrev μ-loop : tie.MeasureT-loop
+μ-loop bytes from count out₀ i₀ out i = count - i
+
+loop-holds : tie.Need-loop-holds Inv-loop μ-loop
+loop-holds c = search needs
+
+add-out : tie.Need-add-out Inv-loop μ-loop
+add-out c = search needs
+
+shared-slice-read-out : tie.Need-shared-slice-read-out Inv-loop μ-loop
+shared-slice-read-out c = search needs
+
+array-write-out : tie.Need-array-write-out Inv-loop μ-loop
+array-write-out c = search needs
+
+add-i : tie.Need-add-i Inv-loop μ-loop
+add-i c = search needs
+
+loop-less : tie.Need-loop-less Inv-loop μ-loop
+loop-less c = search needs
+
+loop-again : tie.Need-loop-again Inv-loop μ-loop
+loop-again c =
+    let l = c .before .before .loop in
+    let a = c .before .before .before .args in
+    let less : l .i < length (drop (a .from) (a .bytes .now)) = simp length-drop (omega arith) in
+    let fits : l .i < maxLength = omega arith in
+    (search needs, rw (l .inv .1, ← getD-drop) (row-more (drop (a .from) (a .bytes .now)) (l .i) less fits))
+
+returns : tie.Need-returns Inv-loop μ-loop
+returns c =
+    let end : c .before .loop .i ≡ c .before .before .args .count = omega arith in
+    rw end at (c .before .loop .inv .1)
+
+pub row-spec : {M : Type 1} → statement M
+row-spec =
+    tie.close
+    (tie.spec
+    Inv-loop
+    μ-loop
+    loop-holds
+    add-out
+    shared-slice-read-out
+    array-write-out
+    add-i
+    loop-less
+    loop-again
+    returns)

@@ -1,0 +1,79 @@
+-- The loop's invariant: the first i messages are cut.
+use Prim.Native.Nat.{_-_, _<_, _≤_}
+use mathlib.Core.Path.{refl}
+use native.Mathlib.Omega.{arith}
+use lib.ListN.{length}
+use Rattle.arbitration.proofs.Cut.{Cutting, cutting-start, cutting-fit, cutting-room, cutting-more, cutting-done}
+use borrow.Author.Needs.{needs}
+use Rattle.arbitration.proofs.messages.rows.Statement.{statement}
+use Rattle.arbitration.proofs.messages.rows.Tie as tie
+use Rattle.arbitration.proofs.messages.rows.Reads as reads
+use Rattle.arbitration.proofs.messages.rows.Lts as lts
+use Rattle.arbitration.proofs.messages.row.Reads as row-reads
+
+abbrev Inv-loop : tie.InvT-loop
+Inv-loop bytes lengths out₀ from₀ i₀ out from i = Cutting bytes lengths out from i
+
+abbrev μ-loop : tie.MeasureT-loop
+μ-loop bytes lengths out₀ from₀ i₀ out from i = length lengths - i
+
+loop-holds : tie.Need-loop-holds Inv-loop μ-loop
+loop-holds c = cutting-start _ _ _ (c .before .before .pre) (omega arith)
+
+mul-count : tie.Need-mul-count Inv-loop μ-loop
+mul-count c = search needs
+
+shared-slice-read-count : tie.Need-shared-slice-read-count Inv-loop μ-loop
+shared-slice-read-count c = search needs
+
+cast-count : tie.Need-cast-count Inv-loop μ-loop
+cast-count c = omega (arith, c .shared-slice-known3 .given (c .before .before .loop .i))
+
+row-requires : tie.Need-row-requires Inv-loop μ-loop
+row-requires c κs =
+    let inv = c .before .before .loop .inv in
+    (cutting-fit _ _ _ _ _ inv (c .before .loop-test .taken), cutting-room _ _ _ _ _ inv (c .before .loop-test .taken))
+
+mul-out : tie.Need-mul-out Inv-loop μ-loop
+mul-out c = search needs
+
+array-set-from-out : tie.Need-array-set-from-out Inv-loop μ-loop
+array-set-from-out c = omega (arith, c .before .before .before .loop .inv .few)
+
+add-from : tie.Need-add-from Inv-loop μ-loop
+add-from c =
+    let room = cutting-room _ _ _ _ _ (c .before .before .before .loop .inv) (c .before .before .loop-test .taken) in
+    omega arith
+
+add-i : tie.Need-add-i Inv-loop μ-loop
+add-i c = search needs
+
+loop-less : tie.Need-loop-less Inv-loop μ-loop
+loop-less c = search needs
+
+loop-again : tie.Need-loop-again Inv-loop μ-loop
+loop-again c =
+    rw (c .row .ensures)
+    (cutting-more _ _ _ _ _ (c .before .before .before .loop .inv) (c .before .before .loop-test .taken))
+
+returns : tie.Need-returns Inv-loop μ-loop
+returns c = cutting-done _ _ _ _ _ (c .before .loop .inv) (omega arith)
+
+pub rows-spec : {M : Type 1} → statement M
+rows-spec =
+    tie.close
+    (tie.spec
+    Inv-loop
+    μ-loop
+    loop-holds
+    mul-count
+    shared-slice-read-count
+    cast-count
+    row-requires
+    mul-out
+    array-set-from-out
+    add-from
+    add-i
+    loop-less
+    loop-again
+    returns)

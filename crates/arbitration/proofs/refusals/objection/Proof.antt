@@ -1,0 +1,165 @@
+-- The first of 14, 15, 16 and 8 that applies.
+use Prim.Native.Nat.{ℕ, _<_, _≤_}
+use mathlib.Core.Path.{_≡_, sym, ap, _∙_}
+use mathlib.Core.Bool.{true, false}
+use mathlib.Core.List.{List, []}
+use native.Mathlib.Omega.{arith}
+use borrow.Author.Tests.{lt-ltb, le-ltb}
+use lib.ListN.{length, getD}
+use Rattle.arbitration_rules.specs.Outcome.{least, carriedCount, unsettled}
+use Rattle.arbitration_rules.specs.Reply.{reads, firstRead, badAcknowledges}
+use Rattle.arbitration.specs.Rows.{messagesIn}
+use Rattle.arbitration.specs.Refusals.{objectionOf}
+use Rattle.arbitration.proofs.Lengths.{good-at, good-acknowledges, longest-at}
+use Rattle.arbitration.proofs.Held.{in-length, length-at}
+use Rattle.arbitration.proofs.Least.{carried-within}
+use borrow.Author.Needs.{needs}
+use borrow.Author.Needs.{needs}
+use Rattle.arbitration.proofs.refusals.objection.Statement.{statement}
+use Rattle.arbitration.proofs.refusals.objection.Tie as tie
+use Rattle.arbitration.proofs.refusals.objection.Reads as reads
+use Rattle.arbitration.proofs.refusals.objection.Lts as lts
+use Rattle.arbitration.proofs.messages.bad_acknowledges.Reads as bad-acknowledges-reads
+use Rattle.arbitration.proofs.messages.first_read.Reads as first-read-reads
+use Rattle.arbitration.proofs.order.carried_count.Reads as carried-count-reads
+use Rattle.arbitration.proofs.order.least.Reads as least-reads
+use Rattle.arbitration.proofs.order.unsettled.Reads as unsettled-reads
+use Rattle.arbitration.proofs.refusals.short_buffer.Reads as short-buffer-reads
+
+-- what the branches passed: not 14, not 15, not 16
+not-read : (c : tie.Else1) → reads (messagesIn (c .before .before .before .before .args .lengths .now) (c .before .before .before .before .args .rows)) ≡ false
+not-read c =
+    let a = c .before .before .before .before in
+    let list = a .args .lengths .now in
+    let many : length list ≤ length (a .args .rows) = omega (arith, a .pre .0 .few) in
+    let messages = messagesIn list (a .args .rows) in
+    le-ltb (firstRead messages) (length messages)
+    (rw (in-length list (a .args .rows) many, ← c .before .first-read .ensures) (c .if1 .left))
+
+good-bits : (c : tie.Else2) → badAcknowledges (c .before .before .before .before .before .before .args .lengths .now) (c .before .before .before .before .before .before .args .acks .now) ≡ false
+good-bits c = sym (c .before .bad-acknowledges .ensures) ∙ c .if2 .left
+
+settled : (c : tie.Else3) → unsettled (messagesIn (c .before .before .before .before .before .before .before .before .before .args .lengths .now) (c .before .before .before .before .before .before .before .before .before .args .rows)) (c .before .before .before .before .before .before .before .before .before .args .acks .now) ≡ false
+settled c = sym (c .before .unsettled .ensures) ∙ c .if3 .left
+
+k-is : (c : tie.After-carried-count)
+    → c .carried-count .result ≡ carriedCount (least (messagesIn (c .before .before .before .before .before .before .before .before .before .before .before .args .lengths .now) (c .before .before .before .before .before .before .before .before .before .before .before .args .rows))) (c .before .before .before .before .before .before .before .before .before .before .before .args .acks .now)
+k-is c =
+    let a = c .before .before .before .before .before .before .before .before .before .before .before in
+    let list = a .args .lengths .now in
+    let rows = a .args .rows in
+    let many : length list ≤ length rows = omega (arith, a .pre .0 .few) in
+    let best = c .before .before .before .before .least .ensures in
+    c .carried-count .ensures (getD (messagesIn list rows) (c .before .before .before .before .least .result) [])
+    (length-at list rows (a .pre .0) many (c .before .before .before .before .least .result) (best .within))
+        ∙ ap (λ (message : List ℕ). carriedCount message (a .args .acks .now)) (best .same)
+
+first-read-requires : tie.Need-first-read-requires
+first-read-requires c κs = search needs
+
+returns : tie.Need-returns
+unfolding objectionOf
+returns c =
+    let a = c .before .before .before .before in
+    let list = a .args .lengths .now in
+    let many : length list ≤ length (a .args .rows) = omega (arith, a .pre .0 .few) in
+    let is = c .before .first-read .ensures in
+    let messages = messagesIn list (a .args .rows) in
+    let read : reads messages ≡ true =
+        lt-ltb (firstRead messages) (length messages) (rw (in-length list (a .args .rows) many, ← is) (c .if1 .taken)) in
+    rw (read, is)
+
+bad-acknowledges-requires : tie.Need-bad-acknowledges-requires
+bad-acknowledges-requires c κs = search needs
+
+returns-2 : tie.Need-returns-2
+unfolding objectionOf
+returns-2 c = rw (not-read (c .before .before), ← c .before .bad-acknowledges .ensures, c .if2 .taken)
+
+least-requires : tie.Need-least-requires
+least-requires c κs = search needs
+
+unsettled-requires : tie.Need-unsettled-requires
+unsettled-requires c κs =
+    let a = c .before .before .before .before .before .before .before in
+    let good = good-acknowledges (a .args .lengths .now) (a .args .acks .now) (good-bits (c .before)) in
+    (a .pre .0, c .least .ensures, omega arith, good .1)
+
+returns-3 : tie.Need-returns-3
+unfolding objectionOf
+returns-3 c = rw (not-read (c .before .before .before .before .before), good-bits (c .before .before .before), ← c .before .unsettled .ensures, c .if3 .taken)
+
+mul-carried-count : tie.Need-mul-carried-count
+mul-carried-count c = search needs
+
+shared-slice-read-carried-count : tie.Need-shared-slice-read-carried-count
+shared-slice-read-carried-count c = search needs
+
+cast-carried-count : tie.Need-cast-carried-count
+cast-carried-count c = omega (arith, c .shared-slice-known3 .given (c .before .before .before .least .result))
+
+carried-count-requires : tie.Need-carried-count-requires
+carried-count-requires c κs =
+    let a = c .before .before .before .before .before .before .before .before .before .before in
+    let good = good-acknowledges (a .args .lengths .now) (a .args .acks .now) (good-bits (c .before .before .before .before)) in
+    omega (arith, longest-at (a .args .lengths .now) (c .before .before .before .least .result) (c .before .before .before .least .ensures .within))
+
+short-buffer-requires : tie.Need-short-buffer-requires
+short-buffer-requires c κs =
+    let a = c .before .before .before .before .before .before .before .before .before .before .before in
+    let list = a .args .lengths .now in
+    let rows = a .args .rows in
+    let many : length list ≤ length rows = omega (arith, a .pre .0 .few) in
+    let best = c .before .before .before .before .least .ensures in
+    let index = c .before .before .before .before .least .result in
+    omega (
+      arith,
+      k-is c,
+      carried-within (least (messagesIn list rows)) (a .args .acks .now),
+      ap (length {A = ℕ}) (best .same),
+      length-at list rows (a .pre .0) many index (best .within),
+      good-at list index (a .pre .0 .fit) (best .within) .1,
+    )
+
+returns-4 : tie.Need-returns-4
+unfolding objectionOf
+returns-4 c =
+    rw (
+      not-read (c .before .before .before .before .before .before .before .before .before),
+      good-bits (c .before .before .before .before .before .before .before),
+      settled (c .before .before .before .before),
+      ← k-is (c .before .before),
+      ← c .before .short-buffer .ensures,
+      c .if4 .taken,
+    )
+
+returns-5 : tie.Need-returns-5
+unfolding objectionOf
+returns-5 c =
+    rw (
+      not-read (c .before .before .before .before .before .before .before .before .before),
+      good-bits (c .before .before .before .before .before .before .before),
+      settled (c .before .before .before .before),
+      ← k-is (c .before .before),
+      ← c .before .short-buffer .ensures,
+      c .if4 .left,
+    )
+
+pub objection-spec : {M : Type 1} → statement M
+objection-spec =
+    tie.close
+    (tie.spec
+    first-read-requires
+    returns
+    bad-acknowledges-requires
+    returns-2
+    least-requires
+    unsettled-requires
+    returns-3
+    mul-carried-count
+    shared-slice-read-carried-count
+    cast-carried-count
+    carried-count-requires
+    short-buffer-requires
+    returns-4
+    returns-5)

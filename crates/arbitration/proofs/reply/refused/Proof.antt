@@ -1,0 +1,19 @@
+-- Powered-up modules, and 0 for all else.
+use Rattle.arbitration_rules.specs.Reply.{refused}
+use borrow.Author.Needs.{needs}
+use borrow.Author.Needs.{needs}
+use Rattle.arbitration.proofs.reply.refused.Statement.{statement}
+use Rattle.arbitration.proofs.reply.refused.Tie as tie
+use Rattle.arbitration.proofs.reply.refused.Reads as reads
+use Rattle.arbitration.proofs.reply.refused.Lts as lts
+use Rattle.usi.proofs.Usi.power_up.Reads as power-up-reads
+
+power-up-requires : tie.Need-power-up-requires
+power-up-requires c κs = search needs
+
+returns : tie.Need-returns
+unfolding refused
+returns c = rw (c .power-up .ensures)
+
+pub refused-spec : {M : Type 1} → statement M
+refused-spec = tie.close (tie.spec power-up-requires returns)

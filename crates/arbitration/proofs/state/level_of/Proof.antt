@@ -1,0 +1,27 @@
+-- Each line is 0 or 1.
+use native.Mathlib.Omega.{arith}
+use Rattle.arbitration.proofs.Steps.{bool-byte}
+use borrow.Author.Needs.{needs}
+use borrow.Author.Needs.{needs}
+use Rattle.arbitration.proofs.state.level_of.Statement.{statement}
+use Rattle.arbitration.proofs.state.level_of.Tie as tie
+use Rattle.arbitration.proofs.state.level_of.Reads as reads
+use Rattle.arbitration.proofs.state.level_of.Lts as lts
+
+cast-result : tie.Need-cast-result
+cast-result c = search needs
+
+cast-result-2 : tie.Need-cast-result-2
+cast-result-2 c = search needs
+
+mul-result : tie.Need-mul-result
+mul-result c = omega (arith, bool-byte (c .args .sda))
+
+add-result : tie.Need-add-result
+add-result c = omega (arith, bool-byte (c .args .scl), bool-byte (c .args .sda))
+
+returns : tie.Need-returns
+returns c = search needs
+
+pub level-of-spec : {M : Type 1} → statement M
+level-of-spec = tie.close (tie.spec cast-result cast-result-2 mul-result add-result returns)
