@@ -4,11 +4,12 @@ use mathlib.Core.Bool.{Bool, cond, false, _||_}
 use mathlib.Core.List.{List, map}
 use mir.Val.{boolByte}
 use lib.Dec.{ltb}
-use lib.ListN.{getD}
+use lib.ListN.{length, getD}
 use Rattle.usi.specs.declared.Usi.{Usi}
 use Rattle.bus.specs.Buffer.{filled}
 use Rattle.arbitration_rules.specs.declared.Arbitrated.{Arbitrated}
 use Rattle.arbitration_rules.specs.Limits.{maxMasters}
+use Rattle.arbitration_rules.specs.Reply.{arbitrated, carriedAfter, levelsAfter}
 use Rattle.export.specs.Packed.{packed}
 use Rattle.export.specs.Replies.{short}
 
@@ -38,3 +39,50 @@ modulesTable modules table = filled (map packed modules) table
 -- the eight positions likewise
 abbrev pub positionsTable : List ℕ → List ℕ → List ℕ
 positionsTable positions table = filled positions table
+
+-- what is asked of an arbitration: bytes, lengths and acknowledges, and the two buffers and the two tables as they were lent
+pub record Asked : Type 0 where
+  pub bytes : List ℕ
+  pub lengths : List ℕ
+  pub acks : List ℕ
+  pub carried : List ℕ
+  pub levels : List ℕ
+  pub modules : List ℕ
+  pub positions : List ℕ
+
+-- the reply of arbitrate to it
+abbrev pub replyTo : Asked → Arbitrated
+replyTo asked =
+    arbitrated (asked .bytes) (asked .lengths) (asked .acks) (length (asked .carried)) (length (asked .levels))
+
+-- the answer, and what is lent as it is handed back
+pub record Handed : Type 0 where
+  pub answer : ℕ
+  pub carried : List ℕ
+  pub levels : List ℕ
+  pub modules : List ℕ
+  pub positions : List ℕ
+
+abbrev pub ran : Asked → Handed
+ran asked =
+    record {
+      answer = packedReply (replyTo asked);
+      carried = carriedAfter (asked .bytes) (asked .lengths) (asked .acks) (replyTo asked .refusal) (asked .carried);
+      levels = levelsAfter (asked .bytes) (asked .lengths) (asked .acks) (replyTo asked .refusal) (asked .levels);
+      modules = modulesTable (replyTo asked .modules) (asked .modules);
+      positions = positionsTable (replyTo asked .positions) (asked .positions);
+    }
+
+abbrev pub untouched : Asked → Handed
+untouched asked =
+    record {
+      answer = notRun;
+      carried = asked .carried;
+      levels = asked .levels;
+      modules = asked .modules;
+      positions = asked .positions;
+    }
+
+-- with short tables nothing is touched
+unfoldable pub handed : Asked → Handed
+handed asked = cond (shortTable (length (asked .modules)) (length (asked .positions))) (untouched asked) (ran asked)
