@@ -37,7 +37,7 @@ run-count : (messages : List (List ℕ)) (acknowledges : List ℕ) → Arbitrati
 unfolding carriedOf
 run-count messages acknowledges given =
     ap length (ended messages acknowledges given .bytes)
-        ∙ length-take-le _ (least messages) (carried-within (least messages) acknowledges)
+    ∙ length-take-le _ (least messages) (carried-within (least messages) acknowledges)
 
 module _ (bytes lengths acknowledges : List ℕ) (small : Bytes bytes) (count : badCount lengths ≡ false)
     (sizes : badLengths bytes lengths ≡ false) (answers : badAcknowledges lengths acknowledges ≡ false) where

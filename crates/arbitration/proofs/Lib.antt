@@ -8,7 +8,6 @@ pub mod Mapped
 pub mod Steps
 pub mod Turns
 pub mod Loading
-
 pub mod Bytes
 pub mod Sending
 pub mod Ending

@@ -38,10 +38,10 @@ module _ (bytes lengths acknowledges : List ℕ) (carriedRoom levelRoom : ℕ) w
     halved : (count sizes : Bool)
         → (cond count (numbered 12 0) (cond sizes (numbered 13 where-bad) (numbered 0 0)) .number ≡ 0 → ⊥)
         → (cond count 12 (cond sizes 13 number)
-            ≡ cond count (numbered 12 0) (cond sizes (numbered 13 where-bad) (numbered 0 0)) .number)
+        ≡ cond count (numbered 12 0) (cond sizes (numbered 13 where-bad) (numbered 0 0)) .number)
         × (cond (eqb (cond count (numbered 12 0) (cond sizes (numbered 13 where-bad) (numbered 0 0)) .number) 13) where-bad
-            (cond (eqb (cond count (numbered 12 0) (cond sizes (numbered 13 where-bad) (numbered 0 0)) .number) 14) where-read 0)
-            ≡ cond count (numbered 12 0) (cond sizes (numbered 13 where-bad) (numbered 0 0)) .place)
+        (cond (eqb (cond count (numbered 12 0) (cond sizes (numbered 13 where-bad) (numbered 0 0)) .number) 14) where-read 0)
+        ≡ cond count (numbered 12 0) (cond sizes (numbered 13 where-bad) (numbered 0 0)) .place)
     halved true sizes some = (refl, refl)
     halved false true some = (refl, refl)
     halved false false some = absurd (some refl)
@@ -71,9 +71,9 @@ module _ (bytes lengths acknowledges : List ℕ) (carriedRoom levelRoom : ℕ) w
   objection-agrees count sizes =
       let all = messagesOf lengths bytes in
       let two =
-          objected (reads all) (badAcknowledges lengths acknowledges) (unsettled all acknowledges)
-          (shortBuffer (carriedCount (least all) acknowledges) carriedRoom levelRoom)
-          (firstBadLength lengths) (firstRead all) in
+      objected (reads all) (badAcknowledges lengths acknowledges) (unsettled all acknowledges)
+      (shortBuffer (carriedCount (least all) acknowledges) carriedRoom levelRoom)
+      (firstBadLength lengths) (firstRead all) in
       record { number = rw (count, sizes) (two .0); place-is = two .1 }
 
   -- a refused reply, and the buffers as they were
@@ -107,7 +107,7 @@ module _ (bytes lengths acknowledges : List ℕ) (carriedRoom levelRoom : ℕ) w
       let all = messagesOf lengths bytes in
       let k = carriedCount (least all) acknowledges in
       let passed = cases (reads all) (badAcknowledges lengths acknowledges) (unsettled all acknowledges)
-          (shortBuffer k carriedRoom levelRoom) none in
+      (shortBuffer k carriedRoom levelRoom) none in
       let two = or-false (ltb carriedRoom k) (ltb levelRoom (levelCount k)) (passed .1) in
       (passed .0, ltb-false _ _ (two .0), ltb-false _ _ (two .1))
     where

@@ -52,7 +52,6 @@ objected : (c : tie.After-objection)
     ≡ objectionOf (c .before .before .before .before .before .before .before .before .before .before .args .lengths .now) (messagesOf (c .before .before .before .before .before .before .before .before .before .before .args .lengths .now) (c .before .before .before .before .before .before .before .before .before .before .args .bytes .now)) (c .before .before .before .before .before .before .before .before .before .before .args .acks .now) (length (c .before .before .before .before .before .before .before .before .before .before .args .carried .now)) (length (c .before .before .before .before .before .before .before .before .before .before .args .levels .now))
 objected c = rw (← held (c .before)) (c .objection .ensures)
 
-
 -- src/lib.rt:27:9
 malformed-requires : tie.Need-malformed-requires
 malformed-requires c κs = search needs
@@ -67,7 +66,7 @@ returns c =
     let found = c .before .before .before .malformed .ensures in
     let some = c .before .if1 .taken in
     let agrees : Agrees (c .before .before .before .before .before .before .before .before .before .args .bytes .now) (c .before .before .before .before .before .before .before .before .before .args .lengths .now) (c .before .before .before .before .before .before .before .before .before .args .acks .now) (length (c .before .before .before .before .before .before .before .before .before .args .carried .now)) (length (c .before .before .before .before .before .before .before .before .before .args .levels .now)) (c .before .before .before .malformed .result) =
-        rw found (malformed-agrees (c .before .before .before .before .before .before .before .before .before .args .bytes .now) (c .before .before .before .before .before .before .before .before .before .args .lengths .now) (c .before .before .before .before .before .before .before .before .before .args .acks .now) (length (c .before .before .before .before .before .before .before .before .before .args .carried .now)) (length (c .before .before .before .before .before .before .before .before .before .args .levels .now)) (λ none. some (ap (λ (r : Refusal). r .number) found ∙ none))) in
+    rw found (malformed-agrees (c .before .before .before .before .before .before .before .before .before .args .bytes .now) (c .before .before .before .before .before .before .before .before .before .args .lengths .now) (c .before .before .before .before .before .before .before .before .before .args .acks .now) (length (c .before .before .before .before .before .before .before .before .before .args .carried .now)) (length (c .before .before .before .before .before .before .before .before .before .args .levels .now)) (λ none. some (ap (λ (r : Refusal). r .number) found ∙ none))) in
     let is = c .refused .ensures in (
       refused-reply _ _ _ _ _ _ agrees some _ is,
       (
@@ -96,7 +95,7 @@ returns-2 c =
     let formed = passed (c .before .before .before .before .before) in
     let some = c .before .if2 .taken in
     let agrees : Agrees (c .before .before .before .before .before .before .before .before .before .before .before .before .before .args .bytes .now) (c .before .before .before .before .before .before .before .before .before .before .before .before .before .args .lengths .now) (c .before .before .before .before .before .before .before .before .before .before .before .before .before .args .acks .now) (length (c .before .before .before .before .before .before .before .before .before .before .before .before .before .args .carried .now)) (length (c .before .before .before .before .before .before .before .before .before .before .before .before .before .args .levels .now)) (c .before .before .before .objection .result) =
-        rw (objected (c .before .before .before)) (objection-agrees (c .before .before .before .before .before .before .before .before .before .before .before .before .before .args .bytes .now) (c .before .before .before .before .before .before .before .before .before .before .before .before .before .args .lengths .now) (c .before .before .before .before .before .before .before .before .before .before .before .before .before .args .acks .now) (length (c .before .before .before .before .before .before .before .before .before .before .before .before .before .args .carried .now)) (length (c .before .before .before .before .before .before .before .before .before .before .before .before .before .args .levels .now)) (formed .0) (formed .1)) in
+    rw (objected (c .before .before .before)) (objection-agrees (c .before .before .before .before .before .before .before .before .before .before .before .before .before .args .bytes .now) (c .before .before .before .before .before .before .before .before .before .before .before .before .before .args .lengths .now) (c .before .before .before .before .before .before .before .before .before .before .before .before .before .args .acks .now) (length (c .before .before .before .before .before .before .before .before .before .before .before .before .before .args .carried .now)) (length (c .before .before .before .before .before .before .before .before .before .before .before .before .before .args .levels .now)) (formed .0) (formed .1)) in
     let is = c .refused2 .ensures in (
       refused-reply _ _ _ _ _ _ agrees some _ is,
       (
@@ -111,11 +110,10 @@ run-requires c κs =
     let a = c .before .before .before .before .before .before .before .before .before .before .before .before .before .before .args in
     let formed = passed (c .before .before .before .before .before .before) in
     let none = sym (ap (λ (r : Refusal). r .number) (objected (c .before .before .before .before))) ∙ c .before .before .if2 .left in
-    let room = roomy (c .before .before .before .before .before .before .before .before .before .before .before .before .before .before .args .bytes .now) (c .before .before .before .before .before .before .before .before .before .before .before .before .before .before .args .lengths .now) (c .before .before .before .before .before .before .before .before .before .before .before .before .before .before .args .acks .now) (length (c .before .before .before .before .before .before .before .before .before .before .before .before .before .before .args .carried .now)) (length (c .before .before .before .before .before .before .before .before .before .before .before .before .before .before .args .levels .now)) none in
-    (
+    let room = roomy (c .before .before .before .before .before .before .before .before .before .before .before .before .before .before .args .bytes .now) (c .before .before .before .before .before .before .before .before .before .before .before .before .before .before .args .lengths .now) (c .before .before .before .before .before .before .before .before .before .before .before .before .before .before .args .acks .now) (length (c .before .before .before .before .before .before .before .before .before .before .before .before .before .before .args .carried .now)) (length (c .before .before .before .before .before .before .before .before .before .before .before .before .before .before .args .levels .now)) none in (
       cut-rowed (a .lengths .now) (a .bytes .now) _ (cut (c .before .before .before .before .before .before)) (c .before .before .before .before .before .rows .ensures),
       rw (held (c .before .before .before .before .before))
-      (run-room (a .bytes .now) (a .lengths .now) (a .acks .now) (small (c .before .before .before .before .before .before .before .before .before .before .before .before .before)) (formed .0) (formed .1) (room .0) _ _ (room .1) (room .2)),
+          (run-room (a .bytes .now) (a .lengths .now) (a .acks .now) (small (c .before .before .before .before .before .before .before .before .before .before .before .before .before)) (formed .0) (formed .1) (room .0) _ _ (room .1) (room .2)),
     )
 
 -- src/lib.rt:39:5
@@ -143,7 +141,7 @@ returns-3 c =
     let room = roomy (c .before .before .before .before .before .before .before .before .before .before .before .before .before .before .before .before .before .before .before .before .before .before .args .bytes .now) (c .before .before .before .before .before .before .before .before .before .before .before .before .before .before .before .before .before .before .before .before .before .before .args .lengths .now) (c .before .before .before .before .before .before .before .before .before .before .before .before .before .before .before .before .before .before .before .before .before .before .args .acks .now) (length (c .before .before .before .before .before .before .before .before .before .before .before .before .before .before .before .before .before .before .before .before .before .before .args .carried .now)) (length (c .before .before .before .before .before .before .before .before .before .before .before .before .before .before .before .before .before .before .before .before .before .before .args .levels .now)) none in
     let arbitration = given bytes lengths acks (small (c .before .before .before .before .before .before .before .before .before .before .before .before .before .before .before .before .before .before .before .before .before)) (formed .0) (formed .1) (room .0) in
     let ran : Ran (run (messagesOf lengths bytes) acks) (length lengths) (c .before .before .before .before .before .before .before .run .result) (a .carried .now) _ (a .levels .now) _ =
-        rw (held (c .before .before .before .before .before .before .before .before .before .before .before .before .before)) at (c .before .before .before .before .before .before .before .run .ensures) in
+    rw (held (c .before .before .before .before .before .before .before .before .before .before .before .before .before)) at (c .before .before .before .before .before .before .before .run .ensures) in
     let few = good-count lengths (formed .0) .1 in
     let eight = c .answered .ensures .1 in
     let is = c .answered .ensures .0 ∙ answered-is _ _ _ _ _ _ _ ran few eight in
@@ -154,7 +152,7 @@ returns-3 c =
         (
           accepted-levels bytes lengths acks _ is _ _ (levels-kept _ _ _ _ _ _ _ ran few eight),
           λ unrefused.
-            shown-is _ _ _ _ _ _ _ ran few eight _ is ∙ demand3 (messagesOf lengths bytes) acks arbitration,
+              shown-is _ _ _ _ _ _ _ ran few eight _ is ∙ demand3 (messagesOf lengths bytes) acks arbitration,
         ),
       ),
     )
