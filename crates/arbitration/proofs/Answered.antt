@@ -72,8 +72,8 @@ module _ (bus : Bus) (count : ℕ) (ended : Ended) (entry exit levels levelsExit
       let whole = sym (take-append-drop count masters) ∙ ap₂ _++_ (sym masters-are) (ran .idle) in
       let left : maxMasters - count ≡ maxMasters - length (map f (bus .masters)) = omega (arith, length-map (bus .masters) f, masters-count) in
       ap (map f) whole
-          ∙ map-padded f absent (bus .masters) (maxMasters - count)
-          ∙ ap (λ (n : ℕ). map f (bus .masters) ++ replicate n (f absent)) left
+      ∙ map-padded f absent (bus .masters) (maxMasters - count)
+      ∙ ap (λ (n : ℕ). map f (bus .masters) ++ replicate n (f absent)) left
 
   pub answered-is : replyOf (ended .state .masters) (ended .k) ≡ answered bus
   unfolding replyOf answered
@@ -96,6 +96,6 @@ module _ (bus : Bus) (count : ℕ) (ended : Ended) (entry exit levels levelsExit
   shown-is reply is =
       let all = answered bus in
       let fates : take count (fatesOf (all .modules) (all .contending) (all .positions)) ≡ map fateOf (bus .masters) =
-          ap (λ (n : ℕ). take n (fatesOf (all .modules) (all .contending) (all .positions))) (sym masters-count)
-              ∙ fates-first (bus .masters) _ _ _ in
+      ap (λ (n : ℕ). take n (fatesOf (all .modules) (all .contending) (all .positions))) (sym masters-count)
+      ∙ fates-first (bus .masters) _ _ _ in
       rw (is, bytes-count, ← carried-are, ← levels-are, fates)

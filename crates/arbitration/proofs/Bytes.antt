@@ -47,7 +47,7 @@ unfolding sampled recorded bitTurn loaded opened closed byteTurn
 byte-turn-carried messages index acknowledge bus =
     let before = dataTurns 8 (9 * index) (opened messages index bus) in
     length-append (before .carried) (before .byte ∷ [])
-        ∙ ap (λ (list : List ℕ). length list + 1) (data-turns-carried 8 (9 * index) (opened messages index bus))
+    ∙ ap (λ (list : List ℕ). length list + 1) (data-turns-carried 8 (9 * index) (opened messages index bus))
 
 either-carries : (n : ℕ) (ends : Bool) (one other : Bus) → n ≤ length (one .carried) → n ≤ length (other .carried)
     → n ≤ length (cond ends one other .carried)

@@ -24,11 +24,11 @@ row-more bytes i less fits =
     let byte = getD bytes i 0 in
     let zeros : List ℕ = replicate (maxLength - suc i) 0 in
     ap (λ (list : List ℕ). set list i byte) (row-taken bytes i (omega arith) ∙ ap (λ (n : ℕ). take i bytes ++ replicate n 0) left)
-        ∙ set-at (take i bytes) 0 zeros byte i (length-take-le i bytes (omega arith))
-        ∙ sym (append-snoc (take i bytes) byte zeros)
-        ∙ ap (λ (list : List ℕ). list ++ zeros) (sym (take-suc bytes i 0 less))
-        ∙ sym (row-taken bytes (suc i) less)
-        ∙ ap (λ (n : ℕ). rowOf (take n bytes)) (sym (add-one i))
+    ∙ set-at (take i bytes) 0 zeros byte i (length-take-le i bytes (omega arith))
+    ∙ sym (append-snoc (take i bytes) byte zeros)
+    ∙ ap (λ (list : List ℕ). list ++ zeros) (sym (take-suc bytes i 0 less))
+    ∙ sym (row-taken bytes (suc i) less)
+    ∙ ap (λ (n : ℕ). rowOf (take n bytes)) (sym (add-one i))
 
 -- the first i messages are cut, and end before from
 pub record Cutting (bytes lengths : List ℕ) (out : List (List ℕ)) (from i : ℕ) : Type 0 where
@@ -88,6 +88,6 @@ pub cutting-done : (bytes lengths : List ℕ) (out : List (List ℕ)) (from i : 
 cutting-done bytes lengths out from i cutting done =
     let end : length lengths ≡ i = omega (arith, cutting .within) in
     ap (λ (n : ℕ). take n out) end
-        ∙ sym (append-nil (take i out))
-        ∙ ap (λ (l : List ℕ). take i out ++ map rowOf (messagesOf l (drop from bytes))) (sym (drop-of-length-le lengths done))
-        ∙ sym (cutting .same)
+    ∙ sym (append-nil (take i out))
+    ∙ ap (λ (l : List ℕ). take i out ++ map rowOf (messagesOf l (drop from bytes))) (sym (drop-of-length-le lengths done))
+    ∙ sym (cutting .same)

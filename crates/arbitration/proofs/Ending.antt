@@ -50,7 +50,7 @@ module _ (messages : List (List ℕ)) (acknowledges : List ℕ) (count : ℕ) (m
   ran third fourth k carried carriedAfter levelsSent levelsAfter sent stop within levels-within =
       let end : levelsBefore k + 3 ≡ 5 + 18 * k = omega arith in
       let sent-rest =
-          rest-after 2 (levelsBefore k) levelsSent levelsStarted levels (omega arith) (sent .levels-rest) (start .rest) in
+      rest-after 2 (levelsBefore k) levelsSent levelsStarted levels (omega arith) (sent .levels-rest) (start .rest) in
       record {
         within = within;
         levels-within = levels-within;
@@ -64,9 +64,9 @@ module _ (messages : List (List ℕ)) (acknowledges : List ℕ) (count : ℕ) (m
         masters = stop .count ∙ sent .count ∙ start .count ∙ ready .same;
         idle =
             ap (λ (n : ℕ). drop n (fourth .masters)) (sym (stop .count ∙ sent .count ∙ start .count ∙ ready .same))
-                ∙ stop .idle
-                ∙ sent .idle
-                ∙ start .idle
-                ∙ ap (λ (n : ℕ). drop n (first .masters)) (ready .same)
-                ∙ ready .idle;
+            ∙ stop .idle
+            ∙ sent .idle
+            ∙ start .idle
+            ∙ ap (λ (n : ℕ). drop n (first .masters)) (ready .same)
+            ∙ ready .idle;
       }

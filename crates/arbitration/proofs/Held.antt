@@ -80,8 +80,8 @@ module _ (lengths : List ℕ) (rows : List (List ℕ)) (rowed : Rowed lengths ro
   row-at =
       let inside : i < length (messagesIn lengths rows) = rw in-length less in
       sym (getD-take (length lengths) rows i [] less)
-          ∙ ap (λ (list : List (List ℕ)). getD list i []) (rowed .same)
-          ∙ map-at (messagesIn lengths rows) i inside
+      ∙ ap (λ (list : List (List ℕ)). getD list i []) (rowed .same)
+      ∙ map-at (messagesIn lengths rows) i inside
 
   pub byte-at : (j : ℕ) → getD (getD rows i []) j 0 ≡ getD (getD (messagesIn lengths rows) i []) j 0
   byte-at j =

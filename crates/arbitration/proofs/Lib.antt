@@ -8,10 +8,10 @@ pub mod Mapped
 pub mod Steps
 pub mod Turns
 pub mod Loading
-
 pub mod Bytes
 pub mod Sending
 pub mod Ending
 pub mod Refused
 pub mod Answered
 pub mod Accepted
+pub mod Contract

@@ -85,8 +85,8 @@ module _ (count : ℕ) where
       → take count (enteredOf count) ≡ map (λ message. entering) messages
   entered-front messages same =
       take-at (replicate count entering) (replicate (maxMasters - count) absent) count (length-replicate count entering)
-          ∙ ap (λ (n : ℕ). replicate n entering) (sym same)
-          ∙ entered-messages messages
+      ∙ ap (λ (n : ℕ). replicate n entering) (sym same)
+      ∙ entered-messages messages
 
   pub entered-rest : drop count (enteredOf count) ≡ replicate (maxMasters - count) absent
   entered-rest =
@@ -125,7 +125,7 @@ module _ (sent : ℕ) (masters : List Master) (lengths : List ℕ) (within : len
   unfolding throughs
   throughs-at i none less =
       zip-at (isThrough sent) none 0 false (take (length lengths) masters) lengths i (rw taken-length less) less
-          ∙ ap (λ (master : Master). isThrough sent master (getD lengths i 0)) (getD-take (length lengths) masters i none less)
+      ∙ ap (λ (master : Master). isThrough sent master (getD lengths i 0)) (getD-take (length lengths) masters i none less)
 
   pub throughs-any : (messages : List (List ℕ)) → lengths ≡ map length messages
       → any itself (throughs sent masters lengths) ≡ through messages sent (take (length lengths) masters)
@@ -134,5 +134,5 @@ module _ (sent : ℕ) (masters : List Master) (lengths : List ℕ) (within : len
       let list = take (length lengths) masters in
       ap (any itself)
       (ap (zipWith (isThrough sent) list) is
-          ∙ zip-map (isThrough sent) (λ master message. isThrough sent master (length message)) length (λ master message. refl)
-          list messages)
+      ∙ zip-map (isThrough sent) (λ master message. isThrough sent master (length message)) length (λ master message. refl)
+      list messages)

@@ -38,10 +38,10 @@ module _ (bytes lengths acknowledges : List ℕ) (carriedRoom levelRoom : ℕ) w
     halved : (count sizes : Bool)
         → (cond count (numbered 12 0) (cond sizes (numbered 13 where-bad) (numbered 0 0)) .number ≡ 0 → ⊥)
         → (cond count 12 (cond sizes 13 number)
-            ≡ cond count (numbered 12 0) (cond sizes (numbered 13 where-bad) (numbered 0 0)) .number)
+        ≡ cond count (numbered 12 0) (cond sizes (numbered 13 where-bad) (numbered 0 0)) .number)
         × (cond (eqb (cond count (numbered 12 0) (cond sizes (numbered 13 where-bad) (numbered 0 0)) .number) 13) where-bad
-            (cond (eqb (cond count (numbered 12 0) (cond sizes (numbered 13 where-bad) (numbered 0 0)) .number) 14) where-read 0)
-            ≡ cond count (numbered 12 0) (cond sizes (numbered 13 where-bad) (numbered 0 0)) .place)
+        (cond (eqb (cond count (numbered 12 0) (cond sizes (numbered 13 where-bad) (numbered 0 0)) .number) 14) where-read 0)
+        ≡ cond count (numbered 12 0) (cond sizes (numbered 13 where-bad) (numbered 0 0)) .place)
     halved true sizes some = (refl, refl)
     halved false true some = (refl, refl)
     halved false false some = absurd (some refl)
@@ -71,32 +71,10 @@ module _ (bytes lengths acknowledges : List ℕ) (carriedRoom levelRoom : ℕ) w
   objection-agrees count sizes =
       let all = messagesOf lengths bytes in
       let two =
-          objected (reads all) (badAcknowledges lengths acknowledges) (unsettled all acknowledges)
-          (shortBuffer (carriedCount (least all) acknowledges) carriedRoom levelRoom)
-          (firstBadLength lengths) (firstRead all) in
+      objected (reads all) (badAcknowledges lengths acknowledges) (unsettled all acknowledges)
+      (shortBuffer (carriedCount (least all) acknowledges) carriedRoom levelRoom)
+      (firstBadLength lengths) (firstRead all) in
       record { number = rw (count, sizes) (two .0); place-is = two .1 }
-
-  -- a refused reply, and the buffers as they were
-  module _ (found : Refusal) (agrees : Agrees bytes lengths acknowledges carriedRoom levelRoom found)
-      (some : found .number ≡ 0 → ⊥) (reply : Arbitrated) (is : reply ≡ refused (found .number) (found .place)) where
-    pub refused-reply : reply ≡ arbitrated bytes lengths acknowledges carriedRoom levelRoom
-    unfolding arbitrated
-    refused-reply = rw (agrees .number, ne-eqb (found .number) 0 some, agrees .place-is) is
-
-    refused-number : reply .refusal ≡ found .number
-    unfolding refused
-    refused-number = ap (λ (r : Arbitrated). r .refusal) is
-
-    pub refused-some : reply .refusal ≡ 0 → ⊥
-    refused-some none = some (sym refused-number ∙ none)
-
-    pub refused-carried : (buffer : List ℕ) → buffer ≡ carriedAfter bytes lengths acknowledges (reply .refusal) buffer
-    unfolding carriedAfter
-    refused-carried buffer = rw (ne-eqb (reply .refusal) 0 refused-some)
-
-    pub refused-levels : (buffer : List ℕ) → buffer ≡ levelsAfter bytes lengths acknowledges (reply .refusal) buffer
-    unfolding levelsAfter
-    refused-levels buffer = rw (ne-eqb (reply .refusal) 0 refused-some)
 
   -- room for k bytes and 5 + 18k levels, where 8 does not apply
   pub roomy : objectionOf lengths (messagesOf lengths bytes) acknowledges carriedRoom levelRoom .number ≡ 0
@@ -107,7 +85,7 @@ module _ (bytes lengths acknowledges : List ℕ) (carriedRoom levelRoom : ℕ) w
       let all = messagesOf lengths bytes in
       let k = carriedCount (least all) acknowledges in
       let passed = cases (reads all) (badAcknowledges lengths acknowledges) (unsettled all acknowledges)
-          (shortBuffer k carriedRoom levelRoom) none in
+      (shortBuffer k carriedRoom levelRoom) none in
       let two = or-false (ltb carriedRoom k) (ltb levelRoom (levelCount k)) (passed .1) in
       (passed .0, ltb-false _ _ (two .0), ltb-false _ _ (two .1))
     where

@@ -23,11 +23,11 @@ pub rest-after : {A : Type 0} (n m : ℕ) (x y z : List A) → n ≤ m → drop 
 rest-after n m x y z before one two =
     let apart : n + (m - n) ≡ m = omega arith in
     one
-        ∙ ap (λ (i : ℕ). drop i y) (sym apart)
-        ∙ sym (drop-drop (m - n) n y)
-        ∙ ap (drop (m - n)) two
-        ∙ drop-drop (m - n) n z
-        ∙ ap (λ (i : ℕ). drop i z) apart
+    ∙ ap (λ (i : ℕ). drop i y) (sym apart)
+    ∙ sym (drop-drop (m - n) n y)
+    ∙ ap (drop (m - n)) two
+    ∙ drop-drop (m - n) n z
+    ∙ ap (λ (i : ℕ). drop i z) apart
 
 -- the first k bytes are carried
 pub record Sending (messages : List (List ℕ)) (acknowledges : List ℕ) (self state : BusState) (k : ℕ)
@@ -113,7 +113,7 @@ module _ (messages : List (List ℕ)) (acknowledges : List ℕ) (self : BusState
         unfolding turned bus busOf
         both =
             let masters : take (after .count) (after .masters) ≡ byteTurn messages k (getD acknowledges k 0) bus .masters =
-                ap (λ (b : Bus). b .masters) (step .bus) in
+            ap (λ (b : Bus). b .masters) (step .bus) in
             rw (step .bus, add-one, masters) here
 
         module _ (long : length carriedAfter ≡ length entry) (levels-long : length levelsAfter ≡ length entryLevels) where

@@ -79,7 +79,7 @@ recorded-sample state after at entry moved less =
     record {
       bus =
           λ carried.
-            rw (add-one, take-suc-set entry at (after .level) less) (ap noted (moved .bus carried (take at entry)));
+          rw (add-one, take-suc-set entry at (after .level) less) (ap noted (moved .bus carried (take at entry)));
       rest = drop-set-lt (at + 1) entry at (after .level) (omega arith);
       count = moved .count;
       idle = moved .idle;
@@ -120,13 +120,13 @@ module _ {f g : Bus → Bus} {a b c : BusState} where
         record {
           bus =
               λ carried.
-                rw (← add-assoc at one two) (second .bus carried ∙ ap g (first .bus carried));
+              rw (← add-assoc at one two) (second .bus carried ∙ ap g (first .bus carried));
           rest =
               rw (← add-assoc at one two)
               (second .rest
-                  ∙ sym (drop-drop two (at + one) middle)
-                  ∙ ap (drop two) (first .rest)
-                  ∙ drop-drop two (at + one) entry);
+              ∙ sym (drop-drop two (at + one) middle)
+              ∙ ap (drop two) (first .rest)
+              ∙ drop-drop two (at + one) entry);
           count = second .count ∙ first .count;
           idle = second .idle ∙ first .idle;
         }

@@ -40,4 +40,4 @@ enteredOf count = replicate count entering ++ replicate (maxMasters - count) abs
 abbrev pub loadedRows : ℕ → ℕ → List (List ℕ) → List Master → List Master
 loadedRows index count rows masters =
     zipWith (λ master row. written USISRL (getD row index 0) master) (take count masters) (take count rows)
-        ++ drop count masters
+    ++ drop count masters

@@ -17,7 +17,7 @@ fatesOf (usi ∷ modules) [] positions = []
 fatesOf (usi ∷ modules) (still ∷ contending) [] = []
 fatesOf (usi ∷ modules) (still ∷ contending) (position ∷ positions) =
     record { contending = still; position = position; arbitrationLost = on (usi .usictl1) USIAL }
-        ∷ fatesOf modules contending positions
+    ∷ fatesOf modules contending positions
 
 -- the k bytes, the 5 + 18k levels, and the fates of the masters that have a message
 unfoldable pub shown : ℕ → Arbitrated → List ℕ → List ℕ → Outcome

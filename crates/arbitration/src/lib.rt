@@ -4,6 +4,7 @@ ghost use lib.ListN.{length};
 ghost use Rattle.arbitration_rules.specs.Outcome.{outcome};
 ghost use Rattle.arbitration_rules.specs.Reply.{arbitrated, carriedAfter, levelsAfter, messagesOf};
 ghost use Rattle.arbitration.specs.Shown.{shown};
+
 mod masters;
 mod messages;
 mod order;
@@ -18,8 +19,15 @@ pub use arbitration_rules::Operation;
 
 // Runs the arbitration of the messages that lie in bytes one after the other, each of its length, with an acknowledge
 // for each byte of the longest. The carried bytes and the recorded levels go to the two buffers.
-pub fn arbitrate(bytes: &[u8], lengths: &[u32], acks: &[u8], carried: &mut [u8], levels: &mut [u8]) -> Arbitrated
-    ensures reply { λ r. ⌜ r ≡ arbitrated (now (bytes .entry)) (now (lengths .entry)) (now (acks .entry)) (length (now (carried .entry))) (length (now (levels .entry))) ⌝ }
+pub fn arbitrate(
+    bytes: &[u8],
+    lengths: &[u32],
+    acks: &[u8],
+    carried: &mut [u8],
+    levels: &mut [u8],
+) -> Arbitrated
+    ensures reply { λ r. ⌜ r ≡ arbitrated (now (bytes .entry)) (now (lengths .entry)) (now (acks .entry))
+        (length (now (carried .entry))) (length (now (levels .entry))) ⌝ }
     ensures bytes_carried { λ r. ⌜ now (carried .exit) ≡ carriedAfter (now (bytes .entry)) (now (lengths .entry)) (now (acks .entry)) (r .refusal) (now (carried .entry)) ⌝ }
     ensures levels_recorded { λ r. ⌜ now (levels .exit) ≡ levelsAfter (now (bytes .entry)) (now (lengths .entry)) (now (acks .entry)) (r .refusal) (now (levels .entry)) ⌝ }
     ensures demand3 { λ r. ⌜ (r .refusal ≡ 0 → shown (length (now (lengths .entry))) r (now (carried .exit)) (now (levels .exit)) ≡ outcome (messagesOf (now (lengths .entry)) (now (bytes .entry))) (now (acks .entry))) ⌝ }

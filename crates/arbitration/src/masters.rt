@@ -78,7 +78,12 @@ pub(crate) fn entered(count: usize) -> [Master; 8]
 }
 
 // Masters still contending write USISRL: the byte of their message at an index.
-pub(crate) fn load_all(masters: [Master; 8], count: usize, rows: [[u8; 32]; 8], index: usize) -> [Master; 8]
+pub(crate) fn load_all(
+    masters: [Master; 8],
+    count: usize,
+    rows: [[u8; 32]; 8],
+    index: usize,
+) -> [Master; 8]
     requires { ⌜ (count ≤ maxMasters) × (index < maxLength) ⌝ }
     ensures { λ r. ⌜ (r ≡ loadedRows index count rows masters) × (length masters ≡ maxMasters) × (length rows ≡ maxMasters) ⌝ }
 {

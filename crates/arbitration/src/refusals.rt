@@ -21,13 +21,22 @@ pub(crate) fn malformed(bytes: &[u8], lengths: &[u32]) -> Refusal
 {
     let count = lengths.len();
     if (count == 0) | (count > arbitration_rules::MAX_MASTERS) {
-        return Refusal { number: 12, place: 0 };
+        return Refusal {
+            number: 12,
+            place: 0,
+        };
     }
     let bad = messages::first_bad_length(lengths);
     if (bad < count) | (messages::total(lengths) != bytes.len()) {
-        return Refusal { number: 13, place: bad };
+        return Refusal {
+            number: 13,
+            place: bad,
+        };
     }
-    Refusal { number: 0, place: 0 }
+    Refusal {
+        number: 0,
+        place: 0,
+    }
 }
 
 // A buffer is shorter than k bytes, or 5 + 18k levels (8).
@@ -39,24 +48,45 @@ fn short_buffer(k: usize, carried_room: usize, level_room: usize) -> bool
 }
 
 // Of the messages: 14, 15, 16 and 8.
-pub(crate) fn objection(rows: [[u8; 32]; 8], lengths: &[u32], acks: &[u8], carried_room: usize, level_room: usize) -> Refusal
+pub(crate) fn objection(
+    rows: [[u8; 32]; 8],
+    lengths: &[u32],
+    acks: &[u8],
+    carried_room: usize,
+    level_room: usize,
+) -> Refusal
     requires { ⌜ Rowed (now lengths) rows × (0 < length (now lengths)) ⌝ }
     ensures { λ r. ⌜ r ≡ objectionOf (now (lengths .entry)) (messagesIn (now (lengths .entry)) rows) (now (acks .entry)) «carried_room» «level_room» ⌝ }
 {
     let read = messages::first_read(rows, lengths);
     if read < lengths.len() {
-        return Refusal { number: 14, place: read };
+        return Refusal {
+            number: 14,
+            place: read,
+        };
     }
     if messages::bad_acknowledges(lengths, acks) {
-        return Refusal { number: 15, place: 0 };
+        return Refusal {
+            number: 15,
+            place: 0,
+        };
     }
     let least = order::least(rows, lengths);
     if order::unsettled(rows, lengths, least, acks) {
-        return Refusal { number: 16, place: 0 };
+        return Refusal {
+            number: 16,
+            place: 0,
+        };
     }
     let k = order::carried_count(lengths[least] as usize, acks);
     if short_buffer(k, carried_room, level_room) {
-        return Refusal { number: 8, place: 0 };
+        return Refusal {
+            number: 8,
+            place: 0,
+        };
     }
-    Refusal { number: 0, place: 0 }
+    Refusal {
+        number: 0,
+        place: 0,
+    }
 }

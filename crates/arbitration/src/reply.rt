@@ -5,8 +5,8 @@ ghost use Rattle.arbitration_rules.specs.Limits.{maxMasters};
 ghost use Rattle.arbitration_rules.specs.Reply.{refused as refusedReply};
 ghost use Rattle.arbitration.specs.Refusals.{replyOf};
 use arbitration_rules::Arbitrated;
-use arbitration_rules::Master;
 use arbitration_rules::MAX_MASTERS;
+use arbitration_rules::Master;
 use usi::Usi;
 
 // A refused reply.

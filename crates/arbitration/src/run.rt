@@ -8,9 +8,9 @@ ghost use Rattle.arbitration_rules.specs.Limits.{maxMasters, maxLength};
 ghost use Rattle.arbitration_rules.specs.Run.{started as startedStep, stopped as stoppedStep, loaded as loadedStep, opened as openedStep, byteTurn, bytesTurn, run as runOf};
 ghost use Rattle.arbitration.specs.Rows.{Rowed, rowOf, messagesIn};
 ghost use Rattle.arbitration.specs.State.{Moved, Recorded, Loaded, Prepared, Carried, Ran, released, levelsBefore, busOf, Room};
-use arbitration_rules::Operation;
 use crate::masters;
 use crate::state::BusState;
+use arbitration_rules::Operation;
 use usi::Usi;
 
 // The masters at the end, and how many bytes were carried.
@@ -32,7 +32,10 @@ impl BusState {
             level: 0,
             byte: 0,
         };
-        state.write(Usi::USICKCTL, 0x22).write(Usi::USICTL1, 0x41).write(Usi::USICTL0, 0xc8)
+        state
+            .write(Usi::USICKCTL, 0x22)
+            .write(Usi::USICTL1, 0x41)
+            .write(Usi::USICTL0, 0xc8)
     }
 
     // Step 1: START, which records two levels.
@@ -41,7 +44,9 @@ impl BusState {
         ensures { λ r. ⌜ Recorded startedStep self r 0 2 (now (levels .entry)) (now (levels .exit)) ⌝ }
     {
         let idle = self.record_sample(levels, 0);
-        let ready = idle.write(Usi::USISRL, 0x00).write(Usi::USICTL0, 0xce).write(Usi::USICTL0, 0xca);
+        let ready = idle.write(Usi::USISRL, 0x00)
+            .write(Usi::USICTL0, 0xce)
+            .write(Usi::USICTL0, 0xca);
         ready.record_sample(levels, 1).write(Usi::USICTL1, 0x41)
     }
 
@@ -50,10 +55,14 @@ impl BusState {
         requires { ⌜ (self .count ≤ maxMasters) × (at + 3 ≤ length (now levels)) ⌝ }
         ensures { λ r. ⌜ Recorded stoppedStep self r at 3 (now (levels .entry)) (now (levels .exit)) ⌝ }
     {
-        let ready = self.write(Usi::USICTL0, 0xca).write(Usi::USISRL, 0x00).write(Usi::USICNT, 0x01);
+        let ready = self.write(Usi::USICTL0, 0xca)
+            .write(Usi::USISRL, 0x00)
+            .write(Usi::USICNT, 0x01);
         let low = ready.bit_turn(false, levels, at);
         let freed = low.write(Usi::USISRL, 0xff).write(Usi::USICTL0, 0xce);
-        freed.record_sample(levels, at + 2).write(Usi::USICTL0, 0xc8)
+        freed
+            .record_sample(levels, at + 2)
+            .write(Usi::USICTL0, 0xc8)
     }
 
     fn loaded(self, rows: [[u8; 32]; 8], index: usize) -> BusState
@@ -72,29 +81,48 @@ impl BusState {
         requires { ⌜ (self .count ≤ maxMasters) × (index < maxLength) ⌝ }
         ensures { λ r. ⌜ Loaded (λ messages. openedStep messages index) rows self r ⌝ }
     {
-        self.loaded(rows, index).write(Usi::USICTL0, 0xca).write(Usi::USICNT, 0x08)
+        self.loaded(rows, index)
+            .write(Usi::USICTL0, 0xca)
+            .write(Usi::USICNT, 0x08)
     }
 
     fn closed(self) -> BusState
         requires { ⌜ self .count ≤ maxMasters ⌝ }
         ensures { λ r. ⌜ Moved released self r ⌝ }
     {
-        self.every(Operation::Withdraw).write(Usi::USICTL0, 0xc8).write(Usi::USICNT, 0x01)
+        self.every(Operation::Withdraw)
+            .write(Usi::USICTL0, 0xc8)
+            .write(Usi::USICNT, 0x01)
     }
 
     // Step 2: the byte at an index and its acknowledge. It carries one byte and records 18 levels.
-    fn byte_turn(self, rows: [[u8; 32]; 8], index: usize, ack: u8, carried: &mut [u8], levels: &mut [u8]) -> BusState
+    fn byte_turn(
+        self,
+        rows: [[u8; 32]; 8],
+        index: usize,
+        ack: u8,
+        carried: &mut [u8],
+        levels: &mut [u8],
+    ) -> BusState
         requires { ⌜ (self .count ≤ maxMasters) × (index < maxLength) × (index < length (now carried)) × (levelsBefore (index + 1) ≤ length (now levels)) ⌝ }
         ensures { λ r. ⌜ ((messages : List (List ℕ)) → take (self .count) rows ≡ map rowOf messages → Carried (byteTurn messages index ack) self r index (index + 1) (now (carried .entry)) (now (carried .exit)) (now (levels .entry)) (now (levels .exit))) ⌝ }
     {
         let at = 2 + 18 * index;
-        let sent = self.opened(rows, index).data_turns((9 * index) as u16, levels, at);
+        let sent = self.opened(rows, index)
+            .data_turns((9 * index) as u16, levels, at);
         carried[index] = sent.byte;
         sent.closed().bit_turn(ack == 0, levels, at + 16)
     }
 
     // Step 2 until a byte is not acknowledged or someone is through.
-    fn bytes_turn(self, rows: [[u8; 32]; 8], lengths: &[u32], acks: &[u8], carried: &mut [u8], levels: &mut [u8]) -> Ended
+    fn bytes_turn(
+        self,
+        rows: [[u8; 32]; 8],
+        lengths: &[u32],
+        acks: &[u8],
+        carried: &mut [u8],
+        levels: &mut [u8],
+    ) -> Ended
         requires { ⌜ (self .count ≡ length (now lengths)) × Rowed (now lengths) rows × Room (bytesTurn (messagesIn (now lengths) rows) (now acks) 0 (busOf self [] (take 2 (now levels)))) (now acks) (now carried) (now levels) ⌝ }
         ensures { λ r. ⌜ Carried (bytesTurn (messagesIn (now (lengths .entry)) rows) (now (acks .entry)) 0) self (r .state) 0 (r .k) (now (carried .entry)) (now (carried .exit)) (now (levels .entry)) (now (levels .exit)) × (r .k ≤ length (bytesTurn (messagesIn (now (lengths .entry)) rows) (now (acks .entry)) 0 (busOf self [] (take 2 (now (levels .entry)))) .carried)) ⌝ }
     {
@@ -114,7 +142,13 @@ impl BusState {
 }
 
 // Steps 1 to 4.
-pub(crate) fn run(rows: [[u8; 32]; 8], lengths: &[u32], acks: &[u8], carried: &mut [u8], levels: &mut [u8]) -> Ended
+pub(crate) fn run(
+    rows: [[u8; 32]; 8],
+    lengths: &[u32],
+    acks: &[u8],
+    carried: &mut [u8],
+    levels: &mut [u8],
+) -> Ended
     requires { ⌜ Rowed (now lengths) rows × Room (runOf (messagesIn (now lengths) rows) (now acks)) (now acks) (now carried) (now levels) ⌝ }
     ensures { λ r. ⌜ Ran (runOf (messagesIn (now (lengths .entry)) rows) (now (acks .entry))) (length (now (lengths .entry))) r (now (carried .entry)) (now (carried .exit)) (now (levels .entry)) (now (levels .exit)) ⌝ }
 {

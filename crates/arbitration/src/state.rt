@@ -6,9 +6,9 @@ ghost use lib.ListN.{length, take};
 ghost use Rattle.arbitration_rules.specs.Limits.{maxMasters};
 ghost use Rattle.arbitration_rules.specs.Run.{levelOf, wire as wireOf, every as everyStep, sampled, recorded, pulled as pulledStep, bitTurn, taken as takenStep, dataTurn, dataTurns};
 ghost use Rattle.arbitration.specs.State.{Moved, Recorded};
+use crate::masters;
 use arbitration_rules::Master;
 use arbitration_rules::Operation;
-use crate::masters;
 
 pub(crate) struct BusState {
     // the first count of them have a message

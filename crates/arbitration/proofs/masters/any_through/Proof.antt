@@ -70,7 +70,7 @@ returns-2 c messages same =
     let list = a .lengths .now in
     let few : length list ≤ length (a .t1) = omega arith in
     let done : length (throughs (a .sent) (a .t1) list) ≤ c .before .loop .i =
-        rw (throughs-length (a .sent) (a .t1) list few) (c .loop-test .left) in
+    rw (throughs-length (a .sent) (a .t1) list few) (c .loop-test .left) in
     none-any itself _ _ (c .before .loop .inv .1) done ∙ throughs-any (a .sent) (a .t1) list few messages same
 
 pub any-through-spec : {M : Type 1} → statement M

@@ -31,7 +31,7 @@ cast-count c = omega (arith, c .shared-slice-known .given (c .before .before .lo
 
 returns : tie.Need-returns Inv-loop μ-loop
 returns c = found-first badLength _ _ 0 (c .before .before .before .loop .inv) (omega arith) (c .if1 .taken)
-        ∙ sym (bad-length-first (c .before .before .before .before .args .lengths .now))
+    ∙ sym (bad-length-first (c .before .before .before .before .args .lengths .now))
 
 add-i : tie.Need-add-i Inv-loop μ-loop
 add-i c = search needs
@@ -44,7 +44,7 @@ loop-again c = passed-more badLength _ _ 0 (c .before .before .before .loop .inv
 
 returns-2 : tie.Need-returns-2 Inv-loop μ-loop
 returns-2 c = none-first badLength _ _ (c .before .loop .inv) (omega arith)
-        ∙ sym (bad-length-first (c .before .before .args .lengths .now))
+    ∙ sym (bad-length-first (c .before .before .args .lengths .now))
 
 pub first-bad-length-spec : {M : Type 1} → statement M
 first-bad-length-spec =

@@ -46,7 +46,7 @@ returns c =
     let inside : l .i < length (messagesIn list (a .args .t1)) = rw (in-length list (a .args .t1) few) less in
     found-first asksRead _ _ [] (l .inv .1) inside
     (ap (isSet 0) (sym (byte-at list (a .args .t1) (a .pre) few (l .i) less 0)) ∙ sym (c .before .is-set .ensures) ∙ c .if1 .taken)
-        ∙ sym (read-first (messagesIn list (a .args .t1)))
+    ∙ sym (read-first (messagesIn list (a .args .t1)))
 
 add-i : tie.Need-add-i Inv-loop μ-loop
 add-i c = search needs
@@ -64,7 +64,7 @@ loop-again c =
     let inside : l .i < length (messagesIn list (a .args .t1)) = rw (in-length list (a .args .t1) few) less in (
       search needs,
       passed-more asksRead _ _ [] (l .inv .1) inside
-      (ap (isSet 0) (sym (byte-at list (a .args .t1) (a .pre) few (l .i) less 0)) ∙ sym (c .before .is-set .ensures) ∙ c .if1 .left),
+          (ap (isSet 0) (sym (byte-at list (a .args .t1) (a .pre) few (l .i) less 0)) ∙ sym (c .before .is-set .ensures) ∙ c .if1 .left),
     )
 
 returns-2 : tie.Need-returns-2 Inv-loop μ-loop
@@ -73,7 +73,7 @@ returns-2 c =
     let list = a .args .lengths .now in
     let few : length list ≤ length (a .args .t1) = omega (arith, a .pre .few) in
     let done : length (messagesIn list (a .args .t1)) ≤ c .before .loop .i =
-        rw (in-length list (a .args .t1) few) (c .loop-test .left) in
+    rw (in-length list (a .args .t1) few) (c .loop-test .left) in
     none-first asksRead _ _ (c .before .loop .inv .1) done ∙ sym (read-first (messagesIn list (a .args .t1)))
 
 pub first-read-spec : {M : Type 1} → statement M

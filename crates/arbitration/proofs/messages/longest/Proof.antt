@@ -41,7 +41,7 @@ loop-again c =
     let l = c .before .before .before .loop in
     let list = c .before .before .before .before .args .lengths .now in
     let greater : c .if1 .most ≡ max (l .most) (getD list (l .i) 0) =
-        ⊎-elim (λ w. omega arith) (λ w. omega arith) (c .if1 .came) in
+    ⊎-elim (λ w. omega arith) (λ w. omega arith) (c .if1 .came) in
     (search needs, rw greater (most-more list (l .most) (l .i) (l .inv .1) (omega arith)))
 
 returns : tie.Need-returns Inv-loop μ-loop

@@ -85,11 +85,11 @@ loop-again c =
     let is = c .before .at-most .ensures in
     ⊎-elim
     (λ w.
-      rw (w .1)
-      (less, best-changed _ _ _ (l .inv .1) inside (rw (own, other) (sym is ∙ not-true _ (w .0 .taken)))))
+    rw (w .1)
+    (less, best-changed _ _ _ (l .inv .1) inside (rw (own, other) (sym is ∙ not-true _ (w .0 .taken)))))
     (λ w.
-      rw (w .1)
-      (l .inv .0, best-kept _ _ _ (l .inv .1) inside (rw (own, other) (sym is ∙ not-false _ (w .0 .left)))))
+    rw (w .1)
+    (l .inv .0, best-kept _ _ _ (l .inv .1) inside (rw (own, other) (sym is ∙ not-false _ (w .0 .left)))))
     (c .if1 .came)
 
 returns : tie.Need-returns Inv-loop μ-loop

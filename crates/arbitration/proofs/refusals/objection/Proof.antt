@@ -52,7 +52,7 @@ k-is c =
     let best = c .before .before .before .before .least .ensures in
     c .carried-count .ensures (getD (messagesIn list rows) (c .before .before .before .before .least .result) [])
     (length-at list rows (a .pre .0) many (c .before .before .before .before .least .result) (best .within))
-        ∙ ap (λ (message : List ℕ). carriedCount message (a .args .acks .now)) (best .same)
+    ∙ ap (λ (message : List ℕ). carriedCount message (a .args .acks .now)) (best .same)
 
 first-read-requires : tie.Need-first-read-requires
 first-read-requires c κs = search needs
@@ -66,7 +66,7 @@ returns c =
     let is = c .before .first-read .ensures in
     let messages = messagesIn list (a .args .rows) in
     let read : reads messages ≡ true =
-        lt-ltb (firstRead messages) (length messages) (rw (in-length list (a .args .rows) many, ← is) (c .if1 .taken)) in
+    lt-ltb (firstRead messages) (length messages) (rw (in-length list (a .args .rows) many, ← is) (c .if1 .taken)) in
     rw (read, is)
 
 bad-acknowledges-requires : tie.Need-bad-acknowledges-requires

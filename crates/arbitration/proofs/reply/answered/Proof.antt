@@ -17,9 +17,9 @@ use Rattle.usi.proofs.Usi.power_up.Reads as power-up-reads
 abbrev Inv-loop : tie.InvT-loop
 Inv-loop k masters modules₀ contending₀ positions₀ i₀ modules contending positions i =
     (i ≤ 8)
-        × (modules ≡ map (λ (master : Master). master .usi) (take i masters) ++ drop i modules₀)
-        × (contending ≡ map (λ (master : Master). master .contending) (take i masters) ++ drop i contending₀)
-        × (positions ≡ map (λ (master : Master). master .position) (take i masters) ++ drop i positions₀)
+    × (modules ≡ map (λ (master : Master). master .usi) (take i masters) ++ drop i modules₀)
+    × (contending ≡ map (λ (master : Master). master .contending) (take i masters) ++ drop i contending₀)
+    × (positions ≡ map (λ (master : Master). master .position) (take i masters) ++ drop i positions₀)
 
 abbrev μ-loop : tie.MeasureT-loop
 μ-loop k masters modules₀ contending₀ positions₀ i₀ modules contending positions i = 8 - i
@@ -71,8 +71,7 @@ returns : tie.Need-returns Inv-loop μ-loop
 unfolding replyOf
 returns c =
     let l = c .before .loop in
-    let all : length (c .before .before .before .args .t1) ≤ l .i = omega arith in
-    (
+    let all : length (c .before .before .before .args .t1) ≤ l .i = omega arith in (
       rw (
         gathered-all _ _ _ _ _ (l .inv .1) all (search needs),
         gathered-all _ _ _ _ _ (l .inv .2) all (search needs),

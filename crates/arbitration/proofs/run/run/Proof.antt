@@ -32,8 +32,7 @@ bytes-turn-requires c κs =
     let rows = a .args .rows in
     let many = in-length list rows (omega (arith, a .pre .0 .few)) in
     let ready = c .before .before .before .before .before .before .prepared .ensures in
-    let start = c .before .before .before .before .started .ensures in
-    (
+    let start = c .before .before .before .before .started .ensures in (
       start .count ∙ ready .same,
       a .pre .0,
       room-started (messagesIn list rows) (a .args .acks .now) (length list) many _ _ _ _ ready start (a .args .carried .now) (a .pre .1) (c .before .before .before .before .started .kept .1 .0),

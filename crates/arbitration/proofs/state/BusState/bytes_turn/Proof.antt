@@ -68,8 +68,7 @@ returns c =
     let tested = c .before .any-through .ensures messages (in-lengths list rows rowed many) in
     let after = c .before .before .before .before .before .before .before .byte-turn .result in
     let masters = ap (λ (n : ℕ). through messages (l .k + 1) (take n (after .masters))) (step .count ∙ count) in
-    let test = ap (λ (b : Bool). eqb (getD (a .args .acks .now) (l .k) 0) 1 || b) (masters ∙ sym tested) in
-    (
+    let test = ap (λ (b : Bool). eqb (getD (a .args .acks .now) (l .k) 0) 1 || b) (masters ∙ sym tested) in (
       sending-ended _ _ _ _ _ _ _ _ _ (l .inv) (a .pre .2) less _ _ _ step (test ∙ c .if1 .taken),
       sending-next _ _ _ _ _ _ _ _ _ (l .inv) (a .pre .2) less,
     )

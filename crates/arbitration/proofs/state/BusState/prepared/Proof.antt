@@ -43,9 +43,9 @@ returns c =
       same = three .count;
       idle =
           ap (λ (n : ℕ). drop n (c .write3 .result .masters)) (sym (three .count))
-              ∙ three .idle
-              ∙ ap (drop count) entered
-              ∙ entered-rest count;
+          ∙ three .idle
+          ∙ ap (drop count) entered
+          ∙ entered-rest count;
     }
 
 pub prepared-spec : {M : Type 1} → statement M
