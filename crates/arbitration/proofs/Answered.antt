@@ -1,17 +1,16 @@
 -- The reply of a run, and what demand 3 compares of it.
 use Prim.Native.Nat.{ℕ, zero, suc, _+_, _*_, _-_, _≤_}
 use mathlib.Core.Path.{_≡_, refl, sym, ap, ap₂, _∙_}
-use mathlib.Core.Bool.{Bool, false}
+use mathlib.Core.Bool.{Bool}
 use mathlib.Core.List.{List, [], _∷_, _++_, map}
 use native.Mathlib.Omega.{arith}
 use lib.ListN.{length, take, drop, replicate, take-append-drop, length-map}
-use lib.Seq.{length-take-le, take-at}
+use lib.Seq.{length-take-le}
 use Rattle.usi.specs.declared.Usi.{Usi}
-use Rattle.usi.specs.Module.{powerUp}
 use Rattle.arbitration_rules.specs.declared.Arbitrated.{Arbitrated}
 use Rattle.arbitration_rules.specs.declared.Master.{Master}
 use Rattle.arbitration_rules.specs.Limits.{maxMasters}
-use Rattle.arbitration_rules.specs.Outcome.{Fate, Outcome}
+use Rattle.arbitration_rules.specs.Outcome.{Fate}
 use Rattle.arbitration_rules.specs.Reply.{padded, answered}
 use Rattle.arbitration_rules.specs.Run.{Bus, fateOf, observed}
 use Rattle.arbitration.specs.declared.run.Ended.{Ended}

@@ -1,14 +1,14 @@
 -- Bytes carried one after the other: what holds between two of them, and room for the next.
 use Prim.Native.Nat.{ℕ, zero, suc, _+_, _*_, _<_, _≤_}
-use mathlib.Core.Path.{_≡_, refl, sym, ap, ap₂, _∙_}
+use mathlib.Core.Path.{_≡_, refl, ap, _∙_}
 use mathlib.Core.Bool.{Bool, cond, true, false, _||_}
 use mathlib.Core.List.{List, [], _∷_, _++_}
 use native.Mathlib.Nat.{le-refl}
 use native.Mathlib.Numerals.{add-one}
 use native.Mathlib.Omega.{arith}
 use lib.Dec.{eqb}
-use lib.ListN.{length, getD, set, take, drop, length-append}
-use lib.Seq.{drop-cons, take-suc-set, drop-set-lt, drop-drop}
+use lib.ListN.{length, set, take, length-append}
+use lib.Seq.{take-suc-set, drop-set-lt}
 use Rattle.arbitration_rules.specs.Run.{Bus, sampled, recorded, bitTurn, byteTaken, dataTurn, dataTurns, loaded, opened, closed, byteTurn}
 use Rattle.arbitration_rules.specs.Run.{through, bytesTurn, prepared, started, stopped, run}
 use Rattle.arbitration.specs.declared.state.BusState.{BusState}

@@ -2,14 +2,13 @@
 use Prim.Native.Nat.{ℕ, _<_}
 use mathlib.Core.Path.{_≡_, sym, ap, _∙_}
 use mathlib.Core.Bool.{false}
-use mathlib.Core.List.{List, _++_, map}
-use native.Mathlib.Omega.{arith}
+use mathlib.Core.List.{List, map}
 use borrow.Author.Tests.{ne-eqb}
-use lib.ListN.{length, take, drop}
+use lib.ListN.{length, take}
 use Rattle.arbitration_rules.specs.declared.Arbitrated.{Arbitrated}
 use Rattle.arbitration_rules.specs.Limits.{maxMasters}
 use Rattle.arbitration_rules.specs.Outcome.{outcome}
-use Rattle.arbitration_rules.specs.Reply.{messagesOf, badCount, badLengths, badAcknowledges, refusal, refused, answered}
+use Rattle.arbitration_rules.specs.Reply.{messagesOf, badCount, badLengths, badAcknowledges, refusal, refused}
 use Rattle.arbitration_rules.specs.Reply.{arbitrated, carriedAfter, levelsAfter}
 use Rattle.arbitration_rules.specs.Run.{Bus, run}
 use Rattle.arbitration_rules.proofs.Carry.{Bytes}
@@ -31,10 +30,10 @@ module _ (bytes lengths acknowledges entry exit levels levelsExit : List ℕ) (r
   abbrev pub Clauses : Type 0
   Clauses =
       (reply ≡ arbitrated bytes lengths acknowledges (length entry) (length levels))
-          × ((exit ≡ carriedAfter bytes lengths acknowledges (reply .refusal) entry)
-          × ((levelsExit ≡ levelsAfter bytes lengths acknowledges (reply .refusal) levels)
-          × (reply .refusal ≡ 0
-          → shown (length lengths) reply exit levelsExit ≡ outcome (messagesOf lengths bytes) acknowledges)))
+      × ((exit ≡ carriedAfter bytes lengths acknowledges (reply .refusal) entry)
+      × ((levelsExit ≡ levelsAfter bytes lengths acknowledges (reply .refusal) levels)
+      × (reply .refusal ≡ 0
+      → shown (length lengths) reply exit levelsExit ≡ outcome (messagesOf lengths bytes) acknowledges)))
 
 -- a refused reply, and the buffers as they were
 module _ (bytes lengths acknowledges entry levels : List ℕ) (found : Refusal) (reply : Arbitrated)
@@ -94,9 +93,8 @@ module _ (bytes lengths : List ℕ) (first : Refusal) (same : first ≡ malforme
             × Room (run (messagesOf lengths bytes) acknowledges) acknowledges entry levels
         room =
             let three =
-                roomy bytes lengths acknowledges (length entry) (length levels)
-                (sym (ap (λ (r : Refusal). r .number) objection-is) ∙ passed) in
-            (
+            roomy bytes lengths acknowledges (length entry) (length levels)
+            (sym (ap (λ (r : Refusal). r .number) objection-is) ∙ passed) in (
               three .0,
               run-room bytes lengths acknowledges small (formed .0) (formed .1) (three .0) entry levels (three .1) (three .2),
             )
@@ -123,8 +121,8 @@ module _ (bytes lengths : List ℕ) (first : Refusal) (same : first ≡ malforme
                 (
                   rw zero (levels-kept bus (length lengths) ended entry exit levels levelsExit ran few eight),
                   λ unrefused.
-                    shown-is bus (length lengths) ended entry exit levels levelsExit ran few eight reply is
-                        ∙ demand3 (messagesOf lengths bytes) acknowledges arbitration,
+                      shown-is bus (length lengths) ended entry exit levels levelsExit ran few eight reply is
+                      ∙ demand3 (messagesOf lengths bytes) acknowledges arbitration,
                 ),
               ),
             )

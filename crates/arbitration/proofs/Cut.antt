@@ -1,15 +1,14 @@
 -- Rows cut from one run of bytes: what holds at the head of each of the two loops, and what a turn does.
-use Prim.Native.Nat.{ℕ, zero, suc, _+_, _-_, _<_, _≤_}
-use mathlib.Core.Path.{_≡_, refl, sym, ap, ap₂, _∙_}
-use mathlib.Core.List.{List, [], _∷_, _++_, map, append-assoc, append-nil}
-use native.Mathlib.Nat.{le-of-eq}
+use Prim.Native.Nat.{ℕ, suc, _+_, _-_, _<_, _≤_}
+use mathlib.Core.Path.{_≡_, refl, sym, ap, _∙_}
+use mathlib.Core.List.{List, _∷_, _++_, map, append-assoc, append-nil}
 use native.Mathlib.Numerals.{add-one}
 use native.Mathlib.Omega.{arith}
-use lib.ListN.{length, getD, set, take, drop, replicate, length-set, length-drop, drop-of-length-le}
-use lib.Seq.{length-take-le, take-all, take-suc, drop-cons, drop-drop, append-snoc, set-at, take-suc-set, take-at}
+use lib.ListN.{length, getD, set, take, drop, replicate, length-set, drop-of-length-le}
+use lib.Seq.{length-take-le, take-suc, drop-cons, drop-drop, append-snoc, set-at, take-suc-set}
 use Rattle.arbitration_rules.specs.Limits.{maxMasters, maxLength}
 use Rattle.arbitration_rules.specs.Reply.{firstBadLength, total, messagesOf}
-use Rattle.arbitration.specs.Rows.{Cuttable, Rowed, rowOf, messagesIn}
+use Rattle.arbitration.specs.Rows.{Cuttable, rowOf}
 use Rattle.arbitration.proofs.Lengths.{good-head}
 
 -- the row of the first i bytes

@@ -1,12 +1,11 @@
 -- A run from power-up to STOP, of its parts.
-use Prim.Native.Nat.{ℕ, _+_, _*_, _-_, _<_, _≤_}
-use mathlib.Core.Path.{_≡_, refl, sym, ap, _∙_}
+use Prim.Native.Nat.{ℕ, _+_, _*_, _≤_}
+use mathlib.Core.Path.{_≡_, sym, ap, _∙_}
 use mathlib.Core.List.{List, []}
 use native.Mathlib.Omega.{arith}
-use lib.ListN.{length, take, drop, replicate}
+use lib.ListN.{length, take, drop}
 use Rattle.arbitration_rules.specs.Run.{Bus, bytesTurn, prepared, started, stopped, run}
 use Rattle.arbitration.specs.declared.state.BusState.{BusState}
-use Rattle.arbitration.specs.declared.run.Ended.{Ended}
 use Rattle.arbitration.specs.State.{busOf, Recorded, Prepared, Carried, Room, Ran, levelsBefore}
 use Rattle.arbitration.proofs.Bytes.{run-carried}
 use Rattle.arbitration.proofs.Sending.{rest-after}

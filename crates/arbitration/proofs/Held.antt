@@ -1,7 +1,7 @@
 -- Messages held in rows, index by index.
 use Prim.Native.Nat.{ℕ, zero, suc, _+_, _-_, _<_, _≤_}
 use mathlib.Core.Path.{_≡_, refl, sym, ap, ap₂, _∙_}
-use mathlib.Core.Bool.{Bool, cond, true, false}
+use mathlib.Core.Bool.{Bool, cond}
 use mathlib.Core.List.{List, [], _∷_, _++_, map}
 use native.Mathlib.Nat.{not-suc-le-zero, le-of-suc-le-suc}
 use native.Mathlib.Omega.{arith}
@@ -9,9 +9,9 @@ use lib.ListN.{length, getD, take, drop, replicate, length-append, length-drop, 
 use lib.Seq.{getD-take, length-take-le, take-at, ext-getD}
 use Rattle.bits.specs.Positions.{isSet}
 use Rattle.arbitration_rules.specs.Limits.{maxLength}
-use Rattle.arbitration_rules.specs.Reply.{firstBadLength, total, messagesOf, firstRead}
+use Rattle.arbitration_rules.specs.Reply.{total, messagesOf, firstRead}
 use Rattle.arbitration.specs.Rows.{Cuttable, Rowed, rowOf, messagesIn, first}
-use Rattle.arbitration.proofs.Lengths.{good-head, good-at}
+use Rattle.arbitration.proofs.Lengths.{good-at}
 
 pub in-length : (lengths : List ℕ) (rows : List (List ℕ)) → length lengths ≤ length rows
     → length (messagesIn lengths rows) ≡ length lengths

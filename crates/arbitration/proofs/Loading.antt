@@ -2,18 +2,18 @@
 use Prim.Native.Nat.{ℕ, zero, suc, _-_, _<_, _≤_}
 use mathlib.Core.Path.{_≡_, refl, sym, ap, ap₂, _∙_}
 use mathlib.Core.Bool.{Bool, false, _&&_}
-use mathlib.Core.List.{List, [], _∷_, _++_, map, zipWith}
+use mathlib.Core.List.{List, [], _∷_, map, zipWith}
 use native.Mathlib.Nat.{not-suc-le-zero, le-of-suc-le-suc}
 use native.Mathlib.Omega.{arith}
 use lib.Dec.{leb}
-use lib.ListN.{length, getD, take, drop, replicate, length-replicate, length-map}
+use lib.ListN.{length, getD, take, drop, replicate, length-replicate}
 use lib.Seq.{length-take-le, take-at, drop-at, getD-take}
 use Rattle.usi_rules.specs.Registers.{USISRL}
 use Rattle.arbitration_rules.specs.declared.Master.{Master}
 use Rattle.arbitration_rules.specs.Limits.{maxMasters, maxLength}
 use Rattle.arbitration_rules.specs.Masters.{entering, written}
 use Rattle.arbitration_rules.specs.Outcome.{any}
-use Rattle.arbitration_rules.specs.Run.{Bus, loaded, through}
+use Rattle.arbitration_rules.specs.Run.{loaded, through}
 use Rattle.arbitration.specs.declared.state.BusState.{BusState}
 use Rattle.arbitration.specs.Rows.{rowOf}
 use Rattle.arbitration.specs.Masters.{absent, enteredOf, loadedRows}

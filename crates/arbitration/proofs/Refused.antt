@@ -1,16 +1,14 @@
 -- The two halves of the refusals make 01's refusal and place; what they leave when neither applies.
-use Prim.Native.Nat.{ℕ, suc, _+_, _*_, _≤_}
-use mathlib.Core.Path.{_≡_, refl, sym, ap, _∙_}
-use mathlib.Core.Bool.{Bool, cond, true, false, _||_}
-use mathlib.Core.List.{List, []}
+use Prim.Native.Nat.{ℕ, _+_, _≤_}
+use mathlib.Core.Path.{_≡_, refl}
+use mathlib.Core.Bool.{Bool, cond, true, false}
+use mathlib.Core.List.{List}
 use native.Mathlib.Omega.{arith}
-use borrow.Author.Tests.{ne-eqb, ltb-false}
+use borrow.Author.Tests.{ltb-false}
 use lib.Dec.{eqb, ltb}
-use lib.ListN.{length}
-use Rattle.arbitration_rules.specs.declared.Arbitrated.{Arbitrated}
 use Rattle.arbitration_rules.specs.Outcome.{least, carriedCount, unsettled}
 use Rattle.arbitration_rules.specs.Reply.{messagesOf, badCount, badLengths, firstBadLength, reads, firstRead, badAcknowledges}
-use Rattle.arbitration_rules.specs.Reply.{shortBuffer, levelCount, refusal, place, refused, arbitrated, carriedAfter, levelsAfter}
+use Rattle.arbitration_rules.specs.Reply.{shortBuffer, levelCount, refusal, place}
 use Rattle.arbitration.specs.declared.refusals.Refusal.{Refusal}
 use Rattle.arbitration.specs.Refusals.{numbered, malformedOf, objectionOf}
 use Rattle.arbitration.proofs.Lengths.{or-false}

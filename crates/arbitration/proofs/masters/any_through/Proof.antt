@@ -1,6 +1,6 @@
 -- The loop passes masters that lost or have bytes to come; it stops at the first that is through.
 use Prim.Native.Nat.{_-_, _<_, _≤_}
-use mathlib.Core.Path.{_≡_, sym, _∙_}
+use mathlib.Core.Path.{_∙_}
 use mathlib.Core.Bool.{false}
 use native.Mathlib.Omega.{arith}
 use lib.ListN.{length}
@@ -9,8 +9,6 @@ use Rattle.arbitration.proofs.Loading.{itself, throughs, throughs-lengt
 use borrow.Author.Needs.{needs}
 use Rattle.arbitration.proofs.masters.any_through.Statement.{statement}
 use Rattle.arbitration.proofs.masters.any_through.Tie as tie
-use Rattle.arbitration.proofs.masters.any_through.Reads as reads
-use Rattle.arbitration.proofs.masters.any_through.Lts as lts
 
 abbrev Inv-loop : tie.InvT-loop
 Inv-loop lengths sent masters i₀ i = (i ≤ length lengths) × Passed itself (throughs sent masters lengths) i

@@ -9,9 +9,6 @@ use Rattle.arbitration.proofs.Mapped.{zipped-more}
 use borrow.Author.Needs.{needs}
 use Rattle.arbitration.proofs.masters.load_all.Statement.{statement}
 use Rattle.arbitration.proofs.masters.load_all.Tie as tie
-use Rattle.arbitration.proofs.masters.load_all.Reads as reads
-use Rattle.arbitration.proofs.masters.load_all.Lts as lts
-use Rattle.arbitration_rules.proofs.Master.apply.Reads as apply-reads
 
 abbrev Inv-loop : tie.InvT-loop
 Inv-loop count index rows out₀ i₀ out i = (i ≤ count) × (out ≡ loadedRows index i rows out₀)

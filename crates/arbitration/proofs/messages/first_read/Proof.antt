@@ -1,9 +1,9 @@
 -- The loop passes messages that begin with an even byte; it stops at the first that asks for a read.
 use Prim.Native.Nat.{_-_, _<_, _≤_}
-use mathlib.Core.Path.{_≡_, sym, ap, _∙_}
+use mathlib.Core.Path.{sym, ap, _∙_}
 use mathlib.Core.List.{[]}
 use native.Mathlib.Omega.{arith}
-use lib.ListN.{length, getD}
+use lib.ListN.{length}
 use Rattle.bits.specs.Positions.{isSet}
 use Rattle.arbitration.specs.Rows.{messagesIn}
 use Rattle.arbitration.proofs.Search.{Passed, passed-start, passed-more, found-first, none-first}
@@ -11,9 +11,6 @@ use Rattle.arbitration.proofs.Held.{in-length, byte-at, asksRead, read-
 use borrow.Author.Needs.{needs}
 use Rattle.arbitration.proofs.messages.first_read.Statement.{statement}
 use Rattle.arbitration.proofs.messages.first_read.Tie as tie
-use Rattle.arbitration.proofs.messages.first_read.Reads as reads
-use Rattle.arbitration.proofs.messages.first_read.Lts as lts
-use Rattle.bits.proofs.is_set.Reads as is-set-reads
 
 abbrev Inv-loop : tie.InvT-loop
 Inv-loop lengths rows i₀ i = (i ≤ length lengths) × Passed asksRead (messagesIn lengths rows) i

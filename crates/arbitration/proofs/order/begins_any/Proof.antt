@@ -1,6 +1,6 @@
 -- The loop passes messages that the one at the index does not begin; it stops at the first that it begins.
 use Prim.Native.Nat.{_-_, _<_, _≤_}
-use mathlib.Core.Path.{_≡_, sym, _∙_}
+use mathlib.Core.Path.{sym, _∙_}
 use mathlib.Core.List.{[]}
 use native.Mathlib.Omega.{arith}
 use lib.ListN.{length, getD}
@@ -12,9 +12,6 @@ use Rattle.arbitration.proofs.Held.{in-length, in-at}
 use borrow.Author.Needs.{needs}
 use Rattle.arbitration.proofs.order.begins_any.Statement.{statement}
 use Rattle.arbitration.proofs.order.begins_any.Tie as tie
-use Rattle.arbitration.proofs.order.begins_any.Reads as reads
-use Rattle.arbitration.proofs.order.begins_any.Lts as lts
-use Rattle.arbitration.proofs.order.begins.Reads as begins-reads
 
 abbrev Inv-loop : tie.InvT-loop
 Inv-loop lengths index rows count i₀ i = (i ≤ length lengths) × Passed (begins (getD (messagesIn lengths rows) index [])) (messagesIn lengths rows) i

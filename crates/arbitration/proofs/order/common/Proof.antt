@@ -1,15 +1,13 @@
 -- The loop passes equal bytes; it stops at the first unequal ones, or where a message ends.
-use Prim.Native.Nat.{ℕ, _-_, _<_, _≤_}
-use mathlib.Core.Path.{_≡_, _∙_}
+use Prim.Native.Nat.{_-_, _<_}
+use mathlib.Core.Path.{_≡_}
 use native.Mathlib.Omega.{arith}
-use lib.ListN.{length, getD, take}
+use lib.ListN.{length, take}
 use lib.Seq.{length-take-le, getD-take}
 use Rattle.arbitration.proofs.Compared.{Shared, shared-start, shared-more, shared-differ, shared-end, shared-other-end}
 use borrow.Author.Needs.{needs}
 use Rattle.arbitration.proofs.order.common.Statement.{statement}
 use Rattle.arbitration.proofs.order.common.Tie as tie
-use Rattle.arbitration.proofs.order.common.Reads as reads
-use Rattle.arbitration.proofs.order.common.Lts as lts
 
 abbrev Inv-loop : tie.InvT-loop
 Inv-loop count other-count message other i₀ i = Shared (take count message) (take other-count other) i

@@ -1,17 +1,15 @@
 -- The loop passes bytes that are acknowledged; it stops at the first that is not.
-use Prim.Native.Nat.{ℕ, _-_, _<_, _≤_}
-use mathlib.Core.Path.{_≡_, _∙_}
+use Prim.Native.Nat.{_-_, _<_, _≤_}
+use mathlib.Core.Path.{_∙_}
 use native.Mathlib.Omega.{arith}
 use borrow.Author.Tests.{eq-eqb, ne-eqb}
-use lib.ListN.{length, getD, take}
+use lib.ListN.{length, take}
 use lib.Seq.{length-take-le, getD-take}
 use Rattle.arbitration.specs.Order.{notAcknowledged}
 use Rattle.arbitration.proofs.Search.{Passed, passed-start, passed-more, found-first, none-first}
 use borrow.Author.Needs.{needs}
 use Rattle.arbitration.proofs.order.first_refused.Statement.{statement}
 use Rattle.arbitration.proofs.order.first_refused.Tie as tie
-use Rattle.arbitration.proofs.order.first_refused.Reads as reads
-use Rattle.arbitration.proofs.order.first_refused.Lts as lts
 
 abbrev Inv-loop : tie.InvT-loop
 Inv-loop count acks i₀ i = (i ≤ count) × Passed notAcknowledged (take count acks) i

@@ -1,5 +1,5 @@
 -- The first of 14, 15, 16 and 8 that applies.
-use Prim.Native.Nat.{ℕ, _<_, _≤_}
+use Prim.Native.Nat.{ℕ, _≤_}
 use mathlib.Core.Path.{_≡_, sym, ap, _∙_}
 use mathlib.Core.Bool.{true, false}
 use mathlib.Core.List.{List, []}
@@ -17,14 +17,6 @@ use borrow.Author.Needs.{needs}
 use borrow.Author.Needs.{needs}
 use Rattle.arbitration.proofs.refusals.objection.Statement.{statement}
 use Rattle.arbitration.proofs.refusals.objection.Tie as tie
-use Rattle.arbitration.proofs.refusals.objection.Reads as reads
-use Rattle.arbitration.proofs.refusals.objection.Lts as lts
-use Rattle.arbitration.proofs.messages.bad_acknowledges.Reads as bad-acknowledges-reads
-use Rattle.arbitration.proofs.messages.first_read.Reads as first-read-reads
-use Rattle.arbitration.proofs.order.carried_count.Reads as carried-count-reads
-use Rattle.arbitration.proofs.order.least.Reads as least-reads
-use Rattle.arbitration.proofs.order.unsettled.Reads as unsettled-reads
-use Rattle.arbitration.proofs.refusals.short_buffer.Reads as short-buffer-reads
 
 -- what the branches passed: not 14, not 15, not 16
 not-read : (c : tie.Else1) → reads (messagesIn (c .before .before .before .before .args .lengths .now) (c .before .before .before .before .args .rows)) ≡ false

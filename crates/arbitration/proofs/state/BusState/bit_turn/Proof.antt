@@ -6,12 +6,6 @@ use borrow.Author.Needs.{needs}
 use borrow.Author.Needs.{needs}
 use Rattle.arbitration.proofs.state.BusState.bit_turn.Statement.{statement}
 use Rattle.arbitration.proofs.state.BusState.bit_turn.Tie as tie
-use Rattle.arbitration.proofs.state.BusState.bit_turn.Reads as reads
-use Rattle.arbitration.proofs.state.BusState.bit_turn.Lts as lts
-use Rattle.arbitration.proofs.state.BusState.every.Reads as every-reads
-use Rattle.arbitration.proofs.state.BusState.pulled.Reads as pulled-reads
-use Rattle.arbitration.proofs.state.BusState.record_sample.Reads as record-sample-reads
-use Rattle.arbitration.proofs.state.BusState.sample.Reads as sample-reads
 
 every-requires : tie.Need-every-requires
 every-requires c κs = search needs

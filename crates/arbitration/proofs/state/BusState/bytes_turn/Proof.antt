@@ -1,6 +1,6 @@
 -- The loop over the bytes carries one a turn, until a byte is not acknowledged or someone is through.
-use Prim.Native.Nat.{ℕ, _+_, _-_, _<_, _≤_}
-use mathlib.Core.Path.{_≡_, sym, ap, _∙_}
+use Prim.Native.Nat.{ℕ, _+_, _-_, _≤_}
+use mathlib.Core.Path.{sym, ap, _∙_}
 use mathlib.Core.Bool.{Bool, _||_}
 use native.Mathlib.Omega.{arith}
 use lib.Dec.{eqb}
@@ -12,10 +12,6 @@ use Rattle.arbitration.proofs.Sending.{Sending, sending-start, sending-
 use borrow.Author.Needs.{needs}
 use Rattle.arbitration.proofs.state.BusState.bytes_turn.Statement.{statement}
 use Rattle.arbitration.proofs.state.BusState.bytes_turn.Tie as tie
-use Rattle.arbitration.proofs.state.BusState.bytes_turn.Reads as reads
-use Rattle.arbitration.proofs.state.BusState.bytes_turn.Lts as lts
-use Rattle.arbitration.proofs.masters.any_through.Reads as any-through-reads
-use Rattle.arbitration.proofs.state.BusState.byte_turn.Reads as byte-turn-reads
 
 abbrev Inv-loop : tie.InvT-loop
 Inv-loop rows lengths acks carried₀ levels₀ state₀ k₀ carried levels state k = Sending (messagesIn lengths rows) acks state₀ state k carried₀ carried levels₀ levels
@@ -68,10 +64,11 @@ returns c =
     let tested = c .before .any-through .ensures messages (in-lengths list rows rowed many) in
     let after = c .before .before .before .before .before .before .before .byte-turn .result in
     let masters = ap (λ (n : ℕ). through messages (l .k + 1) (take n (after .masters))) (step .count ∙ count) in
-    let test = ap (λ (b : Bool). eqb (getD (a .args .acks .now) (l .k) 0) 1 || b) (masters ∙ sym tested) in (
-      sending-ended _ _ _ _ _ _ _ _ _ (l .inv) (a .pre .2) less _ _ _ step (test ∙ c .if1 .taken),
-      sending-next _ _ _ _ _ _ _ _ _ (l .inv) (a .pre .2) less,
-    )
+    let test = ap (λ (b : Bool). eqb (getD (a .args .acks .now) (l .k) 0) 1 || b) (masters ∙ sym tested) in
+    record {
+      carried = sending-ended _ _ _ _ _ _ _ _ _ (l .inv) (a .pre .2) less _ _ _ step (test ∙ c .if1 .taken);
+      within = sending-next _ _ _ _ _ _ _ _ _ (l .inv) (a .pre .2) less;
+    }
 
 loop-less : tie.Need-loop-less Inv-loop μ-loop
 loop-less c = search needs
@@ -105,7 +102,8 @@ same-length-4 c = c .before .loop .inv .levels-long
 
 returns-2 : tie.Need-returns-2 Inv-loop μ-loop
 returns-2 c =
-    (sending-done _ _ _ _ _ _ _ _ _ (c .before .loop .inv) (c .loop-test .left), c .before .loop .inv .sent)
+    let inv = c .before .loop .inv in
+    record { carried = sending-done _ _ _ _ _ _ _ _ _ inv (c .loop-test .left); within = inv .sent }
 
 pub bytes-turn-spec : {M : Type 1} → statement M
 bytes-turn-spec =

@@ -4,10 +4,6 @@ use borrow.Author.Needs.{needs}
 use borrow.Author.Needs.{needs}
 use Rattle.arbitration.proofs.state.BusState.closed.Statement.{statement}
 use Rattle.arbitration.proofs.state.BusState.closed.Tie as tie
-use Rattle.arbitration.proofs.state.BusState.closed.Reads as reads
-use Rattle.arbitration.proofs.state.BusState.closed.Lts as lts
-use Rattle.arbitration.proofs.state.BusState.every.Reads as every-reads
-use Rattle.arbitration.proofs.state.BusState.write.Reads as write-reads
 
 every-requires : tie.Need-every-requires
 every-requires c κs = search needs

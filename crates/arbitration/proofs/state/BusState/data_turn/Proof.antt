@@ -1,6 +1,4 @@
 -- A bit turn; who has AL set has lost; the bit is taken.
-use Prim.Native.Nat.{_<_}
-use mathlib.Core.Path.{_≡_}
 use native.Mathlib.Omega.{arith}
 use Rattle.arbitration_rules.specs.Run.{dataTurn}
 use Rattle.arbitration.proofs.Steps.{recorded-moved}
@@ -9,11 +7,6 @@ use borrow.Author.Needs.{needs}
 use borrow.Author.Needs.{needs}
 use Rattle.arbitration.proofs.state.BusState.data_turn.Statement.{statement}
 use Rattle.arbitration.proofs.state.BusState.data_turn.Tie as tie
-use Rattle.arbitration.proofs.state.BusState.data_turn.Reads as reads
-use Rattle.arbitration.proofs.state.BusState.data_turn.Lts as lts
-use Rattle.arbitration.proofs.state.BusState.bit_turn.Reads as bit-turn-reads
-use Rattle.arbitration.proofs.state.BusState.every.Reads as every-reads
-use Rattle.arbitration.proofs.state.BusState.taken.Reads as taken-reads
 
 bit-turn-requires : tie.Need-bit-turn-requires
 bit-turn-requires c κs = search needs
