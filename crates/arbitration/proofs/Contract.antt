@@ -53,13 +53,15 @@ module _ (bytes lengths acknowledges entry levels : List ℕ) (found : Refusal) 
     ),
   )
 
-  pub refused-first : found ≡ malformedOf bytes lengths → Clauses bytes lengths acknowledges entry entry levels levels reply
+  pub refused-first : found ≡ malformedOf bytes lengths → Clauses bytes lengths acknowledges entry entry levels levels
+      reply
   refused-first same =
       let first = malformed-agrees bytes lengths acknowledges (length entry) (length levels) in
       refused-clauses (rw same (first (λ none. some (ap (λ (r : Refusal). r .number) same ∙ none))))
 
 -- past the first half, with the rows cut
-module _ (bytes lengths : List ℕ) (first : Refusal) (same : first ≡ malformedOf bytes lengths) (none : first .number ≡ 0) where
+module _ (bytes lengths : List ℕ) (first : Refusal) (same : first ≡ malformedOf bytes lengths)
+    (none : first .number ≡ 0) where
   formed : (badCount lengths ≡ false) × (badLengths bytes lengths ≡ false)
   formed = well-formed bytes lengths (sym (ap (λ (r : Refusal). r .number) same) ∙ none)
 
@@ -74,55 +76,58 @@ module _ (bytes lengths : List ℕ) (first : Refusal) (same : first ≡ malforme
     messages-are = cut-messages lengths bytes rows cut held
 
     module _ (acknowledges entry levels : List ℕ) (second : Refusal)
-        (found : second ≡ objectionOf lengths (messagesIn lengths rows) acknowledges (length entry) (length levels)) where
-      objection-is : second ≡ objectionOf lengths (messagesOf lengths bytes) acknowledges (length entry) (length levels)
-      objection-is = rw (← messages-are) found
+        (found : second ≡ objectionOf lengths (messagesIn lengths rows) acknowledges (length entry) (length levels))
+      where
+        objection-is : second ≡ objectionOf lengths (messagesOf lengths bytes) acknowledges (length entry) (length levels)
+        objection-is = rw (← messages-are) found
 
-      agrees : Agrees bytes lengths acknowledges (length entry) (length levels) second
-      agrees =
-          rw objection-is
-          (objection-agrees bytes lengths acknowledges (length entry) (length levels) (formed .0) (formed .1))
+        agrees : Agrees bytes lengths acknowledges (length entry) (length levels) second
+        agrees =
+            rw objection-is
+            (objection-agrees bytes lengths acknowledges (length entry) (length levels) (formed .0) (formed .1))
 
-      pub refused-second : (reply : Arbitrated) → (second .number ≡ 0 → ⊥) → reply ≡ refused (second .number) (second .place)
-          → Clauses bytes lengths acknowledges entry entry levels levels reply
-      refused-second reply some is = refused-clauses bytes lengths acknowledges entry levels second reply some is agrees
+        pub refused-second : (reply : Arbitrated) → (second .number ≡ 0 → ⊥) → reply ≡ refused (second .number)
+            (second .place)
+            → Clauses bytes lengths acknowledges entry entry levels levels reply
+        refused-second reply some is = refused-clauses bytes lengths acknowledges entry levels second reply some is agrees
 
-      -- past the second half
-      module _ (passed : second .number ≡ 0) (small : Bytes bytes) where
-        room : (badAcknowledges lengths acknowledges ≡ false)
-            × Room (run (messagesOf lengths bytes) acknowledges) acknowledges entry levels
-        room =
-            let three =
-            roomy bytes lengths acknowledges (length entry) (length levels)
-            (sym (ap (λ (r : Refusal). r .number) objection-is) ∙ passed) in (
-              three .0,
-              run-room bytes lengths acknowledges small (formed .0) (formed .1) (three .0) entry levels (three .1) (three .2),
-            )
+        -- past the second half
+        module _ (passed : second .number ≡ 0) (small : Bytes bytes) where
+          room : (badAcknowledges lengths acknowledges ≡ false)
+              × Room (run (messagesOf lengths bytes) acknowledges) acknowledges entry levels
+          room =
+              let three =
+              roomy bytes lengths acknowledges (length entry) (length levels)
+              (sym (ap (λ (r : Refusal). r .number) objection-is) ∙ passed) in (
+                three .0,
+                run-room bytes lengths acknowledges small (formed .0) (formed .1) (three .0) entry levels (three .1)
+                    (three .2),
+              )
 
-        pub runnable : Rowed lengths rows × Room (run (messagesIn lengths rows) acknowledges) acknowledges entry levels
-        runnable = (rowed .0, rw messages-are (room .1))
+          pub runnable : Rowed lengths rows × Room (run (messagesIn lengths rows) acknowledges) acknowledges entry levels
+          runnable = (rowed .0, rw messages-are (room .1))
 
-        pub answered-clauses : (ended : Ended) (exit levelsExit : List ℕ) (reply : Arbitrated)
-            → Ran (run (messagesIn lengths rows) acknowledges) (length lengths) ended entry exit levels levelsExit
-            → (reply ≡ replyOf (ended .state .masters) (ended .k)) × (length (ended .state .masters) ≡ maxMasters)
-            → Clauses bytes lengths acknowledges entry exit levels levelsExit reply
-        unfolding arbitrated carriedAfter levelsAfter replyOf
-        answered-clauses ended exit levelsExit reply over gathered =
-            let bus : Bus = run (messagesOf lengths bytes) acknowledges in
-            let ran : Ran bus (length lengths) ended entry exit levels levelsExit = rw messages-are at over in
-            let few = good-count lengths (formed .0) .1 in
-            let eight = gathered .1 in
-            let is = gathered .0 ∙ answered-is bus (length lengths) ended entry exit levels levelsExit ran few eight in
-            let zero : reply .refusal ≡ 0 = ap (λ (r : Arbitrated). r .refusal) (gathered .0) in
-            let arbitration = given bytes lengths acknowledges small (formed .0) (formed .1) (room .0) in (
-              rw (agrees .number ∙ passed) is,
-              (
-                rw zero (carried-kept bus (length lengths) ended entry exit levels levelsExit ran few eight),
+          pub answered-clauses : (ended : Ended) (exit levelsExit : List ℕ) (reply : Arbitrated)
+              → Ran (run (messagesIn lengths rows) acknowledges) (length lengths) ended entry exit levels levelsExit
+              → (reply ≡ replyOf (ended .state .masters) (ended .k)) × (length (ended .state .masters) ≡ maxMasters)
+              → Clauses bytes lengths acknowledges entry exit levels levelsExit reply
+          unfolding arbitrated carriedAfter levelsAfter replyOf
+          answered-clauses ended exit levelsExit reply over gathered =
+              let bus : Bus = run (messagesOf lengths bytes) acknowledges in
+              let ran : Ran bus (length lengths) ended entry exit levels levelsExit = rw messages-are at over in
+              let few = good-count lengths (formed .0) .1 in
+              let eight = gathered .1 in
+              let is = gathered .0 ∙ answered-is bus (length lengths) ended entry exit levels levelsExit ran few eight in
+              let zero : reply .refusal ≡ 0 = ap (λ (r : Arbitrated). r .refusal) (gathered .0) in
+              let arbitration = given bytes lengths acknowledges small (formed .0) (formed .1) (room .0) in (
+                rw (agrees .number ∙ passed) is,
                 (
-                  rw zero (levels-kept bus (length lengths) ended entry exit levels levelsExit ran few eight),
-                  λ unrefused.
-                      shown-is bus (length lengths) ended entry exit levels levelsExit ran few eight reply is
-                      ∙ demand3 (messagesOf lengths bytes) acknowledges arbitration,
+                  rw zero (carried-kept bus (length lengths) ended entry exit levels levelsExit ran few eight),
+                  (
+                    rw zero (levels-kept bus (length lengths) ended entry exit levels levelsExit ran few eight),
+                    λ unrefused.
+                        shown-is bus (length lengths) ended entry exit levels levelsExit ran few eight reply is
+                        ∙ demand3 (messagesOf lengths bytes) acknowledges arbitration,
+                  ),
                 ),
-              ),
-            )
+              )

@@ -24,7 +24,8 @@ module _ (messages : List (List ℕ)) (acknowledges : List ℕ) (count : ℕ) (m
 
   pub room-started : (carried : List ℕ) → Room (run messages acknowledges) acknowledges carried levels
       → length levelsStarted ≡ length levels
-      → Room (bytesTurn messages acknowledges 0 (busOf second [] (take 2 levelsStarted))) acknowledges carried levelsStarted
+      → Room (bytesTurn messages acknowledges 0 (busOf second [] (take 2 levelsStarted))) acknowledges carried
+      levelsStarted
   room-started carried room long =
       record {
         few = room .few;
@@ -59,7 +60,8 @@ module _ (messages : List (List ℕ)) (acknowledges : List ℕ) (count : ℕ) (m
         rest = sent .rest;
         levels-rest =
             rw (← end)
-            (rest-after (levelsBefore k) (levelsBefore k + 3) levelsAfter levelsSent levels (omega arith) (stop .rest) sent-rest);
+            (rest-after (levelsBefore k) (levelsBefore k + 3) levelsAfter levelsSent levels (omega arith) (stop .rest)
+            sent-rest);
         masters = stop .count ∙ sent .count ∙ start .count ∙ ready .same;
         idle =
             ap (λ (n : ℕ). drop n (fourth .masters)) (sym (stop .count ∙ sent .count ∙ start .count ∙ ready .same))

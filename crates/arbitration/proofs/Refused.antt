@@ -7,7 +7,8 @@ use native.Mathlib.Omega.{arith}
 use borrow.Author.Tests.{ltb-false}
 use lib.Dec.{eqb, ltb}
 use Rattle.arbitration_rules.specs.Outcome.{least, carriedCount, unsettled}
-use Rattle.arbitration_rules.specs.Reply.{messagesOf, badCount, badLengths, firstBadLength, reads, firstRead, badAcknowledges}
+use Rattle.arbitration_rules.specs.Reply.{messagesOf, badCount, badLengths, firstBadLength, reads, firstRead}
+use Rattle.arbitration_rules.specs.Reply.{badAcknowledges}
 use Rattle.arbitration_rules.specs.Reply.{shortBuffer, levelCount, refusal, place}
 use Rattle.arbitration.specs.declared.refusals.Refusal.{Refusal}
 use Rattle.arbitration.specs.Refusals.{numbered, malformedOf, objectionOf}
@@ -19,7 +20,8 @@ pub record Agrees (bytes lengths acknowledges : List ℕ) (carriedRoom levelRoom
   pub place-is : place bytes lengths (found .number) ≡ found .place
 
 -- the lengths that the first half passes
-pub well-formed : (bytes lengths : List ℕ) → malformedOf bytes lengths .number ≡ 0 → (badCount lengths ≡ false) × (badLengths bytes lengths ≡ false)
+pub well-formed : (bytes lengths : List ℕ) → malformedOf bytes lengths .number ≡ 0 → (badCount lengths ≡ false) ×
+    (badLengths bytes lengths ≡ false)
 unfolding malformedOf
 well-formed bytes lengths none = cases (badCount lengths) (badLengths bytes lengths) none
   where
@@ -37,8 +39,10 @@ module _ (bytes lengths acknowledges : List ℕ) (carriedRoom levelRoom : ℕ) w
         → (cond count (numbered 12 0) (cond sizes (numbered 13 where-bad) (numbered 0 0)) .number ≡ 0 → ⊥)
         → (cond count 12 (cond sizes 13 number)
         ≡ cond count (numbered 12 0) (cond sizes (numbered 13 where-bad) (numbered 0 0)) .number)
-        × (cond (eqb (cond count (numbered 12 0) (cond sizes (numbered 13 where-bad) (numbered 0 0)) .number) 13) where-bad
-        (cond (eqb (cond count (numbered 12 0) (cond sizes (numbered 13 where-bad) (numbered 0 0)) .number) 14) where-read 0)
+        × (cond (eqb (cond count (numbered 12 0) (cond sizes (numbered 13 where-bad) (numbered 0 0)) .number) 13)
+        where-bad
+        (cond (eqb (cond count (numbered 12 0) (cond sizes (numbered 13 where-bad) (numbered 0 0)) .number) 14)
+        where-read 0)
         ≡ cond count (numbered 12 0) (cond sizes (numbered 13 where-bad) (numbered 0 0)) .place)
     halved true sizes some = (refl, refl)
     halved false true some = (refl, refl)
@@ -48,12 +52,15 @@ module _ (bytes lengths acknowledges : List ℕ) (carriedRoom levelRoom : ℕ) w
       → Agrees bytes lengths acknowledges carriedRoom levelRoom (malformedOf bytes lengths)
   unfolding malformedOf refusal place
   malformed-agrees some =
-      let two = halved _ (firstBadLength lengths) (firstRead (messagesOf lengths bytes)) (badCount lengths) (badLengths bytes lengths) some in
+      let two =
+      halved _ (firstBadLength lengths) (firstRead (messagesOf lengths bytes)) (badCount lengths)
+      (badLengths bytes lengths) some in
       record { number = two .0; place-is = two .1 }
 
   -- the second half
   objected : (read answers torn short : Bool) (where-bad where-read : ℕ)
-      → let found = cond read (numbered 14 where-read) (cond answers (numbered 15 0) (cond torn (numbered 16 0) (cond short (numbered 8 0) (numbered 0 0)))) in
+      → let found = cond read (numbered 14 where-read)
+      (cond answers (numbered 15 0) (cond torn (numbered 16 0) (cond short (numbered 8 0) (numbered 0 0)))) in
       (cond read 14 (cond answers 15 (cond torn 16 (cond short 8 0))) ≡ found .number)
       × (cond (eqb (found .number) 13) where-bad (cond (eqb (found .number) 14) where-read 0) ≡ found .place)
   objected true answers torn short where-bad where-read = (refl, refl)

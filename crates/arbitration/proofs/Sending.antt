@@ -14,7 +14,8 @@ use Rattle.arbitration.specs.State.{busOf, Carried, Room, levelsBefore, 
 use Rattle.arbitration.proofs.Bytes.{bytes-next}
 
 -- the rest of the buffers is as it was before the byte
-pub rest-after : {A : Type 0} (n m : ℕ) (x y z : List A) → n ≤ m → drop m x ≡ drop m y → drop n y ≡ drop n z → drop m x ≡ drop m z
+pub rest-after : {A : Type 0} (n m : ℕ) (x y z : List A) → n ≤ m → drop m x ≡ drop m y → drop n y ≡ drop n z → drop m x
+    ≡ drop m z
 rest-after n m x y z before one two =
     let apart : n + (m - n) ≡ m = omega arith in
     one
@@ -61,7 +62,8 @@ module _ (messages : List (List ℕ)) (acknowledges : List ℕ) (self : BusState
     sending-done done =
         let bus = busOf state (take k carried) (take (levelsBefore k) levels) in
         record {
-          bus = ap (λ (l : List ℕ). bytesTurn messages l k bus) (sym (drop-of-length-le acknowledges done)) ∙ sending .same;
+          bus = ap (λ (l : List ℕ). bytesTurn messages l k bus) (sym (drop-of-length-le acknowledges done)) ∙
+              sending .same;
           rest = sending .rest;
           levels-rest = sending .levels-rest;
           count = sending .count;
@@ -76,7 +78,8 @@ module _ (messages : List (List ℕ)) (acknowledges : List ℕ) (self : BusState
       next : drop k acknowledges ≡ getD acknowledges k 0 ∷ drop (suc k) acknowledges
       next = drop-cons acknowledges k 0 less
 
-      here : bytesTurn messages (getD acknowledges k 0 ∷ drop (suc k) acknowledges) k bus ≡ bytesFrom messages acknowledges self entryLevels
+      here : bytesTurn messages (getD acknowledges k 0 ∷ drop (suc k) acknowledges) k bus ≡ bytesFrom messages
+          acknowledges self entryLevels
       unfolding bus
       here = ap (λ (l : List ℕ). bytesTurn messages l k bus) (sym next) ∙ sending .same
 
@@ -96,7 +99,8 @@ module _ (messages : List (List ℕ)) (acknowledges : List ℕ) (self : BusState
 
       -- one byte more, by which the loop ends or not
       module _ (after : BusState) (carriedAfter levelsAfter : List ℕ)
-          (step : Carried (byteTurn messages k (getD acknowledges k 0)) state after k (k + 1) carried carriedAfter levels levelsAfter) where
+          (step : Carried (byteTurn messages k (getD acknowledges k 0)) state after k (k + 1) carried carriedAfter
+          levels levelsAfter) where
         abbrev pub ends : Bool
         ends = eqb (getD acknowledges k 0) 1 || through messages (k + 1) (take (after .count) (after .masters))
 
@@ -107,31 +111,34 @@ module _ (messages : List (List ℕ)) (acknowledges : List ℕ) (self : BusState
             ≡ bytesFrom messages acknowledges self entryLevels
         unfolding turned bus busOf
         both =
-            let masters : take (after .count) (after .masters) ≡ byteTurn messages k (getD acknowledges k 0) bus .masters =
+            let masters : take (after .count) (after .masters) ≡ byteTurn messages k (getD acknowledges k 0)
+            bus .masters =
             ap (λ (b : Bus). b .masters) (step .bus) in
             rw (step .bus, add-one, masters) here
 
-        module _ (long : length carriedAfter ≡ length entry) (levels-long : length levelsAfter ≡ length entryLevels) where
-          pub sending-more : ends ≡ false
-              → Sending messages acknowledges self after (k + 1) entry carriedAfter entryLevels levelsAfter
-          unfolding turned
-          sending-more more =
-              record {
-                within = omega arith;
-                sent = sending-next;
-                same = rw more at both;
-                long = long;
-                levels-long = levels-long;
-                rest = rest-after k (k + 1) carriedAfter carried entry (omega arith) (step .rest) (sending .rest);
-                levels-rest =
-                    rest-after (levelsBefore k) (levelsBefore (k + 1)) levelsAfter levels entryLevels (omega arith)
-                    (step .levels-rest) (sending .levels-rest);
-                count = step .count ∙ sending .count;
-                idle = step .idle ∙ sending .idle;
-              }
+        module _ (long : length carriedAfter ≡ length entry) (levels-long : length levelsAfter ≡ length entryLevels)
+          where
+            pub sending-more : ends ≡ false
+                → Sending messages acknowledges self after (k + 1) entry carriedAfter entryLevels levelsAfter
+            unfolding turned
+            sending-more more =
+                record {
+                  within = omega arith;
+                  sent = sending-next;
+                  same = rw more at both;
+                  long = long;
+                  levels-long = levels-long;
+                  rest = rest-after k (k + 1) carriedAfter carried entry (omega arith) (step .rest) (sending .rest);
+                  levels-rest =
+                      rest-after (levelsBefore k) (levelsBefore (k + 1)) levelsAfter levels entryLevels (omega arith)
+                      (step .levels-rest) (sending .levels-rest);
+                  count = step .count ∙ sending .count;
+                  idle = step .idle ∙ sending .idle;
+                }
 
         pub sending-ended : ends ≡ true
-            → Carried (bytesTurn messages acknowledges 0) self after 0 (k + 1) entry carriedAfter entryLevels levelsAfter
+            → Carried (bytesTurn messages acknowledges 0) self after 0 (k + 1) entry carriedAfter entryLevels
+            levelsAfter
         unfolding turned
         sending-ended done =
             record {

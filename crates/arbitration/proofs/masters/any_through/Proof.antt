@@ -41,9 +41,11 @@ returns c messages same =
     let list = a .lengths .now in
     let few : length list ≤ length (a .t1) = omega arith in
     let less : l .i < length list = omega arith in
-    let inside : l .i < length (throughs (a .sent) (a .t1) list) = rw (throughs-length (a .sent) (a .t1) list few) less in
+    let inside : l .i < length (throughs (a .sent) (a .t1) list) =
+    rw (throughs-length (a .sent) (a .t1) list few) less in
     let here = throughs-at (a .sent) (a .t1) list few (l .i) _ less in
-    found-any itself _ _ false (l .inv .1) inside (here ∙ c .if1 .taken) ∙ throughs-any (a .sent) (a .t1) list few messages same
+    found-any itself _ _ false (l .inv .1) inside (here ∙ c .if1 .taken) ∙ throughs-any (a .sent) (a .t1) list few
+    messages same
 
 add-i : tie.Need-add-i Inv-loop μ-loop
 add-i c = search needs
@@ -58,7 +60,8 @@ loop-again c =
     let list = a .lengths .now in
     let few : length list ≤ length (a .t1) = omega arith in
     let less : l .i < length list = omega arith in
-    let inside : l .i < length (throughs (a .sent) (a .t1) list) = rw (throughs-length (a .sent) (a .t1) list few) less in
+    let inside : l .i < length (throughs (a .sent) (a .t1) list) =
+    rw (throughs-length (a .sent) (a .t1) list few) less in
     let here = throughs-at (a .sent) (a .t1) list few (l .i) _ less in
     (search needs, passed-more itself _ _ false (l .inv .1) inside (here ∙ c .if1 .left))
 

@@ -42,7 +42,8 @@ loop-less c = search needs
 
 loop-again : tie.Need-loop-again Inv-loop μ-loop
 loop-again c =
-    let less : c .before .before .before .loop .i < length (c .before .before .before .before .args .masters) = omega arith in
+    let less : c .before .before .before .loop .i < length (c .before .before .before .before .args .masters) =
+    omega arith in
     (search needs, mapped-more _ _ _ _ _ _ (c .before .before .before .loop .inv .1) (c .apply .ensures) less)
 
 returns : tie.Need-returns Inv-loop μ-loop

@@ -45,7 +45,13 @@ returns : tie.Need-returns Inv-loop μ-loop
 returns c =
     let end : c .before .loop .i ≡ c .before .before .before .before .args .count = omega arith in
     let within : c .before .before .before .before .args .count ≤ maxMasters = c .before .before .before .before .pre in
-    rw (← drop-replicate absent maxMasters _ within, ← end, ← c .before .before .before .powered .ensures, ← c .before .before .powered2 .ensures)
+    rw (
+      ← drop-replicate absent maxMasters _ within,
+      ← end,
+      ← c .before .before .before .powered .ensures,
+      ←
+          c .before .before .powered2 .ensures,
+    )
     (c .before .loop .inv .1)
 
 pub entered-spec : {M : Type 1} → statement M

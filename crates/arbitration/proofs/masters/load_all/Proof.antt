@@ -52,9 +52,14 @@ loop-less c = search needs
 
 loop-again : tie.Need-loop-again Inv-loop μ-loop
 loop-again c =
-    let less : c .before .before .before .before .loop .i < length (c .before .before .before .before .before .args .masters) = omega arith in
-    let less-row : c .before .before .before .before .loop .i < length (c .before .before .before .before .before .args .t3) = omega arith in
-    (search needs, zipped-more _ _ _ _ _ _ _ [] (c .before .before .before .before .loop .inv .1) (c .apply .ensures) less less-row)
+    let less : c .before .before .before .before .loop .i < length
+    (c .before .before .before .before .before .args .masters) = omega arith in
+    let less-row : c .before .before .before .before .loop .i < length
+    (c .before .before .before .before .before .args .t3) = omega arith in (
+      search needs,
+      zipped-more _ _ _ _ _ _ _ [] (c .before .before .before .before .loop .inv .1) (c .apply .ensures)
+          less less-row,
+    )
 
 returns : tie.Need-returns Inv-loop μ-loop
 returns c =

@@ -10,7 +10,8 @@ use Rattle.arbitration.proofs.masters.pulls_of.Statement.{statement}
 use Rattle.arbitration.proofs.masters.pulls_of.Tie as tie
 
 abbrev Inv-loop : tie.InvT-loop
-Inv-loop count masters scl₀ sda₀ i₀ scl sda i = (i ≤ count) × (scl ≡ anyScl (take i masters)) × (sda ≡ anySda (take i masters))
+Inv-loop count masters scl₀ sda₀ i₀ scl sda i =
+    (i ≤ count) × (scl ≡ anyScl (take i masters)) × (sda ≡ anySda (take i masters))
 
 abbrev μ-loop : tie.MeasureT-loop
 μ-loop count masters scl₀ sda₀ i₀ scl sda i = count - i

@@ -42,7 +42,8 @@ returns c =
     let less : l .i < length list = omega arith in
     let inside : l .i < length (messagesIn list (a .args .t1)) = rw (in-length list (a .args .t1) few) less in
     found-first asksRead _ _ [] (l .inv .1) inside
-    (ap (isSet 0) (sym (byte-at list (a .args .t1) (a .pre) few (l .i) less 0)) ∙ sym (c .before .is-set .ensures) ∙ c .if1 .taken)
+    (ap (isSet 0) (sym (byte-at list (a .args .t1) (a .pre) few (l .i) less 0)) ∙ sym (c .before .is-set .ensures) ∙
+    c .if1 .taken)
     ∙ sym (read-first (messagesIn list (a .args .t1)))
 
 add-i : tie.Need-add-i Inv-loop μ-loop
@@ -61,7 +62,8 @@ loop-again c =
     let inside : l .i < length (messagesIn list (a .args .t1)) = rw (in-length list (a .args .t1) few) less in (
       search needs,
       passed-more asksRead _ _ [] (l .inv .1) inside
-          (ap (isSet 0) (sym (byte-at list (a .args .t1) (a .pre) few (l .i) less 0)) ∙ sym (c .before .is-set .ensures) ∙ c .if1 .left),
+          (ap (isSet 0) (sym (byte-at list (a .args .t1) (a .pre) few (l .i) less 0)) ∙ sym (c .before .is-set .ensures)
+          ∙ c .if1 .left),
     )
 
 returns-2 : tie.Need-returns-2 Inv-loop μ-loop

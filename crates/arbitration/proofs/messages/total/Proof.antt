@@ -10,7 +10,8 @@ use Rattle.arbitration.proofs.messages.total.Statement.{statement}
 use Rattle.arbitration.proofs.messages.total.Tie as tie
 
 abbrev Inv-loop : tie.InvT-loop
-Inv-loop lengths sum₀ i₀ sum i = (i ≤ length lengths) × (sum ≤ 0xffffffff * i) × (sum + total (drop i lengths) ≡ total lengths)
+Inv-loop lengths sum₀ i₀ sum i =
+    (i ≤ length lengths) × (sum ≤ 0xffffffff * i) × (sum + total (drop i lengths) ≡ total lengths)
 
 abbrev μ-loop : tie.MeasureT-loop
 μ-loop lengths sum₀ i₀ sum i = length lengths - i

@@ -14,7 +14,8 @@ use Rattle.arbitration.proofs.order.begins_any.Statement.{statement}
 use Rattle.arbitration.proofs.order.begins_any.Tie as tie
 
 abbrev Inv-loop : tie.InvT-loop
-Inv-loop lengths index rows count i₀ i = (i ≤ length lengths) × Passed (begins (getD (messagesIn lengths rows) index [])) (messagesIn lengths rows) i
+Inv-loop lengths index rows count i₀ i =
+    (i ≤ length lengths) × Passed (begins (getD (messagesIn lengths rows) index [])) (messagesIn lengths rows) i
 
 abbrev μ-loop : tie.MeasureT-loop
 μ-loop lengths index rows count i₀ i = length lengths - i
@@ -54,8 +55,11 @@ array-copy-out-begins-2 c = search needs
 
 begins-requires : tie.Need-begins-requires Inv-loop μ-loop
 begins-requires c κs =
-    let a = c .before .before .before .before .before .before .before in
-    (good-at (a .args .lengths .now) _ (a .pre .0 .fit) (a .pre .1) .1, good-at (a .args .lengths .now) _ (a .pre .0 .fit) (c .before .before .before .loop-test .taken) .1)
+    let a = c .before .before .before .before .before .before .before in (
+      good-at (a .args .lengths .now) _ (a .pre .0 .fit) (a .pre .1) .1,
+      good-at (a .args .lengths .now) _
+          (a .pre .0 .fit) (c .before .before .before .loop-test .taken) .1,
+    )
 
 returns : tie.Need-returns Inv-loop μ-loop
 returns c =
@@ -86,8 +90,11 @@ loop-again c =
     let less : l .i < length list = omega arith in
     let inside : l .i < length (messagesIn list rows) = rw (in-length list rows few) less in
     let own = in-at list rows (a .args .index) (a .pre .1) (omega arith) in
-    let other = in-at list rows (l .i) less (omega arith) in
-    (search needs, passed-more _ _ _ [] (l .inv .1) inside (rw (own, other) (sym (c .before .begins .ensures) ∙ c .if1 .left)))
+    let other = in-at list rows (l .i) less (omega arith) in (
+      search needs,
+      passed-more _ _ _ [] (l .inv .1) inside
+          (rw (own, other) (sym (c .before .begins .ensures) ∙ c .if1 .left)),
+    )
 
 returns-2 : tie.Need-returns-2 Inv-loop μ-loop
 returns-2 c =

@@ -58,8 +58,11 @@ array-copy-out-at-most-2 c = search needs
 at-most-requires : tie.Need-at-most-requires Inv-loop μ-loop
 at-most-requires c κs =
     let a = c .before .before .before .before .before .before .before in
-    let l = c .before .before .before .before .before .loop in
-    (good-at (a .args .lengths .now) _ (a .pre .0 .fit) (l .inv .0) .1, good-at (a .args .lengths .now) _ (a .pre .0 .fit) (c .before .before .before .before .loop-test .taken) .1)
+    let l = c .before .before .before .before .before .loop in (
+      good-at (a .args .lengths .now) _ (a .pre .0 .fit) (l .inv .0) .1,
+      good-at (a .args .lengths .now) _
+          (a .pre .0 .fit) (c .before .before .before .before .loop-test .taken) .1,
+    )
 
 add-i : tie.Need-add-i Inv-loop μ-loop
 add-i c = search needs

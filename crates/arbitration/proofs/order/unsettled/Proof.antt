@@ -39,7 +39,8 @@ returns c =
     let enough = longest-at list (a .args .least) (a .pre .1 .within) in
     rw (← a .pre .1 .same)
     (rw
-    (acknowledged-not (getD (messagesIn list rows) (a .args .least) []) (a .args .acks .now) (a .pre .3) (omega arith) (omega arith)))
+    (acknowledged-not (getD (messagesIn list rows) (a .args .least) []) (a .args .acks .now) (a .pre .3) (omega arith)
+    (omega arith)))
 
 begins-any-requires : tie.Need-begins-any-requires
 begins-any-requires c κs = search needs
@@ -56,7 +57,8 @@ returns-2 c =
     let enough = longest-at list (a .args .least) (a .pre .1 .within) in
     rw (← a .pre .1 .same)
     (rw
-    (acknowledged-all (getD (messagesIn list rows) (a .args .least) []) (a .args .acks .now) (a .pre .3) (omega arith) (omega arith))
+    (acknowledged-all (getD (messagesIn list rows) (a .args .least) []) (a .args .acks .now) (a .pre .3) (omega arith)
+    (omega arith))
     (c .begins-any .ensures))
 
 pub unsettled-spec : {M : Type 1} → statement M

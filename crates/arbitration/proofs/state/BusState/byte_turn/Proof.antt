@@ -46,10 +46,14 @@ returns : tie.Need-returns
 unfolding byteTurn closed
 returns c messages held =
     let a = c .before .before .before .before .before .before .before .before .before .before .before .before .args in
-    let ready = c .before .before .before .before .before .before .before .before .before .opened .ensures .moved messages held in
+    let ready =
+    c .before .before .before .before .before .before .before .before .before .opened .ensures .moved messages held
+    in
     let sent = moved-recorded ready (c .before .before .before .before .before .before .before .data-turns .ensures) in
-    let acknowledged = moved-recorded (c .before .before .before .before .closed .ensures) (c .before .before .bit-turn .ensures) in
-    carried-byte (a .index) (a .carried .now) sent acknowledged (c .before .before .before .before .before .before .before .before .before .before .before .before .pre .2)
+    let acknowledged =
+    moved-recorded (c .before .before .before .before .closed .ensures) (c .before .before .bit-turn .ensures) in
+    carried-byte (a .index) (a .carried .now) sent acknowledged
+    (c .before .before .before .before .before .before .before .before .before .before .before .before .pre .2)
 
 pub byte-turn-spec : {M : Type 1} → statement M
 byte-turn-spec =

@@ -15,7 +15,8 @@ write-requires-2 : tie.Need-write-requires-2
 write-requires-2 c κs = search needs
 
 returns : tie.Need-returns
-returns c = moved-moved (moved-moved (c .before .before .every .ensures) (c .before .write .ensures)) (c .write2 .ensures)
+returns c =
+    moved-moved (moved-moved (c .before .before .every .ensures) (c .before .write .ensures)) (c .write2 .ensures)
 
 pub closed-spec : {M : Type 1} → statement M
 closed-spec = tie.close (tie.spec every-requires write-requires write-requires-2 returns)

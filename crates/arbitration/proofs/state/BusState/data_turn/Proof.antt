@@ -16,7 +16,9 @@ every-requires c κs = search needs
 
 taken-requires : tie.Need-taken-requires
 taken-requires c κs =
-    let same = judged-byte (c .before .before .before .before .before .before .args .position) (c .before .before .before .bit-turn .ensures) (c .every .ensures) in
+    let same =
+    judged-byte (c .before .before .before .before .before .before .args .position)
+    (c .before .before .before .bit-turn .ensures) (c .every .ensures) in
     omega arith
 
 same-length : tie.Need-same-length
@@ -24,7 +26,9 @@ same-length c = search needs
 
 returns : tie.Need-returns
 unfolding dataTurn
-returns c = recorded-moved (recorded-moved (c .before .before .before .before .bit-turn .ensures) (c .before .every .ensures)) (c .taken .ensures)
+returns c =
+    recorded-moved (recorded-moved (c .before .before .before .before .bit-turn .ensures) (c .before .every .ensures))
+    (c .taken .ensures)
 
 pub data-turn-spec : {M : Type 1} → statement M
 data-turn-spec =

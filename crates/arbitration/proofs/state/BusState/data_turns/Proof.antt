@@ -13,7 +13,9 @@ use Rattle.arbitration.proofs.state.BusState.data_turns.Statement.{stat
 use Rattle.arbitration.proofs.state.BusState.data_turns.Tie as tie
 
 abbrev Inv-loop : tie.InvT-loop
-Inv-loop position levels₀ at state₀ i₀ levels state i = (i ≤ 8) × (state .byte < 2 ^ i) × (length levels ≡ length levels₀) × Recorded (dataTurns i position) state₀ state at (2 * i) levels₀ levels
+Inv-loop position levels₀ at state₀ i₀ levels state i =
+    (i ≤ 8) × (state .byte < 2 ^ i) × (length levels ≡ length levels₀) × Recorded (dataTurns i position) state₀ state at
+    (2 * i) levels₀ levels
 
 abbrev μ-loop : tie.MeasureT-loop
 μ-loop position levels₀ at state₀ i₀ levels state i = 8 - i

@@ -28,7 +28,9 @@ unfolding busOf prepared
 returns c =
     let count = c .before .before .before .before .args .count in
     let entered = c .before .before .before .entered .ensures in
-    let three = moved-moved (moved-moved (c .before .before .write .ensures) (c .before .write2 .ensures)) (c .write3 .ensures) in
+    let three =
+    moved-moved (moved-moved (c .before .before .write .ensures) (c .before .write2 .ensures)) (c .write3 .ensures)
+    in
     record {
       bus = λ messages same. three .bus [] [] ∙ rw (entered, entered-front count messages same);
       same = three .count;

@@ -39,8 +39,12 @@ same-length c = search needs
 returns : tie.Need-returns
 unfolding started
 returns c =
-    let written = moved-moved (moved-moved (c .before .before .before .before .before .before .before .write .ensures) (c .before .before .before .before .before .before .write2 .ensures)) (c .before .before .before .before .before .write3 .ensures) in
-    let ready = recorded-moved (c .before .before .before .before .before .before .before .before .before .before .record-sample .ensures) written in
+    let written =
+    moved-moved (moved-moved (c .before .before .before .before .before .before .before .write .ensures)
+    (c .before .before .before .before .before .before .write2 .ensures))
+    (c .before .before .before .before .before .write3 .ensures) in
+    let ready =
+    recorded-moved (c .before .before .before .before .before .before .before .before .before .before .record-sample .ensures) written in
     recorded-moved (recorded-recorded ready (c .before .before .before .record-sample2 .ensures)) (c .write4 .ensures)
 
 pub started-spec : {M : Type 1} → statement M

@@ -25,7 +25,8 @@ write-requires-5 : tie.Need-write-requires-5
 write-requires-5 c κs = search needs
 
 add-record-sample : tie.Need-add-record-sample
-add-record-sample c = omega (arith, c .before .before .before .before .before .before .before .before .before .before .before .good .1 .0 .0, c .before .before .before .before .before .before .before .before .before .before .before .pre .1)
+add-record-sample c =
+    omega (arith, c .before .before .before .before .before .before .before .before .before .before .before .good .1 .0 .0, c .before .before .before .before .before .before .before .before .before .before .before .pre .1)
 
 record-sample-requires : tie.Need-record-sample-requires
 record-sample-requires c κs = (
@@ -39,7 +40,11 @@ record-sample-requires c κs = (
     c .before .before .before .before .before .before .before .before .before .write .ensures .count,
     c .before .before .before .before .before .before .before .before .before .before .before .pre .0,
   ),
-  omega (arith, c .before .before .before .before .before .bit-turn .kept, c .before .before .before .before .before .before .before .before .before .before .before .pre .1),
+  omega (
+    arith,
+    c .before .before .before .before .before .bit-turn .kept,
+    c .before .before .before .before .before .before .before .before .before .before .before .pre .1,
+  ),
 )
 
 write-requires-6 : tie.Need-write-requires-6
@@ -62,9 +67,14 @@ same-length c = search needs
 returns : tie.Need-returns
 unfolding stopped
 returns c =
-    let ready = moved-moved (moved-moved (c .before .before .before .before .before .before .before .before .before .before .before .before .before .write .ensures) (c .before .before .before .before .before .before .before .before .before .before .before .before .write2 .ensures)) (c .before .before .before .before .before .before .before .before .before .before .before .write3 .ensures) in
-    let low = moved-recorded ready (c .before .before .before .before .before .before .before .before .before .bit-turn .ensures) in
-    let freed = recorded-moved low (moved-moved (c .before .before .before .before .before .before .write4 .ensures) (c .before .before .before .before .before .write5 .ensures)) in
+    let ready =
+    moved-moved (moved-moved
+    (c .before .before .before .before .before .before .before .before .before .before .before .before .before .write .ensures) (c .before .before .before .before .before .before .before .before .before .before .before .before .write2 .ensures)) (c .before .before .before .before .before .before .before .before .before .before .before .write3 .ensures) in
+    let low =
+    moved-recorded ready (c .before .before .before .before .before .before .before .before .before .bit-turn .ensures) in
+    let freed =
+    recorded-moved low (moved-moved (c .before .before .before .before .before .before .write4 .ensures)
+    (c .before .before .before .before .before .write5 .ensures)) in
     recorded-moved (recorded-recorded freed (c .before .before .before .record-sample .ensures)) (c .write6 .ensures)
 
 pub stopped-spec : {M : Type 1} → statement M
