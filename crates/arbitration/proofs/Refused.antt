@@ -1,16 +1,15 @@
 -- The two halves of the refusals make 01's refusal and place; what they leave when neither applies.
-use Prim.Native.Nat.{ℕ, suc, _+_, _*_, _≤_}
-use mathlib.Core.Path.{_≡_, refl, sym, ap, _∙_}
-use mathlib.Core.Bool.{Bool, cond, true, false, _||_}
-use mathlib.Core.List.{List, []}
+use Prim.Native.Nat.{ℕ, _+_, _≤_}
+use mathlib.Core.Path.{_≡_, refl}
+use mathlib.Core.Bool.{Bool, cond, true, false}
+use mathlib.Core.List.{List}
 use native.Mathlib.Omega.{arith}
-use borrow.Author.Tests.{ne-eqb, ltb-false}
+use borrow.Author.Tests.{ltb-false}
 use lib.Dec.{eqb, ltb}
-use lib.ListN.{length}
-use Rattle.arbitration_rules.specs.declared.Arbitrated.{Arbitrated}
 use Rattle.arbitration_rules.specs.Outcome.{least, carriedCount, unsettled}
-use Rattle.arbitration_rules.specs.Reply.{messagesOf, badCount, badLengths, firstBadLength, reads, firstRead, badAcknowledges}
-use Rattle.arbitration_rules.specs.Reply.{shortBuffer, levelCount, refusal, place, refused, arbitrated, carriedAfter, levelsAfter}
+use Rattle.arbitration_rules.specs.Reply.{messagesOf, badCount, badLengths, firstBadLength, reads, firstRead}
+use Rattle.arbitration_rules.specs.Reply.{badAcknowledges}
+use Rattle.arbitration_rules.specs.Reply.{shortBuffer, levelCount, refusal, place}
 use Rattle.arbitration.specs.declared.refusals.Refusal.{Refusal}
 use Rattle.arbitration.specs.Refusals.{numbered, malformedOf, objectionOf}
 use Rattle.arbitration.proofs.Lengths.{or-false}
@@ -21,7 +20,8 @@ pub record Agrees (bytes lengths acknowledges : List ℕ) (carriedRoom levelRoom
   pub place-is : place bytes lengths (found .number) ≡ found .place
 
 -- the lengths that the first half passes
-pub well-formed : (bytes lengths : List ℕ) → malformedOf bytes lengths .number ≡ 0 → (badCount lengths ≡ false) × (badLengths bytes lengths ≡ false)
+pub well-formed : (bytes lengths : List ℕ) → malformedOf bytes lengths .number ≡ 0 → (badCount lengths ≡ false) ×
+    (badLengths bytes lengths ≡ false)
 unfolding malformedOf
 well-formed bytes lengths none = cases (badCount lengths) (badLengths bytes lengths) none
   where
@@ -39,8 +39,10 @@ module _ (bytes lengths acknowledges : List ℕ) (carriedRoom levelRoom : ℕ) w
         → (cond count (numbered 12 0) (cond sizes (numbered 13 where-bad) (numbered 0 0)) .number ≡ 0 → ⊥)
         → (cond count 12 (cond sizes 13 number)
         ≡ cond count (numbered 12 0) (cond sizes (numbered 13 where-bad) (numbered 0 0)) .number)
-        × (cond (eqb (cond count (numbered 12 0) (cond sizes (numbered 13 where-bad) (numbered 0 0)) .number) 13) where-bad
-        (cond (eqb (cond count (numbered 12 0) (cond sizes (numbered 13 where-bad) (numbered 0 0)) .number) 14) where-read 0)
+        × (cond (eqb (cond count (numbered 12 0) (cond sizes (numbered 13 where-bad) (numbered 0 0)) .number) 13)
+        where-bad
+        (cond (eqb (cond count (numbered 12 0) (cond sizes (numbered 13 where-bad) (numbered 0 0)) .number) 14)
+        where-read 0)
         ≡ cond count (numbered 12 0) (cond sizes (numbered 13 where-bad) (numbered 0 0)) .place)
     halved true sizes some = (refl, refl)
     halved false true some = (refl, refl)
@@ -50,12 +52,15 @@ module _ (bytes lengths acknowledges : List ℕ) (carriedRoom levelRoom : ℕ) w
       → Agrees bytes lengths acknowledges carriedRoom levelRoom (malformedOf bytes lengths)
   unfolding malformedOf refusal place
   malformed-agrees some =
-      let two = halved _ (firstBadLength lengths) (firstRead (messagesOf lengths bytes)) (badCount lengths) (badLengths bytes lengths) some in
+      let two =
+      halved _ (firstBadLength lengths) (firstRead (messagesOf lengths bytes)) (badCount lengths)
+      (badLengths bytes lengths) some in
       record { number = two .0; place-is = two .1 }
 
   -- the second half
   objected : (read answers torn short : Bool) (where-bad where-read : ℕ)
-      → let found = cond read (numbered 14 where-read) (cond answers (numbered 15 0) (cond torn (numbered 16 0) (cond short (numbered 8 0) (numbered 0 0)))) in
+      → let found = cond read (numbered 14 where-read)
+      (cond answers (numbered 15 0) (cond torn (numbered 16 0) (cond short (numbered 8 0) (numbered 0 0)))) in
       (cond read 14 (cond answers 15 (cond torn 16 (cond short 8 0))) ≡ found .number)
       × (cond (eqb (found .number) 13) where-bad (cond (eqb (found .number) 14) where-read 0) ≡ found .place)
   objected true answers torn short where-bad where-read = (refl, refl)
@@ -75,28 +80,6 @@ module _ (bytes lengths acknowledges : List ℕ) (carriedRoom levelRoom : ℕ) w
       (shortBuffer (carriedCount (least all) acknowledges) carriedRoom levelRoom)
       (firstBadLength lengths) (firstRead all) in
       record { number = rw (count, sizes) (two .0); place-is = two .1 }
-
-  -- a refused reply, and the buffers as they were
-  module _ (found : Refusal) (agrees : Agrees bytes lengths acknowledges carriedRoom levelRoom found)
-      (some : found .number ≡ 0 → ⊥) (reply : Arbitrated) (is : reply ≡ refused (found .number) (found .place)) where
-    pub refused-reply : reply ≡ arbitrated bytes lengths acknowledges carriedRoom levelRoom
-    unfolding arbitrated
-    refused-reply = rw (agrees .number, ne-eqb (found .number) 0 some, agrees .place-is) is
-
-    refused-number : reply .refusal ≡ found .number
-    unfolding refused
-    refused-number = ap (λ (r : Arbitrated). r .refusal) is
-
-    pub refused-some : reply .refusal ≡ 0 → ⊥
-    refused-some none = some (sym refused-number ∙ none)
-
-    pub refused-carried : (buffer : List ℕ) → buffer ≡ carriedAfter bytes lengths acknowledges (reply .refusal) buffer
-    unfolding carriedAfter
-    refused-carried buffer = rw (ne-eqb (reply .refusal) 0 refused-some)
-
-    pub refused-levels : (buffer : List ℕ) → buffer ≡ levelsAfter bytes lengths acknowledges (reply .refusal) buffer
-    unfolding levelsAfter
-    refused-levels buffer = rw (ne-eqb (reply .refusal) 0 refused-some)
 
   -- room for k bytes and 5 + 18k levels, where 8 does not apply
   pub roomy : objectionOf lengths (messagesOf lengths bytes) acknowledges carriedRoom levelRoom .number ≡ 0

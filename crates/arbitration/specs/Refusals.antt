@@ -24,7 +24,8 @@ objectionOf lengths messages acknowledges carriedRoom levelRoom =
     cond (reads messages) (numbered 14 (firstRead messages))
     (cond (badAcknowledges lengths acknowledges) (numbered 15 0)
     (cond (unsettled messages acknowledges) (numbered 16 0)
-    (cond (shortBuffer (carriedCount (least messages) acknowledges) carriedRoom levelRoom) (numbered 8 0) (numbered 0 0))))
+    (cond (shortBuffer (carriedCount (least messages) acknowledges) carriedRoom levelRoom) (numbered 8 0)
+    (numbered 0 0))))
 
 -- the reply of a run, from all eight places
 unfoldable pub replyOf : List Master → ℕ → Arbitrated

@@ -6,7 +6,7 @@ use lib.ListN.{length, take, drop, replicate}
 use Rattle.usi_rules.specs.Registers.{USICTL0, USICNT}
 use Rattle.arbitration_rules.specs.declared.Operation.the-variants.{Withdraw}
 use Rattle.arbitration_rules.specs.Limits.{maxMasters, maxLength}
-use Rattle.arbitration_rules.specs.Run.{Bus, every, writes, prepared}
+use Rattle.arbitration_rules.specs.Run.{Bus, every, writes, bytesTurn, prepared}
 use Rattle.arbitration.specs.declared.run.Ended.{Ended}
 use Rattle.arbitration.specs.declared.state.BusState.{BusState}
 use Rattle.arbitration.specs.Masters.{absent}
@@ -68,6 +68,17 @@ pub record Carried (step : Bus → Bus) (before after : BusState) (from to : ℕ
   pub levels-rest : drop (levelsBefore to) levelsExit ≡ drop (levelsBefore to) levels
   pub count : after .count ≡ before .count
   pub idle : drop (after .count) (after .masters) ≡ drop (before .count) (before .masters)
+
+-- step 2 from a state that has recorded START
+abbrev pub bytesFrom : List (List ℕ) → List ℕ → BusState → List ℕ → Bus
+bytesFrom messages acknowledges state levels = bytesTurn messages acknowledges 0 (busOf state [] (take 2 levels))
+
+-- step 2 done
+pub record Sent (messages : List (List ℕ)) (acknowledges : List ℕ) (before : BusState) (ended : Ended)
+    (entry exit levels levelsExit : List ℕ) : Type 0 where
+  pub carried : Carried (bytesTurn messages acknowledges 0) before (ended .state) 0 (ended .k) entry exit levels
+      levelsExit
+  pub within : ended .k ≤ length (bytesFrom messages acknowledges before levels .carried)
 
 -- the buffers have room for what a bus carries in the end, k bytes and 5 + 18k levels
 pub record Room (bus : Bus) (acknowledges carried levels : List ℕ) : Type 0 where

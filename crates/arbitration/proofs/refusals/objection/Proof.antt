@@ -1,5 +1,5 @@
 -- The first of 14, 15, 16 and 8 that applies.
-use Prim.Native.Nat.{ℕ, _<_, _≤_}
+use Prim.Native.Nat.{ℕ, _≤_}
 use mathlib.Core.Path.{_≡_, sym, ap, _∙_}
 use mathlib.Core.Bool.{true, false}
 use mathlib.Core.List.{List, []}
@@ -17,17 +17,10 @@ use borrow.Author.Needs.{needs}
 use borrow.Author.Needs.{needs}
 use Rattle.arbitration.proofs.refusals.objection.Statement.{statement}
 use Rattle.arbitration.proofs.refusals.objection.Tie as tie
-use Rattle.arbitration.proofs.refusals.objection.Reads as reads
-use Rattle.arbitration.proofs.refusals.objection.Lts as lts
-use Rattle.arbitration.proofs.messages.bad_acknowledges.Reads as bad-acknowledges-reads
-use Rattle.arbitration.proofs.messages.first_read.Reads as first-read-reads
-use Rattle.arbitration.proofs.order.carried_count.Reads as carried-count-reads
-use Rattle.arbitration.proofs.order.least.Reads as least-reads
-use Rattle.arbitration.proofs.order.unsettled.Reads as unsettled-reads
-use Rattle.arbitration.proofs.refusals.short_buffer.Reads as short-buffer-reads
 
 -- what the branches passed: not 14, not 15, not 16
-not-read : (c : tie.Else1) → reads (messagesIn (c .before .before .before .before .args .lengths .now) (c .before .before .before .before .args .rows)) ≡ false
+not-read : (c : tie.Else1) → reads (messagesIn (c .before .before .before .before .args .lengths .now)
+    (c .before .before .before .before .args .rows)) ≡ false
 not-read c =
     let a = c .before .before .before .before in
     let list = a .args .lengths .now in
@@ -36,14 +29,19 @@ not-read c =
     le-ltb (firstRead messages) (length messages)
     (rw (in-length list (a .args .rows) many, ← c .before .first-read .ensures) (c .if1 .left))
 
-good-bits : (c : tie.Else2) → badAcknowledges (c .before .before .before .before .before .before .args .lengths .now) (c .before .before .before .before .before .before .args .acks .now) ≡ false
+good-bits : (c : tie.Else2) → badAcknowledges (c .before .before .before .before .before .before .args .lengths .now)
+    (c .before .before .before .before .before .before .args .acks .now) ≡ false
 good-bits c = sym (c .before .bad-acknowledges .ensures) ∙ c .if2 .left
 
-settled : (c : tie.Else3) → unsettled (messagesIn (c .before .before .before .before .before .before .before .before .before .args .lengths .now) (c .before .before .before .before .before .before .before .before .before .args .rows)) (c .before .before .before .before .before .before .before .before .before .args .acks .now) ≡ false
+settled : (c : tie.Else3) → unsettled
+    (messagesIn (c .before .before .before .before .before .before .before .before .before .args .lengths .now)
+    (c .before .before .before .before .before .before .before .before .before .args .rows))
+    (c .before .before .before .before .before .before .before .before .before .args .acks .now) ≡ false
 settled c = sym (c .before .unsettled .ensures) ∙ c .if3 .left
 
 k-is : (c : tie.After-carried-count)
-    → c .carried-count .result ≡ carriedCount (least (messagesIn (c .before .before .before .before .before .before .before .before .before .before .before .args .lengths .now) (c .before .before .before .before .before .before .before .before .before .before .before .args .rows))) (c .before .before .before .before .before .before .before .before .before .before .before .args .acks .now)
+    → c .carried-count .result ≡ carriedCount (least
+    (messagesIn (c .before .before .before .before .before .before .before .before .before .before .before .args .lengths .now) (c .before .before .before .before .before .before .before .before .before .before .before .args .rows))) (c .before .before .before .before .before .before .before .before .before .before .before .args .acks .now)
 k-is c =
     let a = c .before .before .before .before .before .before .before .before .before .before .before in
     let list = a .args .lengths .now in
@@ -87,7 +85,14 @@ unsettled-requires c κs =
 
 returns-3 : tie.Need-returns-3
 unfolding objectionOf
-returns-3 c = rw (not-read (c .before .before .before .before .before), good-bits (c .before .before .before), ← c .before .unsettled .ensures, c .if3 .taken)
+returns-3 c =
+    rw (
+      not-read (c .before .before .before .before .before),
+      good-bits (c .before .before .before),
+      ←
+          c .before .unsettled .ensures,
+      c .if3 .taken,
+    )
 
 mul-carried-count : tie.Need-mul-carried-count
 mul-carried-count c = search needs
@@ -101,8 +106,14 @@ cast-carried-count c = omega (arith, c .shared-slice-known3 .given (c .before .b
 carried-count-requires : tie.Need-carried-count-requires
 carried-count-requires c κs =
     let a = c .before .before .before .before .before .before .before .before .before .before in
-    let good = good-acknowledges (a .args .lengths .now) (a .args .acks .now) (good-bits (c .before .before .before .before)) in
-    omega (arith, longest-at (a .args .lengths .now) (c .before .before .before .least .result) (c .before .before .before .least .ensures .within))
+    let good =
+    good-acknowledges (a .args .lengths .now) (a .args .acks .now) (good-bits (c .before .before .before .before))
+    in
+    omega (
+      arith,
+      longest-at (a .args .lengths .now) (c .before .before .before .least .result)
+          (c .before .before .before .least .ensures .within),
+    )
 
 short-buffer-requires : tie.Need-short-buffer-requires
 short-buffer-requires c κs =
