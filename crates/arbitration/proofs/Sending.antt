@@ -2,7 +2,7 @@
 use Prim.Native.Nat.{ℕ, suc, _+_, _-_, _<_, _≤_}
 use mathlib.Core.Path.{_≡_, refl, sym, ap, _∙_}
 use mathlib.Core.Bool.{Bool, cond, true, false, _||_}
-use mathlib.Core.List.{List, [], _∷_}
+use mathlib.Core.List.{List, _∷_}
 use native.Mathlib.Numerals.{add-one}
 use native.Mathlib.Omega.{arith}
 use lib.Dec.{eqb}
@@ -14,8 +14,8 @@ use Rattle.arbitration.specs.State.{busOf, Carried, Room, levelsBefore, 
 use Rattle.arbitration.proofs.Bytes.{bytes-next}
 
 -- the rest of the buffers is as it was before the byte
-pub rest-after : {A : Type 0} (n m : ℕ) (x y z : List A) → n ≤ m → drop m x ≡ drop m y → drop n y ≡ drop n z → drop m x
-    ≡ drop m z
+pub rest-after : {A : Type 0} (n m : ℕ) (x y z : List A) → n ≤ m → drop m x ≡ drop m y → drop n y ≡ drop n z
+    → drop m x ≡ drop m z
 rest-after n m x y z before one two =
     let apart : n + (m - n) ≡ m = omega arith in
     one

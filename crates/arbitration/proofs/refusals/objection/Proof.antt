@@ -37,7 +37,8 @@ bits c = c .before .before .before .before .before .before
 good-bits : (c : tie.Else2) → badAcknowledges (bits c .args .lengths .now) (bits c .args .acks .now) ≡ false
 good-bits c = sym (c .before .bad-acknowledges .ensures) ∙ c .if2 .left
 
-settled : (c : tie.Else3) → unsettled (held (bits (c .before .before .before))) (bits (c .before .before .before) .args .acks .now) ≡ false
+settled : (c : tie.Else3)
+    → unsettled (held (bits (c .before .before .before))) (bits (c .before .before .before) .args .acks .now) ≡ false
 settled c = sym (c .before .unsettled .ensures) ∙ c .if3 .left
 
 abbrev entry : tie.After-carried-count → tie.Start
