@@ -53,8 +53,8 @@ module _ (bytes lengths acknowledges entry levels : List ℕ) (found : Refusal) 
     ),
   )
 
-  pub refused-first : found ≡ malformedOf bytes lengths → Clauses bytes lengths acknowledges entry entry levels levels
-      reply
+  pub refused-first : found ≡ malformedOf bytes lengths
+      → Clauses bytes lengths acknowledges entry entry levels levels reply
   refused-first same =
       let first = malformed-agrees bytes lengths acknowledges (length entry) (length levels) in
       refused-clauses (rw same (first (λ none. some (ap (λ (r : Refusal). r .number) same ∙ none))))

@@ -78,7 +78,8 @@ module _ (bytes lengths acknowledges : List ℕ) (carriedRoom levelRoom : ℕ) w
       let all = messagesOf lengths bytes in
       let short = shortBuffer (carriedCount (least all) acknowledges) carriedRoom levelRoom in
       let wrong = badAcknowledges lengths acknowledges in
-      let two = second-agrees (reads all) wrong (unsettled all acknowledges) short (firstBadLength lengths) (firstRead all) in
+      let torn = unsettled all acknowledges in
+      let two = second-agrees (reads all) wrong torn short (firstBadLength lengths) (firstRead all) in
       record { number = rw (count, sizes) (two .0); place-is = two .1 }
 
   -- room for k bytes and 5 + 18k levels, where 8 does not apply

@@ -76,8 +76,8 @@ bytesFrom messages acknowledges state levels = bytesTurn messages acknowledges 0
 -- step 2 done
 pub record Sent (messages : List (List ℕ)) (acknowledges : List ℕ) (before : BusState) (ended : Ended)
     (entry exit levels levelsExit : List ℕ) : Type 0 where
-  pub carried : Carried (bytesTurn messages acknowledges 0) before (ended .state) 0 (ended .k) entry exit levels
-      levelsExit
+  pub carried : Carried (bytesTurn messages acknowledges 0) before (ended .state) 0 (ended .k)
+      entry exit levels levelsExit
   pub within : ended .k ≤ length (bytesFrom messages acknowledges before levels .carried)
 
 -- the buffers have room for what a bus carries in the end, k bytes and 5 + 18k levels
