@@ -9,7 +9,7 @@ use lib.ListN.{length, getD}
 use Rattle.arbitration_rules.specs.Outcome.{least, carriedCount, unsettled}
 use Rattle.arbitration_rules.specs.Reply.{reads, firstRead, badAcknowledges}
 use Rattle.arbitration.specs.Rows.{messagesIn}
-use Rattle.arbitration.specs.Refusals.{objectionOf}
+use Rattle.arbitration.specs.Refusals.{numbered, objectionOf}
 use Rattle.arbitration.proofs.Lengths.{good-at, good-acknowledges, longest-at}
 use Rattle.arbitration.proofs.Held.{in-length, length-at}
 use Rattle.arbitration.proofs.Least.{carried-within}
@@ -68,7 +68,7 @@ returns c =
     let is = c .before .first-read .ensures in
     let read : reads (held a) ≡ true =
     lt-ltb (firstRead (held a)) (length (held a)) (rw (in-length list (a .args .rows) many, ← is) (c .if1 .taken)) in
-    rw (read, is)
+    rw read (ap (numbered 14) is)
 
 bad-acknowledges-requires : tie.Need-bad-acknowledges-requires
 bad-acknowledges-requires c κs = search needs
