@@ -66,8 +66,8 @@ module _ (bus : Bus) (count : ℕ) (ended : Ended) (entry exit levels levelsExit
   levels-count = ap length levels-are ∙ length-take-le (5 + 18 * ended .k) levelsExit (ran .levels-within)
 
   -- where there is no message the master is absent
-  pub padded-places : {B : Type 0} (f : Master → B) → map f (ended .state .masters) ≡ padded (f absent)
-      (map f (bus .masters))
+  pub padded-places : {B : Type 0} (f : Master → B)
+      → map f (ended .state .masters) ≡ padded (f absent) (map f (bus .masters))
   unfolding masters
   padded-places f =
       let whole = sym (take-append-drop count masters) ∙ ap₂ _++_ (sym masters-are) (ran .idle) in
@@ -91,8 +91,8 @@ module _ (bus : Bus) (count : ℕ) (ended : Ended) (entry exit levels levelsExit
   carried-kept = rw (bytes-count, carried-are, ← ran .rest) (sym (take-append-drop (ended .k) exit))
 
   pub levels-kept : levelsExit ≡ bus .levels ++ drop (length (bus .levels)) levels
-  levels-kept = rw (levels-count, levels-are, ← ran .levels-rest)
-      (sym (take-append-drop (5 + 18 * ended .k) levelsExit))
+  levels-kept =
+      rw (levels-count, levels-are, ← ran .levels-rest) (sym (take-append-drop (5 + 18 * ended .k) levelsExit))
 
   pub shown-is : (reply : Arbitrated) → reply ≡ answered bus → shown count reply exit levelsExit ≡ observed bus
   unfolding shown answered observed

@@ -18,8 +18,8 @@ use Rattle.arbitration.proofs.Steps.{recorded-recorded}
 
 -- a byte: its data turns, the byte stored, and its acknowledge
 pub carried-byte : {f g : Bus → Bus} {a b c : BusState} {x y z : List ℕ} (index : ℕ) (carried : List ℕ)
-    → Recorded f a b (levelsBefore index) 16 x y → Recorded g b c (levelsBefore index + 16) 2 y z → index < length
-    carried
+    → Recorded f a b (levelsBefore index) 16 x y → Recorded g b c (levelsBefore index + 16) 2 y z
+    → index < length carried
     → Carried (λ bus. g (byteTaken (f bus))) a c index (index + 1) carried (set carried index (b .byte)) x z
 unfolding busOf
 carried-byte {f} {g} {a} {b} {c} {x} {y} {z} index carried sent acknowledged less =
@@ -30,8 +30,8 @@ carried-byte {f} {g} {a} {b} {c} {x} {y} {z} index carried sent acknowledged les
     record {
       bus =
           rw (← apart, add-one, stored)
-          (acknowledged .bus (take index carried ++ b .byte ∷ []) ∙ ap (λ (bus : Bus). g (byteTaken bus))
-          (sent .bus (take index carried)));
+          (acknowledged .bus (take index carried ++ b .byte ∷ [])
+          ∙ ap (λ (bus : Bus). g (byteTaken bus)) (sent .bus (take index carried)));
       rest = drop-set-lt (index + 1) carried index (b .byte) (omega arith);
       levels-rest = rw (← levels) (both .rest);
       count = both .count;

@@ -89,15 +89,15 @@ module _ (message other : List ℕ) (short : common message other ≡ length mes
       → ltb (getD message (common message other) 0) (getD other (common message other) 0) ≡ atMost message other
   at-most-byte both = rw (at-most-is message other, ne-eqb _ _ short, ne-eqb _ _ both)
 
-pub common-within : (message other : List ℕ) → (common message other ≤ length message) ×
-    (common message other ≤ length other)
+pub common-within : (message other : List ℕ)
+    → (common message other ≤ length message) × (common message other ≤ length other)
 common-within [] other = (omega arith, omega arith)
 common-within (byte ∷ bytes) [] = (omega arith, omega arith)
 common-within (byte ∷ bytes) (another ∷ others) = cases (eqb byte another) (common-within bytes others)
   where
     cases : (same : Bool) → (common bytes others ≤ length bytes) × (common bytes others ≤ length others)
-        → (cond same (suc (common bytes others)) 0 ≤ suc (length bytes)) ×
-        (cond same (suc (common bytes others)) 0 ≤ suc (length others))
+        → (cond same (suc (common bytes others)) 0 ≤ suc (length bytes))
+        × (cond same (suc (common bytes others)) 0 ≤ suc (length others))
     cases true rest = (omega arith, omega arith)
     cases false rest = (omega arith, omega arith)
 
@@ -109,10 +109,10 @@ begins-is [] (another ∷ others) = sym (leb·suc-suc 0 (length others) ∙ leb�
 begins-is (byte ∷ bytes) [] = rw eqb·zero-suc
 begins-is (byte ∷ bytes) (another ∷ others) = cases (eqb byte another) (begins-is bytes others)
   where
-    cases : (same : Bool) → begins bytes others ≡ eqb (common bytes others) (length bytes) && ltb (length bytes)
-        (length others)
+    cases : (same : Bool)
+        → begins bytes others ≡ eqb (common bytes others) (length bytes) && ltb (length bytes) (length others)
         → same && begins bytes others
-        ≡ eqb (cond same (suc (common bytes others)) 0) (suc (length bytes)) && ltb (suc (length bytes))
-        (suc (length others))
+        ≡ eqb (cond same (suc (common bytes others)) 0) (suc (length bytes))
+        && ltb (suc (length bytes)) (suc (length others))
     cases true rest = rw (eqb·suc-suc, leb·suc-suc) rest
     cases false rest = rw eqb·zero-suc

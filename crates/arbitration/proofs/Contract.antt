@@ -53,8 +53,8 @@ module _ (bytes lengths acknowledges entry levels : List ℕ) (found : Refusal) 
     ),
   )
 
-  pub refused-first : found ≡ malformedOf bytes lengths → Clauses bytes lengths acknowledges entry entry levels levels
-      reply
+  pub refused-first : found ≡ malformedOf bytes lengths
+      → Clauses bytes lengths acknowledges entry entry levels levels reply
   refused-first same =
       let first = malformed-agrees bytes lengths acknowledges (length entry) (length levels) in
       refused-clauses (rw same (first (λ none. some (ap (λ (r : Refusal). r .number) same ∙ none))))
@@ -78,7 +78,8 @@ module _ (bytes lengths : List ℕ) (first : Refusal) (same : first ≡ malforme
     module _ (acknowledges entry levels : List ℕ) (second : Refusal)
         (found : second ≡ objectionOf lengths (messagesIn lengths rows) acknowledges (length entry) (length levels))
       where
-        objection-is : second ≡ objectionOf lengths (messagesOf lengths bytes) acknowledges (length entry) (length levels)
+        objection-is : second
+            ≡ objectionOf lengths (messagesOf lengths bytes) acknowledges (length entry) (length levels)
         objection-is = rw (← messages-are) found
 
         agrees : Agrees bytes lengths acknowledges (length entry) (length levels) second
@@ -86,10 +87,11 @@ module _ (bytes lengths : List ℕ) (first : Refusal) (same : first ≡ malforme
             rw objection-is
             (objection-agrees bytes lengths acknowledges (length entry) (length levels) (formed .0) (formed .1))
 
-        pub refused-second : (reply : Arbitrated) → (second .number ≡ 0 → ⊥) → reply ≡ refused (second .number)
-            (second .place)
+        pub refused-second : (reply : Arbitrated) → (second .number ≡ 0 → ⊥)
+            → reply ≡ refused (second .number) (second .place)
             → Clauses bytes lengths acknowledges entry entry levels levels reply
-        refused-second reply some is = refused-clauses bytes lengths acknowledges entry levels second reply some is agrees
+        refused-second reply some is =
+            refused-clauses bytes lengths acknowledges entry levels second reply some is agrees
 
         -- past the second half
         module _ (passed : second .number ≡ 0) (small : Bytes bytes) where
@@ -104,7 +106,8 @@ module _ (bytes lengths : List ℕ) (first : Refusal) (same : first ≡ malforme
                     (three .2),
               )
 
-          pub runnable : Rowed lengths rows × Room (run (messagesIn lengths rows) acknowledges) acknowledges entry levels
+          pub runnable : Rowed lengths rows
+              × Room (run (messagesIn lengths rows) acknowledges) acknowledges entry levels
           runnable = (rowed .0, rw messages-are (room .1))
 
           pub answered-clauses : (ended : Ended) (exit levelsExit : List ℕ) (reply : Arbitrated)
@@ -117,7 +120,8 @@ module _ (bytes lengths : List ℕ) (first : Refusal) (same : first ≡ malforme
               let ran : Ran bus (length lengths) ended entry exit levels levelsExit = rw messages-are at over in
               let few = good-count lengths (formed .0) .1 in
               let eight = gathered .1 in
-              let is = gathered .0 ∙ answered-is bus (length lengths) ended entry exit levels levelsExit ran few eight in
+              let all = answered-is bus (length lengths) ended entry exit levels levelsExit ran few eight in
+              let is = gathered .0 ∙ all in
               let zero : reply .refusal ≡ 0 = ap (λ (r : Arbitrated). r .refusal) (gathered .0) in
               let arbitration = given bytes lengths acknowledges small (formed .0) (formed .1) (room .0) in (
                 rw (agrees .number ∙ passed) is,

@@ -12,8 +12,8 @@ use Rattle.arbitration.specs.Rows.{Cuttable, rowOf}
 use Rattle.arbitration.proofs.Lengths.{good-head}
 
 -- the row of the first i bytes
-row-taken : (bytes : List ℕ) (i : ℕ) → i ≤ length bytes → rowOf (take i bytes) ≡ take i bytes ++ replicate
-    (maxLength - i) 0
+row-taken : (bytes : List ℕ) (i : ℕ) → i ≤ length bytes
+    → rowOf (take i bytes) ≡ take i bytes ++ replicate (maxLength - i) 0
 row-taken bytes i within = ap (λ (n : ℕ). take i bytes ++ replicate (maxLength - n) 0) (length-take-le i bytes within)
 
 -- one byte more
@@ -23,8 +23,8 @@ row-more bytes i less fits =
     let left : maxLength - i ≡ suc (maxLength - suc i) = omega arith in
     let byte = getD bytes i 0 in
     let zeros : List ℕ = replicate (maxLength - suc i) 0 in
-    ap (λ (list : List ℕ). set list i byte) (row-taken bytes i (omega arith) ∙ ap
-    (λ (n : ℕ). take i bytes ++ replicate n 0) left)
+    ap (λ (list : List ℕ). set list i byte)
+    (row-taken bytes i (omega arith) ∙ ap (λ (n : ℕ). take i bytes ++ replicate n 0) left)
     ∙ set-at (take i bytes) 0 zeros byte i (length-take-le i bytes (omega arith))
     ∙ sym (append-snoc (take i bytes) byte zeros)
     ∙ ap (λ (list : List ℕ). list ++ zeros) (sym (take-suc bytes i 0 less))
@@ -38,8 +38,8 @@ pub record Cutting (bytes lengths : List ℕ) (out : List (List ℕ)) (from i : 
   pub many : maxMasters ≤ length out
   pub fit : firstBadLength (drop i lengths) ≡ length (drop i lengths)
   pub all : from + total (drop i lengths) ≡ length bytes
-  pub same : map rowOf (messagesOf lengths bytes) ≡ take i out ++ map rowOf
-      (messagesOf (drop i lengths) (drop from bytes))
+  pub same : map rowOf (messagesOf lengths bytes)
+      ≡ take i out ++ map rowOf (messagesOf (drop i lengths) (drop from bytes))
 
 pub cutting-start : (bytes lengths : List ℕ) (out : List (List ℕ)) → Cuttable bytes lengths → maxMasters ≤ length out
     → Cutting bytes lengths out 0 0
@@ -84,8 +84,7 @@ module _ (bytes lengths : List ℕ) (out : List (List ℕ)) (from i : ℕ) (cutt
             rw (
               add-one,
               take-suc-set out i row (omega (arith, cutting .few, cutting .many)),
-              ← drop-drop count from
-                  bytes,
+              ← drop-drop count from bytes,
               append-assoc,
             )
             (cutting .same ∙ ap (λ (l : List ℕ). take i out ++ map rowOf (messagesOf l (drop from bytes))) next);

@@ -24,8 +24,8 @@ module _ (messages : List (List ℕ)) (acknowledges : List ℕ) (count : ℕ) (m
 
   pub room-started : (carried : List ℕ) → Room (run messages acknowledges) acknowledges carried levels
       → length levelsStarted ≡ length levels
-      → Room (bytesTurn messages acknowledges 0 (busOf second [] (take 2 levelsStarted))) acknowledges carried
-      levelsStarted
+      → Room (bytesTurn messages acknowledges 0 (busOf second [] (take 2 levelsStarted)))
+      acknowledges carried levelsStarted
   room-started carried room long =
       record {
         few = room .few;

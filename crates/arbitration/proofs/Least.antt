@@ -50,10 +50,10 @@ carried-refused (byte ∷ bytes) (acknowledge ∷ acknowledges) some enough =
     cases (eqb acknowledge 1) some (λ less. carried-refused bytes acknowledges less (le-of-suc-le-suc enough))
   where
     cases : (refused : Bool) → cond refused 0 (suc (refusedAt bytes acknowledges)) < suc (length bytes)
-        → (refusedAt bytes acknowledges < length bytes → refusedAt bytes acknowledges + 1 ≡ carriedCount bytes
-        acknowledges)
-        → cond refused 0 (suc (refusedAt bytes acknowledges)) + 1 ≡ cond refused 1
-        (suc (carriedCount bytes acknowledges))
+        → (refusedAt bytes acknowledges < length bytes
+        → refusedAt bytes acknowledges + 1 ≡ carriedCount bytes acknowledges)
+        → cond refused 0 (suc (refusedAt bytes acknowledges)) + 1
+        ≡ cond refused 1 (suc (carriedCount bytes acknowledges))
     cases true some rest = refl
     cases false some rest = let same = rest (le-of-suc-le-suc some) in omega arith
 
@@ -78,8 +78,8 @@ and-end false = refl
 pub carried-within : (message acknowledges : List ℕ) → carriedCount message acknowledges ≤ length message
 carried-within [] acknowledges = omega arith
 carried-within (byte ∷ bytes) [] = omega (arith, carried-within bytes [])
-carried-within (byte ∷ bytes) (acknowledge ∷ acknowledges) = cases (eqb acknowledge 1)
-    (carried-within bytes acknowledges)
+carried-within (byte ∷ bytes) (acknowledge ∷ acknowledges) =
+    cases (eqb acknowledge 1) (carried-within bytes acknowledges)
   where
     cases : (refused : Bool) → carriedCount bytes acknowledges ≤ length bytes
         → cond refused 1 (suc (carriedCount bytes acknowledges)) ≤ suc (length bytes)
@@ -112,8 +112,8 @@ pub acknowledged-all : (message acknowledges : List ℕ) → any above acknowled
 acknowledged-all [] acknowledges bits all enough = refl
 acknowledged-all (byte ∷ bytes) [] bits all enough = absurd (not-suc-le-zero enough)
 acknowledged-all (byte ∷ bytes) (acknowledge ∷ acknowledges) bits all enough =
-    cases (eqb acknowledge 1) refl all (ltb-false 1 acknowledge
-    (or-false (above acknowledge) (any above acknowledges) bits .0))
+    cases (eqb acknowledge 1) refl all
+    (ltb-false 1 acknowledge (or-false (above acknowledge) (any above acknowledges) bits .0))
     (λ more. acknowledged-all bytes acknowledges (or-false (above acknowledge) (any above acknowledges) bits .1) more
     (le-of-suc-le-suc enough))
   where

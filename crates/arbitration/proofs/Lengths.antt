@@ -91,8 +91,8 @@ bad-within : (lengths : List ℕ) → firstBadLength lengths ≤ length lengths
 bad-within [] = omega arith
 bad-within (count ∷ counts) = cases (badLength count) (bad-within counts)
   where
-    cases : (bad : Bool) → firstBadLength counts ≤ length counts → cond bad 0 (suc (firstBadLength counts)) ≤ suc
-        (length counts)
+    cases : (bad : Bool) → firstBadLength counts ≤ length counts
+        → cond bad 0 (suc (firstBadLength counts)) ≤ suc (length counts)
     cases true rest = omega arith
     cases false rest = omega arith
 

@@ -21,8 +21,8 @@ use Rattle.arbitration.specs.State.{busOf, Moved}
 use Rattle.arbitration.proofs.Held.{padded-at}
 
 module _ {A B C : Type 0} (f : A → B → C) where
-  pub zip-length : (list : List A) (others : List B) → length list ≡ length others → length (zipWith f list others) ≡
-      length list
+  pub zip-length : (list : List A) (others : List B) → length list ≡ length others
+      → length (zipWith f list others) ≡ length list
   unfolding zipWith
   zip-length [] others same = refl
   zip-length (a ∷ list) [] same = sym same
@@ -41,8 +41,8 @@ abbrev fromRow : ℕ → Master → List ℕ → Master
 fromRow index master row = written USISRL (getD row index 0) master
 
 -- a row's byte is its message's
-row-byte : (index : ℕ) (master : Master) (message : List ℕ) → fromRow index master (rowOf message) ≡ fromRow index
-    master message
+row-byte : (index : ℕ) (master : Master) (message : List ℕ)
+    → fromRow index master (rowOf message) ≡ fromRow index master message
 row-byte index master message =
     ap (λ (byte : ℕ). written USISRL byte master) (padded-at message (maxLength - length message) index)
 
@@ -78,8 +78,8 @@ module _ (state : BusState) (masters : List Master) (rows : List (List ℕ)) (in
       }
 
 -- the masters that enter are those that have a message
-entered-messages : (messages : List (List ℕ)) → replicate (length messages) entering ≡ map (λ message. entering)
-    messages
+entered-messages : (messages : List (List ℕ))
+    → replicate (length messages) entering ≡ map (λ message. entering) messages
 entered-messages [] = refl
 entered-messages (message ∷ messages) = ap (λ (l : List Master). entering ∷ l) (entered-messages messages)
 

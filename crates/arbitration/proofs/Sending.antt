@@ -2,7 +2,7 @@
 use Prim.Native.Nat.{ℕ, suc, _+_, _-_, _<_, _≤_}
 use mathlib.Core.Path.{_≡_, refl, sym, ap, _∙_}
 use mathlib.Core.Bool.{Bool, cond, true, false, _||_}
-use mathlib.Core.List.{List, [], _∷_}
+use mathlib.Core.List.{List, _∷_}
 use native.Mathlib.Numerals.{add-one}
 use native.Mathlib.Omega.{arith}
 use lib.Dec.{eqb}
@@ -14,8 +14,8 @@ use Rattle.arbitration.specs.State.{busOf, Carried, Room, levelsBefore, 
 use Rattle.arbitration.proofs.Bytes.{bytes-next}
 
 -- the rest of the buffers is as it was before the byte
-pub rest-after : {A : Type 0} (n m : ℕ) (x y z : List A) → n ≤ m → drop m x ≡ drop m y → drop n y ≡ drop n z → drop m x
-    ≡ drop m z
+pub rest-after : {A : Type 0} (n m : ℕ) (x y z : List A) → n ≤ m → drop m x ≡ drop m y → drop n y ≡ drop n z
+    → drop m x ≡ drop m z
 rest-after n m x y z before one two =
     let apart : n + (m - n) ≡ m = omega arith in
     one
@@ -62,8 +62,8 @@ module _ (messages : List (List ℕ)) (acknowledges : List ℕ) (self : BusState
     sending-done done =
         let bus = busOf state (take k carried) (take (levelsBefore k) levels) in
         record {
-          bus = ap (λ (l : List ℕ). bytesTurn messages l k bus) (sym (drop-of-length-le acknowledges done)) ∙
-              sending .same;
+          bus = ap (λ (l : List ℕ). bytesTurn messages l k bus) (sym (drop-of-length-le acknowledges done))
+              ∙ sending .same;
           rest = sending .rest;
           levels-rest = sending .levels-rest;
           count = sending .count;
@@ -78,8 +78,8 @@ module _ (messages : List (List ℕ)) (acknowledges : List ℕ) (self : BusState
       next : drop k acknowledges ≡ getD acknowledges k 0 ∷ drop (suc k) acknowledges
       next = drop-cons acknowledges k 0 less
 
-      here : bytesTurn messages (getD acknowledges k 0 ∷ drop (suc k) acknowledges) k bus ≡ bytesFrom messages
-          acknowledges self entryLevels
+      here : bytesTurn messages (getD acknowledges k 0 ∷ drop (suc k) acknowledges) k bus
+          ≡ bytesFrom messages acknowledges self entryLevels
       unfolding bus
       here = ap (λ (l : List ℕ). bytesTurn messages l k bus) (sym next) ∙ sending .same
 
@@ -111,8 +111,8 @@ module _ (messages : List (List ℕ)) (acknowledges : List ℕ) (self : BusState
             ≡ bytesFrom messages acknowledges self entryLevels
         unfolding turned bus busOf
         both =
-            let masters : take (after .count) (after .masters) ≡ byteTurn messages k (getD acknowledges k 0)
-            bus .masters =
+            let masters : take (after .count) (after .masters)
+            ≡ byteTurn messages k (getD acknowledges k 0) bus .masters =
             ap (λ (b : Bus). b .masters) (step .bus) in
             rw (step .bus, add-one, masters) here
 
@@ -137,8 +137,8 @@ module _ (messages : List (List ℕ)) (acknowledges : List ℕ) (self : BusState
                 }
 
         pub sending-ended : ends ≡ true
-            → Carried (bytesTurn messages acknowledges 0) self after 0 (k + 1) entry carriedAfter entryLevels
-            levelsAfter
+            → Carried (bytesTurn messages acknowledges 0) self after 0 (k + 1)
+            entry carriedAfter entryLevels levelsAfter
         unfolding turned
         sending-ended done =
             record {

@@ -96,8 +96,8 @@ module _ {f g : Bus → Bus} {a b c : BusState} where
       }
 
   module _ {at more : ℕ} {entry exit : List ℕ} where
-    pub moved-recorded : Moved f a b → Recorded g b c at more entry exit → Recorded (λ bus. g (f bus)) a c at more entry
-        exit
+    pub moved-recorded : Moved f a b → Recorded g b c at more entry exit
+        → Recorded (λ bus. g (f bus)) a c at more entry exit
     moved-recorded first second =
         record {
           bus = λ carried. second .bus carried ∙ ap g (first .bus carried (take at entry));
@@ -106,8 +106,8 @@ module _ {f g : Bus → Bus} {a b c : BusState} where
           idle = second .idle ∙ first .idle;
         }
 
-    pub recorded-moved : Recorded f a b at more entry exit → Moved g b c → Recorded (λ bus. g (f bus)) a c at more entry
-        exit
+    pub recorded-moved : Recorded f a b at more entry exit → Moved g b c
+        → Recorded (λ bus. g (f bus)) a c at more entry exit
     recorded-moved first second =
         record {
           bus = λ carried. second .bus carried (take (at + more) exit) ∙ ap g (first .bus carried);
@@ -136,8 +136,8 @@ module _ {f g : Bus → Bus} {a b c : BusState} where
 
 -- the same step and count in other words
 pub recorded-as : {f g : Bus → Bus} {a b : BusState} {at more other : ℕ} {entry exit : List ℕ}
-    → ((bus : Bus) → f bus ≡ g bus) → more ≡ other → Recorded f a b at more entry exit → Recorded g a b at other entry
-    exit
+    → ((bus : Bus) → f bus ≡ g bus) → more ≡ other → Recorded f a b at more entry exit
+    → Recorded g a b at other entry exit
 recorded-as {at = at} {entry = entry} same count step =
     record {
       bus = λ carried. rw (← count) (step .bus carried ∙ same (busOf _ carried (take at entry)));

@@ -27,9 +27,19 @@ loop-holds c = sending-start _ _ _ _ _
 shared-slice-read-ack : tie.Need-shared-slice-read-ack Inv-loop μ-loop
 shared-slice-read-ack c = search needs
 
+-- the places of the code that the answers look back to
+abbrev turned : tie.After-any-through Inv-loop μ-loop → tie.After-byte-turn Inv-loop μ-loop
+turned c = c .before .before .before .before .before .before
+
+abbrev turn : tie.After-byte-turn Inv-loop μ-loop → tie.In-loop Inv-loop μ-loop
+turn c = c .before .before .before .before
+
+abbrev start : tie.In-loop Inv-loop μ-loop → tie.Start Inv-loop μ-loop
+start c = c .before .before .before .before .before .before
+
 byte-turn-requires : tie.Need-byte-turn-requires Inv-loop μ-loop
 byte-turn-requires c κs =
-    let a = c .before .before .before .before .before .before .before .before .before in
+    let a = start (c .before .before .before) in
     let l = c .before .before .before .before .loop in
     let less = c .before .before .before .loop-test .taken in
     let room = a .pre .2 in (
@@ -43,38 +53,31 @@ add-k : tie.Need-add-k Inv-loop μ-loop
 add-k c = search needs
 
 any-through-requires : tie.Need-any-through-requires Inv-loop μ-loop
-any-through-requires c κs =
-    c .before .before .before .before .before .before .before .before .before .before .before .before .before .before .before .pre .1 .few
+any-through-requires c κs = start (turn (c .before .before .before .before .before)) .pre .1 .few
 
 same-length : tie.Need-same-length Inv-loop μ-loop
 same-length c =
-    c .before .before .before .before .before .before .before .byte-turn .kept .1 .1 .1 .1 .0 ∙
-    c .before .before .before .before .before .before .before .before .before .before .before .before .loop .inv .long
+    let byte = turned (c .before) in byte .byte-turn .kept .1 .1 .1 .1 .0 ∙ turn byte .before .loop .inv .long
 
 same-length-2 : tie.Need-same-length-2 Inv-loop μ-loop
 same-length-2 c =
-    c .before .before .before .before .before .before .before .byte-turn .kept .1 .1 .1 .1 .1 .0 ∙
-    c .before .before .before .before .before .before .before .before .before .before .before .before .loop .inv .levels-long
+    let byte = turned (c .before) in byte .byte-turn .kept .1 .1 .1 .1 .1 .0 ∙ turn byte .before .loop .inv .levels-long
 
 returns : tie.Need-returns Inv-loop μ-loop
 returns c =
-    let a =
-    c .before .before .before .before .before .before .before .before .before .before .before .before .before .before .before .before .before in
-    let l = c .before .before .before .before .before .before .before .before .before .before .before .before .loop in
+    let a = start (turn (turned (c .before))) in
+    let l = turn (turned (c .before)) .before .loop in
     let list = a .args .lengths .now in
     let rows = a .args .rows in
     let messages = messagesIn list rows in
     let rowed = a .pre .1 in
     let many : length list ≤ length rows = omega (arith, rowed .few) in
-    let less =
-    c .before .before .before .before .before .before .before .before .before .before .before .loop-test .taken in
+    let less = turn (turned (c .before)) .loop-test .taken in
     let count = l .inv .count ∙ a .pre .0 in
-    let step =
-    c .before .before .before .before .before .before .before .byte-turn .ensures messages (rw count (rowed .same))
-    in
+    let byte = turned (c .before) .byte-turn in
+    let step = byte .ensures messages (ap (λ (n : ℕ). take n rows) count ∙ rowed .same) in
     let tested = c .before .any-through .ensures messages (in-lengths list rows rowed many) in
-    let after = c .before .before .before .before .before .before .before .byte-turn .result in
-    let masters = ap (λ (n : ℕ). through messages (l .k + 1) (take n (after .masters))) (step .count ∙ count) in
+    let masters = ap (λ (n : ℕ). through messages (l .k + 1) (take n (byte .result .masters))) (step .count ∙ count) in
     let test = ap (λ (b : Bool). eqb (getD (a .args .acks .now) (l .k) 0) 1 || b) (masters ∙ sym tested) in
     record {
       carried = sending-ended _ _ _ _ _ _ _ _ _ (l .inv) (a .pre .2) less _ _ _ step (test ∙ c .if1 .taken);
@@ -86,28 +89,23 @@ loop-less c = search needs
 
 loop-again : tie.Need-loop-again Inv-loop μ-loop
 loop-again c =
-    let a =
-    c .before .before .before .before .before .before .before .before .before .before .before .before .before .before .before .before .before in
-    let l = c .before .before .before .before .before .before .before .before .before .before .before .before .loop in
+    let a = start (turn (turned (c .before))) in
+    let l = turn (turned (c .before)) .before .loop in
     let list = a .args .lengths .now in
     let rows = a .args .rows in
     let messages = messagesIn list rows in
     let rowed = a .pre .1 in
     let many : length list ≤ length rows = omega (arith, rowed .few) in
-    let less =
-    c .before .before .before .before .before .before .before .before .before .before .before .loop-test .taken in
+    let less = turn (turned (c .before)) .loop-test .taken in
     let count = l .inv .count ∙ a .pre .0 in
-    let step =
-    c .before .before .before .before .before .before .before .byte-turn .ensures messages (rw count (rowed .same))
-    in
+    let byte = turned (c .before) .byte-turn in
+    let step = byte .ensures messages (ap (λ (n : ℕ). take n rows) count ∙ rowed .same) in
     let tested = c .before .any-through .ensures messages (in-lengths list rows rowed many) in
-    let after = c .before .before .before .before .before .before .before .byte-turn .result in
-    let masters = ap (λ (n : ℕ). through messages (l .k + 1) (take n (after .masters))) (step .count ∙ count) in
+    let masters = ap (λ (n : ℕ). through messages (l .k + 1) (take n (byte .result .masters))) (step .count ∙ count) in
     let test = ap (λ (b : Bool). eqb (getD (a .args .acks .now) (l .k) 0) 1 || b) (masters ∙ sym tested) in
     sending-more _ _ _ _ _ _ _ _ _ (l .inv) (a .pre .2) less _ _ _ step
-    (c .before .before .before .before .before .before .before .byte-turn .kept .1 .1 .1 .1 .0 ∙ l .inv .long)
-    (c .before .before .before .before .before .before .before .byte-turn .kept .1 .1 .1 .1 .1 .0 ∙ l .inv .levels-long)
-    (test ∙ c .if1 .left)
+    (byte .kept .1 .1 .1 .1 .0 ∙ l .inv .long)
+    (byte .kept .1 .1 .1 .1 .1 .0 ∙ l .inv .levels-long) (test ∙ c .if1 .left)
 
 same-length-3 : tie.Need-same-length-3 Inv-loop μ-loop
 same-length-3 c = c .before .loop .inv .long

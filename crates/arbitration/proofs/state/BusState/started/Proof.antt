@@ -23,14 +23,15 @@ record-sample-requires-2 c κs = search needs
 
 write-requires-4 : tie.Need-write-requires-4
 write-requires-4 c κs =
+    let ready = c .before .before .before .before in
     omega (
       arith,
       c .before .before .record-sample2 .ensures .count,
-      c .before .before .before .before .write3 .ensures .count,
-      c .before .before .before .before .before .write2 .ensures .count,
-      c .before .before .before .before .before .before .write .ensures .count,
-      c .before .before .before .before .before .before .before .before .before .record-sample .ensures .count,
-      c .before .before .before .before .before .before .before .before .before .before .before .before .pre .0,
+      ready .write3 .ensures .count,
+      ready .before .write2 .ensures .count,
+      ready .before .before .write .ensures .count,
+      ready .before .before .before .before .before .record-sample .ensures .count,
+      ready .before .before .before .before .before .before .before .before .pre .0,
     )
 
 same-length : tie.Need-same-length
@@ -39,13 +40,11 @@ same-length c = search needs
 returns : tie.Need-returns
 unfolding started
 returns c =
-    let written =
-    moved-moved (moved-moved (c .before .before .before .before .before .before .before .write .ensures)
-    (c .before .before .before .before .before .before .write2 .ensures))
-    (c .before .before .before .before .before .write3 .ensures) in
-    let ready =
-    recorded-moved (c .before .before .before .before .before .before .before .before .before .before .record-sample .ensures) written in
-    recorded-moved (recorded-recorded ready (c .before .before .before .record-sample2 .ensures)) (c .write4 .ensures)
+    let ready = c .before .before .before .before .before in
+    let first = ready .before .before .before .before .before .record-sample .ensures in
+    let two = moved-moved (ready .before .before .write .ensures) (ready .before .write2 .ensures) in
+    let written = recorded-moved first (moved-moved two (ready .write3 .ensures)) in
+    recorded-moved (recorded-recorded written (c .before .before .before .record-sample2 .ensures)) (c .write4 .ensures)
 
 pub started-spec : {M : Type 1} → statement M
 started-spec =
