@@ -40,6 +40,27 @@ fn the_night_of_loads_is_stored() {
     assert!(answer(&arguments, &mut std::io::empty()) == stored, "answers of rig");
 }
 
+/// The stored answers to the shipped examples: `COMMAND.FILE`, or `brief.FILE` for `clash FILE --brief`.
+#[test]
+fn the_examples_are_stored() {
+    let top = format!("{}/..", env!("CARGO_MANIFEST_DIR"));
+    let mut count = 0;
+    for entry in std::fs::read_dir(format!("{top}/tests/expected")).unwrap() {
+        let name = entry.unwrap().file_name().into_string().unwrap();
+        let (command, file) = name.split_once('.').unwrap();
+        let path = format!("{top}/examples/{file}");
+        let words = match command {
+            "brief" => vec!["clash", &path, "--brief"],
+            _ => vec![command, &path],
+        };
+        let arguments: Vec<Vec<u8>> = words.iter().map(|word| word.as_bytes().to_vec()).collect();
+        let stored = std::fs::read(format!("{top}/tests/expected/{name}")).unwrap();
+        assert!(answer(&arguments, &mut std::io::empty()) == stored, "{name}");
+        count += 1;
+    }
+    assert_eq!(count, 11, "stored answers");
+}
+
 #[test]
 fn a_script_that_makes_no_sense_is_an_error() {
     for script in ["tock", "write 078", "write 078 100", "sample", ""] {
