@@ -1,6 +1,7 @@
 //! The scripts of the case programs: their stored answers are the model's, and they keep within their sizes.
 
 use rehearsal_model::cases::{arbitration, bus, usi};
+use rehearsal_model::rig::answer;
 use std::fs::read_to_string;
 
 fn stored(program: &str, file: &str) -> String {
@@ -28,6 +29,36 @@ fn bus_answers_are_stored() {
 #[test]
 fn arbitration_answers_are_stored() {
     check("arbitration", arbitration);
+}
+
+/// The program's own stored answer: the night of forty loads.
+#[test]
+fn the_night_of_loads_is_stored() {
+    let file = |name: &str| format!("{}/../crates/rig/{name}", env!("CARGO_MANIFEST_DIR"));
+    let arguments = [b"clash".to_vec(), file("data/night.loads").into_bytes()];
+    let stored = std::fs::read(file("stdout")).expect("crates/rig/stdout");
+    assert!(answer(&arguments, &mut std::io::empty()) == stored, "answers of rig");
+}
+
+/// The stored answers to the shipped examples: `COMMAND.FILE`, or `brief.FILE` for `clash FILE --brief`.
+#[test]
+fn the_examples_are_stored() {
+    let top = format!("{}/..", env!("CARGO_MANIFEST_DIR"));
+    let mut count = 0;
+    for entry in std::fs::read_dir(format!("{top}/tests/expected")).unwrap() {
+        let name = entry.unwrap().file_name().into_string().unwrap();
+        let (command, file) = name.split_once('.').unwrap();
+        let path = format!("{top}/examples/{file}");
+        let words = match command {
+            "brief" => vec!["clash", &path, "--brief"],
+            _ => vec![command, &path],
+        };
+        let arguments: Vec<Vec<u8>> = words.iter().map(|word| word.as_bytes().to_vec()).collect();
+        let stored = std::fs::read(format!("{top}/tests/expected/{name}")).unwrap();
+        assert!(answer(&arguments, &mut std::io::empty()) == stored, "{name}");
+        count += 1;
+    }
+    assert_eq!(count, 11, "stored answers");
 }
 
 #[test]

@@ -1,15 +1,13 @@
 -- What no refusal turns down: an arbitration of which demand 3 holds, with room for all that its run carries.
-use Prim.Native.Nat.{ℕ, zero, suc, _+_, _*_, _<_, _≤_}
-use mathlib.Core.Path.{_≡_, refl, sym, ap, _∙_}
+use Prim.Native.Nat.{ℕ, zero, suc, _<_, _≤_}
+use mathlib.Core.Path.{_≡_, ap, _∙_}
 use mathlib.Core.Bool.{false}
-use mathlib.Core.List.{List, [], _∷_, _++_}
+use mathlib.Core.List.{List, [], _∷_}
 use native.Mathlib.Omega.{arith}
-use lib.ListN.{length, getD, drop}
+use lib.ListN.{length, getD}
 use lib.Seq.{length-take-le}
-use Rattle.arbitration_rules.specs.declared.Arbitrated.{Arbitrated}
 use Rattle.arbitration_rules.specs.Outcome.{least, carriedCount, carriedOf}
 use Rattle.arbitration_rules.specs.Reply.{messagesOf, badCount, badLengths, badAcknowledges, levelCount}
-use Rattle.arbitration_rules.specs.Reply.{refusal, answered, arbitrated, carriedAfter, levelsAfter}
 use Rattle.arbitration_rules.specs.Run.{run}
 use Rattle.arbitration_rules.proofs.Lists.{nobody, also}
 use Rattle.arbitration_rules.proofs.Carry.{Bytes}
@@ -56,29 +54,3 @@ module _ (bytes lengths acknowledges : List ℕ) (small : Bytes bytes) (count : 
         bytes = rw k room;
         samples = rw k samples;
       }
-
--- the reply of a run that no refusal turns down, and the buffers after it
-module _ (bytes lengths acknowledges : List ℕ) (reply : Arbitrated)
-    (is : reply ≡ answered (run (messagesOf lengths bytes) acknowledges)) where
-  none-refused : reply .refusal ≡ 0
-  unfolding answered
-  none-refused = ap (λ (r : Arbitrated). r .refusal) is
-
-  pub accepted-reply : (carriedRoom levelRoom : ℕ) → refusal bytes lengths acknowledges carriedRoom levelRoom ≡ 0
-      → reply ≡ arbitrated bytes lengths acknowledges carriedRoom levelRoom
-  unfolding arbitrated
-  accepted-reply carriedRoom levelRoom none = rw none is
-
-  pub accepted-carried : (entry exit : List ℕ)
-      → let content = run (messagesOf lengths bytes) acknowledges .carried in
-      exit ≡ content ++ drop (length content) entry
-      → exit ≡ carriedAfter bytes lengths acknowledges (reply .refusal) entry
-  unfolding carriedAfter
-  accepted-carried entry exit kept = rw none-refused kept
-
-  pub accepted-levels : (entry exit : List ℕ)
-      → let content = run (messagesOf lengths bytes) acknowledges .levels in
-      exit ≡ content ++ drop (length content) entry
-      → exit ≡ levelsAfter bytes lengths acknowledges (reply .refusal) entry
-  unfolding levelsAfter
-  accepted-levels entry exit kept = rw none-refused kept

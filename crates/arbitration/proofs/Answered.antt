@@ -1,17 +1,16 @@
 -- The reply of a run, and what demand 3 compares of it.
 use Prim.Native.Nat.{ℕ, zero, suc, _+_, _*_, _-_, _≤_}
 use mathlib.Core.Path.{_≡_, refl, sym, ap, ap₂, _∙_}
-use mathlib.Core.Bool.{Bool, false}
+use mathlib.Core.Bool.{Bool}
 use mathlib.Core.List.{List, [], _∷_, _++_, map}
 use native.Mathlib.Omega.{arith}
 use lib.ListN.{length, take, drop, replicate, take-append-drop, length-map}
-use lib.Seq.{length-take-le, take-at}
+use lib.Seq.{length-take-le}
 use Rattle.usi.specs.declared.Usi.{Usi}
-use Rattle.usi.specs.Module.{powerUp}
 use Rattle.arbitration_rules.specs.declared.Arbitrated.{Arbitrated}
 use Rattle.arbitration_rules.specs.declared.Master.{Master}
 use Rattle.arbitration_rules.specs.Limits.{maxMasters}
-use Rattle.arbitration_rules.specs.Outcome.{Fate, Outcome}
+use Rattle.arbitration_rules.specs.Outcome.{Fate}
 use Rattle.arbitration_rules.specs.Reply.{padded, answered}
 use Rattle.arbitration_rules.specs.Run.{Bus, fateOf, observed}
 use Rattle.arbitration.specs.declared.run.Ended.{Ended}
@@ -30,7 +29,8 @@ map-padded {B = B} f a (b ∷ list) count = ap (λ (l : List B). f b ∷ l) (map
 -- the fates of the masters, read off three lists that begin with theirs
 fates-first : (masters : List Master) (modules : List Usi) (contending : List Bool) (positions : List ℕ)
     → take (length masters)
-    (fatesOf (map (λ (m : Master). m .usi) masters ++ modules) (map (λ (m : Master). m .contending) masters ++ contending)
+    (fatesOf (map (λ (m : Master). m .usi) masters ++ modules)
+    (map (λ (m : Master). m .contending) masters ++ contending)
     (map (λ (m : Master). m .position) masters ++ positions))
     ≡ map fateOf masters
 fates-first [] modules contending positions = refl
@@ -66,11 +66,13 @@ module _ (bus : Bus) (count : ℕ) (ended : Ended) (entry exit levels levelsExit
   levels-count = ap length levels-are ∙ length-take-le (5 + 18 * ended .k) levelsExit (ran .levels-within)
 
   -- where there is no message the master is absent
-  pub padded-places : {B : Type 0} (f : Master → B) → map f (ended .state .masters) ≡ padded (f absent) (map f (bus .masters))
+  pub padded-places : {B : Type 0} (f : Master → B)
+      → map f (ended .state .masters) ≡ padded (f absent) (map f (bus .masters))
   unfolding masters
   padded-places f =
       let whole = sym (take-append-drop count masters) ∙ ap₂ _++_ (sym masters-are) (ran .idle) in
-      let left : maxMasters - count ≡ maxMasters - length (map f (bus .masters)) = omega (arith, length-map (bus .masters) f, masters-count) in
+      let left : maxMasters - count ≡ maxMasters - length (map f (bus .masters)) =
+      omega (arith, length-map (bus .masters) f, masters-count) in
       ap (map f) whole
       ∙ map-padded f absent (bus .masters) (maxMasters - count)
       ∙ ap (λ (n : ℕ). map f (bus .masters) ++ replicate n (f absent)) left
@@ -89,7 +91,8 @@ module _ (bus : Bus) (count : ℕ) (ended : Ended) (entry exit levels levelsExit
   carried-kept = rw (bytes-count, carried-are, ← ran .rest) (sym (take-append-drop (ended .k) exit))
 
   pub levels-kept : levelsExit ≡ bus .levels ++ drop (length (bus .levels)) levels
-  levels-kept = rw (levels-count, levels-are, ← ran .levels-rest) (sym (take-append-drop (5 + 18 * ended .k) levelsExit))
+  levels-kept =
+      rw (levels-count, levels-are, ← ran .levels-rest) (sym (take-append-drop (5 + 18 * ended .k) levelsExit))
 
   pub shown-is : (reply : Arbitrated) → reply ≡ answered bus → shown count reply exit levelsExit ≡ observed bus
   unfolding shown answered observed

@@ -1,15 +1,16 @@
 -- Bytes carried one after the other: what holds between two of them, and room for the next.
 use Prim.Native.Nat.{ℕ, zero, suc, _+_, _*_, _<_, _≤_}
-use mathlib.Core.Path.{_≡_, refl, sym, ap, ap₂, _∙_}
+use mathlib.Core.Path.{_≡_, refl, ap, _∙_}
 use mathlib.Core.Bool.{Bool, cond, true, false, _||_}
 use mathlib.Core.List.{List, [], _∷_, _++_}
 use native.Mathlib.Nat.{le-refl}
 use native.Mathlib.Numerals.{add-one}
 use native.Mathlib.Omega.{arith}
 use lib.Dec.{eqb}
-use lib.ListN.{length, getD, set, take, drop, length-append}
-use lib.Seq.{drop-cons, take-suc-set, drop-set-lt, drop-drop}
-use Rattle.arbitration_rules.specs.Run.{Bus, sampled, recorded, bitTurn, byteTaken, dataTurn, dataTurns, loaded, opened, closed, byteTurn}
+use lib.ListN.{length, set, take, length-append}
+use lib.Seq.{take-suc-set, drop-set-lt}
+use Rattle.arbitration_rules.specs.Run.{Bus, sampled, recorded, bitTurn, byteTaken, dataTurn, dataTurns, loaded, opened}
+use Rattle.arbitration_rules.specs.Run.{closed, byteTurn}
 use Rattle.arbitration_rules.specs.Run.{through, bytesTurn, prepared, started, stopped, run}
 use Rattle.arbitration.specs.declared.state.BusState.{BusState}
 use Rattle.arbitration.specs.State.{busOf, Recorded, Carried, levelsBefore}
@@ -17,7 +18,8 @@ use Rattle.arbitration.proofs.Steps.{recorded-recorded}
 
 -- a byte: its data turns, the byte stored, and its acknowledge
 pub carried-byte : {f g : Bus → Bus} {a b c : BusState} {x y z : List ℕ} (index : ℕ) (carried : List ℕ)
-    → Recorded f a b (levelsBefore index) 16 x y → Recorded g b c (levelsBefore index + 16) 2 y z → index < length carried
+    → Recorded f a b (levelsBefore index) 16 x y → Recorded g b c (levelsBefore index + 16) 2 y z
+    → index < length carried
     → Carried (λ bus. g (byteTaken (f bus))) a c index (index + 1) carried (set carried index (b .byte)) x z
 unfolding busOf
 carried-byte {f} {g} {a} {b} {c} {x} {y} {z} index carried sent acknowledged less =
@@ -28,7 +30,8 @@ carried-byte {f} {g} {a} {b} {c} {x} {y} {z} index carried sent acknowledged les
     record {
       bus =
           rw (← apart, add-one, stored)
-          (acknowledged .bus (take index carried ++ b .byte ∷ []) ∙ ap (λ (bus : Bus). g (byteTaken bus)) (sent .bus (take index carried)));
+          (acknowledged .bus (take index carried ++ b .byte ∷ [])
+          ∙ ap (λ (bus : Bus). g (byteTaken bus)) (sent .bus (take index carried)));
       rest = drop-set-lt (index + 1) carried index (b .byte) (omega arith);
       levels-rest = rw (← levels) (both .rest);
       count = both .count;
@@ -73,7 +76,8 @@ module _ (messages : List (List ℕ)) where
       let after = byteTurn messages index acknowledge bus in
       let one-more = byte-turn-carried messages index acknowledge bus in
       let grown = bytes-grow acknowledges (suc index) after in
-      either-carries (length (bus .carried) + 1) (eqb acknowledge 1 || through messages (suc index) (after .masters)) after
+      either-carries (length (bus .carried) + 1) (eqb acknowledge 1 || through messages (suc index) (after .masters))
+      after
       (bytesTurn messages acknowledges (suc index) after) (omega arith) (omega arith)
 
 -- STOP carries nothing

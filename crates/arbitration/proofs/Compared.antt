@@ -1,12 +1,12 @@
 -- Two messages compared by what they have in common from the first byte on.
-use Prim.Native.Nat.{ℕ, zero, suc, _+_, _<_, _≤_}
+use Prim.Native.Nat.{ℕ, suc, _+_, _<_, _≤_}
 use mathlib.Core.Path.{_≡_, refl, sym, ap, ap₂, _∙_}
 use mathlib.Core.Bool.{Bool, cond, true, false, _&&_, _||_}
 use mathlib.Core.List.{List, [], _∷_}
-use native.Mathlib.Nat.{not-suc-le-zero, le-of-suc-le-suc, le-of-eq}
+use native.Mathlib.Nat.{le-of-eq}
 use native.Mathlib.Numerals.{add-one}
 use native.Mathlib.Omega.{arith}
-use borrow.Author.Tests.{eq-eqb, ne-eqb, eqb-true, eqb-false, le-ltb}
+use borrow.Author.Tests.{eq-eqb, ne-eqb, eqb-true, le-ltb}
 use lib.Dec.{eqb, ltb, eqb·zero-suc, eqb·suc-suc, leb·suc-suc, leb·zero}
 use lib.ListN.{length, getD, drop, drop-of-length-le}
 use lib.Seq.{drop-cons}
@@ -44,7 +44,8 @@ module _ (message other : List ℕ) (i : ℕ) (shared : Shared message other i) 
 
     module _ (less-other : i < length other) where
       here : common message other
-          ≡ i + cond (eqb (getD message i 0) (getD other i 0)) (suc (common (drop (suc i) message) (drop (suc i) other))) 0
+          ≡ i + cond (eqb (getD message i 0) (getD other i 0))
+          (suc (common (drop (suc i) message) (drop (suc i) other))) 0
       here = shared .same ∙ ap₂ (λ (a b : List ℕ). i + common a b) next (drop-cons other i 0 less-other)
 
       pub shared-more : getD message i 0 ≡ getD other i 0 → Shared message other (i + 1)
@@ -88,13 +89,15 @@ module _ (message other : List ℕ) (short : common message other ≡ length mes
       → ltb (getD message (common message other) 0) (getD other (common message other) 0) ≡ atMost message other
   at-most-byte both = rw (at-most-is message other, ne-eqb _ _ short, ne-eqb _ _ both)
 
-pub common-within : (message other : List ℕ) → (common message other ≤ length message) × (common message other ≤ length other)
+pub common-within : (message other : List ℕ)
+    → (common message other ≤ length message) × (common message other ≤ length other)
 common-within [] other = (omega arith, omega arith)
 common-within (byte ∷ bytes) [] = (omega arith, omega arith)
 common-within (byte ∷ bytes) (another ∷ others) = cases (eqb byte another) (common-within bytes others)
   where
     cases : (same : Bool) → (common bytes others ≤ length bytes) × (common bytes others ≤ length others)
-        → (cond same (suc (common bytes others)) 0 ≤ suc (length bytes)) × (cond same (suc (common bytes others)) 0 ≤ suc (length others))
+        → (cond same (suc (common bytes others)) 0 ≤ suc (length bytes))
+        × (cond same (suc (common bytes others)) 0 ≤ suc (length others))
     cases true rest = (omega arith, omega arith)
     cases false rest = (omega arith, omega arith)
 
@@ -106,8 +109,10 @@ begins-is [] (another ∷ others) = sym (leb·suc-suc 0 (length others) ∙ leb�
 begins-is (byte ∷ bytes) [] = rw eqb·zero-suc
 begins-is (byte ∷ bytes) (another ∷ others) = cases (eqb byte another) (begins-is bytes others)
   where
-    cases : (same : Bool) → begins bytes others ≡ eqb (common bytes others) (length bytes) && ltb (length bytes) (length others)
+    cases : (same : Bool)
+        → begins bytes others ≡ eqb (common bytes others) (length bytes) && ltb (length bytes) (length others)
         → same && begins bytes others
-        ≡ eqb (cond same (suc (common bytes others)) 0) (suc (length bytes)) && ltb (suc (length bytes)) (suc (length others))
+        ≡ eqb (cond same (suc (common bytes others)) 0) (suc (length bytes))
+        && ltb (suc (length bytes)) (suc (length others))
     cases true rest = rw (eqb·suc-suc, leb·suc-suc) rest
     cases false rest = rw eqb·zero-suc

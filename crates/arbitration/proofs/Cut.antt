@@ -1,19 +1,19 @@
 -- Rows cut from one run of bytes: what holds at the head of each of the two loops, and what a turn does.
-use Prim.Native.Nat.{ℕ, zero, suc, _+_, _-_, _<_, _≤_}
-use mathlib.Core.Path.{_≡_, refl, sym, ap, ap₂, _∙_}
-use mathlib.Core.List.{List, [], _∷_, _++_, map, append-assoc, append-nil}
-use native.Mathlib.Nat.{le-of-eq}
+use Prim.Native.Nat.{ℕ, suc, _+_, _-_, _<_, _≤_}
+use mathlib.Core.Path.{_≡_, refl, sym, ap, _∙_}
+use mathlib.Core.List.{List, _∷_, _++_, map, append-assoc, append-nil}
 use native.Mathlib.Numerals.{add-one}
 use native.Mathlib.Omega.{arith}
-use lib.ListN.{length, getD, set, take, drop, replicate, length-set, length-drop, drop-of-length-le}
-use lib.Seq.{length-take-le, take-all, take-suc, drop-cons, drop-drop, append-snoc, set-at, take-suc-set, take-at}
+use lib.ListN.{length, getD, set, take, drop, replicate, length-set, drop-of-length-le}
+use lib.Seq.{length-take-le, take-suc, drop-cons, drop-drop, append-snoc, set-at, take-suc-set}
 use Rattle.arbitration_rules.specs.Limits.{maxMasters, maxLength}
 use Rattle.arbitration_rules.specs.Reply.{firstBadLength, total, messagesOf}
-use Rattle.arbitration.specs.Rows.{Cuttable, Rowed, rowOf, messagesIn}
+use Rattle.arbitration.specs.Rows.{Cuttable, rowOf}
 use Rattle.arbitration.proofs.Lengths.{good-head}
 
 -- the row of the first i bytes
-row-taken : (bytes : List ℕ) (i : ℕ) → i ≤ length bytes → rowOf (take i bytes) ≡ take i bytes ++ replicate (maxLength - i) 0
+row-taken : (bytes : List ℕ) (i : ℕ) → i ≤ length bytes
+    → rowOf (take i bytes) ≡ take i bytes ++ replicate (maxLength - i) 0
 row-taken bytes i within = ap (λ (n : ℕ). take i bytes ++ replicate (maxLength - n) 0) (length-take-le i bytes within)
 
 -- one byte more
@@ -23,7 +23,8 @@ row-more bytes i less fits =
     let left : maxLength - i ≡ suc (maxLength - suc i) = omega arith in
     let byte = getD bytes i 0 in
     let zeros : List ℕ = replicate (maxLength - suc i) 0 in
-    ap (λ (list : List ℕ). set list i byte) (row-taken bytes i (omega arith) ∙ ap (λ (n : ℕ). take i bytes ++ replicate n 0) left)
+    ap (λ (list : List ℕ). set list i byte)
+    (row-taken bytes i (omega arith) ∙ ap (λ (n : ℕ). take i bytes ++ replicate n 0) left)
     ∙ set-at (take i bytes) 0 zeros byte i (length-take-le i bytes (omega arith))
     ∙ sym (append-snoc (take i bytes) byte zeros)
     ∙ ap (λ (list : List ℕ). list ++ zeros) (sym (take-suc bytes i 0 less))
@@ -37,7 +38,8 @@ pub record Cutting (bytes lengths : List ℕ) (out : List (List ℕ)) (from i : 
   pub many : maxMasters ≤ length out
   pub fit : firstBadLength (drop i lengths) ≡ length (drop i lengths)
   pub all : from + total (drop i lengths) ≡ length bytes
-  pub same : map rowOf (messagesOf lengths bytes) ≡ take i out ++ map rowOf (messagesOf (drop i lengths) (drop from bytes))
+  pub same : map rowOf (messagesOf lengths bytes)
+      ≡ take i out ++ map rowOf (messagesOf (drop i lengths) (drop from bytes))
 
 pub cutting-start : (bytes lengths : List ℕ) (out : List (List ℕ)) → Cuttable bytes lengths → maxMasters ≤ length out
     → Cutting bytes lengths out 0 0
@@ -79,7 +81,12 @@ module _ (bytes lengths : List ℕ) (out : List (List ℕ)) (from i : ℕ) (cutt
         fit = rw add-one (good .2);
         all = rw add-one (omega (arith, cutting .all, ap total next));
         same =
-            rw (add-one, take-suc-set out i row (omega (arith, cutting .few, cutting .many)), ← drop-drop count from bytes, append-assoc)
+            rw (
+              add-one,
+              take-suc-set out i row (omega (arith, cutting .few, cutting .many)),
+              ← drop-drop count from bytes,
+              append-assoc,
+            )
             (cutting .same ∙ ap (λ (l : List ℕ). take i out ++ map rowOf (messagesOf l (drop from bytes))) next);
       }
 
@@ -89,5 +96,6 @@ cutting-done bytes lengths out from i cutting done =
     let end : length lengths ≡ i = omega (arith, cutting .within) in
     ap (λ (n : ℕ). take n out) end
     ∙ sym (append-nil (take i out))
-    ∙ ap (λ (l : List ℕ). take i out ++ map rowOf (messagesOf l (drop from bytes))) (sym (drop-of-length-le lengths done))
+    ∙ ap (λ (l : List ℕ). take i out ++ map rowOf (messagesOf l (drop from bytes)))
+    (sym (drop-of-length-le lengths done))
     ∙ sym (cutting .same)

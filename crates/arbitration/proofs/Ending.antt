@@ -1,12 +1,11 @@
 -- A run from power-up to STOP, of its parts.
-use Prim.Native.Nat.{ℕ, _+_, _*_, _-_, _<_, _≤_}
-use mathlib.Core.Path.{_≡_, refl, sym, ap, _∙_}
+use Prim.Native.Nat.{ℕ, _+_, _*_, _≤_}
+use mathlib.Core.Path.{_≡_, sym, ap, _∙_}
 use mathlib.Core.List.{List, []}
 use native.Mathlib.Omega.{arith}
-use lib.ListN.{length, take, drop, replicate}
+use lib.ListN.{length, take, drop}
 use Rattle.arbitration_rules.specs.Run.{Bus, bytesTurn, prepared, started, stopped, run}
 use Rattle.arbitration.specs.declared.state.BusState.{BusState}
-use Rattle.arbitration.specs.declared.run.Ended.{Ended}
 use Rattle.arbitration.specs.State.{busOf, Recorded, Prepared, Carried, Room, Ran, levelsBefore}
 use Rattle.arbitration.proofs.Bytes.{run-carried}
 use Rattle.arbitration.proofs.Sending.{rest-after}
@@ -25,7 +24,8 @@ module _ (messages : List (List ℕ)) (acknowledges : List ℕ) (count : ℕ) (m
 
   pub room-started : (carried : List ℕ) → Room (run messages acknowledges) acknowledges carried levels
       → length levelsStarted ≡ length levels
-      → Room (bytesTurn messages acknowledges 0 (busOf second [] (take 2 levelsStarted))) acknowledges carried levelsStarted
+      → Room (bytesTurn messages acknowledges 0 (busOf second [] (take 2 levelsStarted)))
+      acknowledges carried levelsStarted
   room-started carried room long =
       record {
         few = room .few;
@@ -60,7 +60,8 @@ module _ (messages : List (List ℕ)) (acknowledges : List ℕ) (count : ℕ) (m
         rest = sent .rest;
         levels-rest =
             rw (← end)
-            (rest-after (levelsBefore k) (levelsBefore k + 3) levelsAfter levelsSent levels (omega arith) (stop .rest) sent-rest);
+            (rest-after (levelsBefore k) (levelsBefore k + 3) levelsAfter levelsSent levels (omega arith) (stop .rest)
+            sent-rest);
         masters = stop .count ∙ sent .count ∙ start .count ∙ ready .same;
         idle =
             ap (λ (n : ℕ). drop n (fourth .masters)) (sym (stop .count ∙ sent .count ∙ start .count ∙ ready .same))

@@ -1,17 +1,18 @@
 -- Messages held in rows, index by index.
 use Prim.Native.Nat.{ℕ, zero, suc, _+_, _-_, _<_, _≤_}
 use mathlib.Core.Path.{_≡_, refl, sym, ap, ap₂, _∙_}
-use mathlib.Core.Bool.{Bool, cond, true, false}
+use mathlib.Core.Bool.{Bool, cond}
 use mathlib.Core.List.{List, [], _∷_, _++_, map}
 use native.Mathlib.Nat.{not-suc-le-zero, le-of-suc-le-suc}
 use native.Mathlib.Omega.{arith}
-use lib.ListN.{length, getD, take, drop, replicate, length-append, length-drop, length-replicate, length-map, List·getD-map}
+use lib.ListN.{length, getD, take, drop, replicate, length-append, length-drop, length-replicate, length-map}
+use lib.ListN.{List·getD-map}
 use lib.Seq.{getD-take, length-take-le, take-at, ext-getD}
 use Rattle.bits.specs.Positions.{isSet}
 use Rattle.arbitration_rules.specs.Limits.{maxLength}
-use Rattle.arbitration_rules.specs.Reply.{firstBadLength, total, messagesOf, firstRead}
+use Rattle.arbitration_rules.specs.Reply.{total, messagesOf, firstRead}
 use Rattle.arbitration.specs.Rows.{Cuttable, Rowed, rowOf, messagesIn, first}
-use Rattle.arbitration.proofs.Lengths.{good-head, good-at}
+use Rattle.arbitration.proofs.Lengths.{good-at}
 
 pub in-length : (lengths : List ℕ) (rows : List (List ℕ)) → length lengths ≤ length rows
     → length (messagesIn lengths rows) ≡ length lengths
@@ -24,10 +25,12 @@ pub in-at : (lengths : List ℕ) (rows : List (List ℕ)) (i : ℕ) → i < leng
 in-at [] rows i less few = absurd (not-suc-le-zero less)
 in-at (count ∷ counts) [] i less few = absurd (not-suc-le-zero few)
 in-at (count ∷ counts) (row ∷ rows) zero less few = refl
-in-at (count ∷ counts) (row ∷ rows) (suc i) less few = in-at counts rows i (le-of-suc-le-suc less) (le-of-suc-le-suc few)
+in-at (count ∷ counts) (row ∷ rows) (suc i) less few =
+    in-at counts rows i (le-of-suc-le-suc less) (le-of-suc-le-suc few)
 
 -- only the rows of messages count
-in-taken : (lengths : List ℕ) (rows : List (List ℕ)) → messagesIn lengths rows ≡ messagesIn lengths (take (length lengths) rows)
+in-taken : (lengths : List ℕ) (rows : List (List ℕ))
+    → messagesIn lengths rows ≡ messagesIn lengths (take (length lengths) rows)
 in-taken [] rows = refl
 in-taken (count ∷ counts) [] = refl
 in-taken (count ∷ counts) (row ∷ rows) = ap (λ (list : List (List ℕ)). take count row ∷ list) (in-taken counts rows)
@@ -45,7 +48,8 @@ in-cut (count ∷ counts) bytes all =
     (in-cut counts (drop count bytes) rest)
 
 pub cut-messages : (lengths bytes : List ℕ) (rows : List (List ℕ)) → Cuttable bytes lengths
-    → take (length lengths) rows ≡ map rowOf (messagesOf lengths bytes) → messagesIn lengths rows ≡ messagesOf lengths bytes
+    → take (length lengths) rows ≡ map rowOf (messagesOf lengths bytes)
+    → messagesIn lengths rows ≡ messagesOf lengths bytes
 cut-messages lengths bytes rows cuttable cut =
     in-taken lengths rows ∙ ap (messagesIn lengths) cut ∙ in-cut lengths bytes (cuttable .all)
 
@@ -58,7 +62,8 @@ cut-rowed lengths bytes rows cuttable cut =
       same = cut ∙ ap (map rowOf) (sym (cut-messages lengths bytes rows cuttable cut));
     }
 
-map-at : (messages : List (List ℕ)) (i : ℕ) → i < length messages → getD (map rowOf messages) i [] ≡ rowOf (getD messages i [])
+map-at : (messages : List (List ℕ)) (i : ℕ) → i < length messages
+    → getD (map rowOf messages) i [] ≡ rowOf (getD messages i [])
 map-at [] i less = absurd (not-suc-le-zero less)
 map-at (message ∷ messages) zero less = refl
 map-at (message ∷ messages) (suc i) less = map-at messages i (le-of-suc-le-suc less)

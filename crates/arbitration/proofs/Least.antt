@@ -1,12 +1,12 @@
 -- The least message by a running best, and what acknowledges make of it.
-use Prim.Native.Nat.{ℕ, zero, suc, _+_, _<_, _≤_}
-use mathlib.Core.Path.{_≡_, refl, sym, ap, ap₂, _∙_}
-use mathlib.Core.Bool.{Bool, cond, true, false, _&&_, _||_}
+use Prim.Native.Nat.{ℕ, suc, _+_, _<_, _≤_}
+use mathlib.Core.Path.{_≡_, refl, sym, ap, _∙_}
+use mathlib.Core.Bool.{Bool, cond, true, false, _&&_}
 use mathlib.Core.List.{List, [], _∷_}
 use native.Mathlib.Nat.{not-suc-le-zero, le-of-suc-le-suc}
 use native.Mathlib.Numerals.{add-one}
 use native.Mathlib.Omega.{arith}
-use borrow.Author.Tests.{eq-eqb, ne-eqb, eqb-true, eqb-false, ltb-false}
+use borrow.Author.Tests.{eqb-true, eqb-false, ltb-false}
 use lib.Dec.{eqb, ltb}
 use lib.ListN.{length, getD, take, drop, drop-of-length-le}
 use lib.Seq.{drop-cons}
@@ -50,8 +50,10 @@ carried-refused (byte ∷ bytes) (acknowledge ∷ acknowledges) some enough =
     cases (eqb acknowledge 1) some (λ less. carried-refused bytes acknowledges less (le-of-suc-le-suc enough))
   where
     cases : (refused : Bool) → cond refused 0 (suc (refusedAt bytes acknowledges)) < suc (length bytes)
-        → (refusedAt bytes acknowledges < length bytes → refusedAt bytes acknowledges + 1 ≡ carriedCount bytes acknowledges)
-        → cond refused 0 (suc (refusedAt bytes acknowledges)) + 1 ≡ cond refused 1 (suc (carriedCount bytes acknowledges))
+        → (refusedAt bytes acknowledges < length bytes
+        → refusedAt bytes acknowledges + 1 ≡ carriedCount bytes acknowledges)
+        → cond refused 0 (suc (refusedAt bytes acknowledges)) + 1
+        ≡ cond refused 1 (suc (carriedCount bytes acknowledges))
     cases true some rest = refl
     cases false some rest = let same = rest (le-of-suc-le-suc some) in omega arith
 
@@ -76,7 +78,8 @@ and-end false = refl
 pub carried-within : (message acknowledges : List ℕ) → carriedCount message acknowledges ≤ length message
 carried-within [] acknowledges = omega arith
 carried-within (byte ∷ bytes) [] = omega (arith, carried-within bytes [])
-carried-within (byte ∷ bytes) (acknowledge ∷ acknowledges) = cases (eqb acknowledge 1) (carried-within bytes acknowledges)
+carried-within (byte ∷ bytes) (acknowledge ∷ acknowledges) =
+    cases (eqb acknowledge 1) (carried-within bytes acknowledges)
   where
     cases : (refused : Bool) → carriedCount bytes acknowledges ≤ length bytes
         → cond refused 1 (suc (carriedCount bytes acknowledges)) ≤ suc (length bytes)
@@ -93,7 +96,8 @@ acknowledged-not [] acknowledges bits some enough = absurd (not-suc-le-zero some
 acknowledged-not (byte ∷ bytes) [] bits some enough = absurd (not-suc-le-zero enough)
 acknowledged-not (byte ∷ bytes) (acknowledge ∷ acknowledges) bits some enough =
     cases (eqb acknowledge 1) refl some
-    (λ less. acknowledged-not bytes acknowledges (or-false (above acknowledge) (any above acknowledges) bits .1) less (le-of-suc-le-suc enough))
+    (λ less. acknowledged-not bytes acknowledges (or-false (above acknowledge) (any above acknowledges) bits .1) less
+    (le-of-suc-le-suc enough))
   where
     cases : (refused : Bool) → eqb acknowledge 1 ≡ refused
         → cond refused 0 (suc (refusedAt bytes acknowledges)) < suc (length bytes)
@@ -108,8 +112,10 @@ pub acknowledged-all : (message acknowledges : List ℕ) → any above acknowled
 acknowledged-all [] acknowledges bits all enough = refl
 acknowledged-all (byte ∷ bytes) [] bits all enough = absurd (not-suc-le-zero enough)
 acknowledged-all (byte ∷ bytes) (acknowledge ∷ acknowledges) bits all enough =
-    cases (eqb acknowledge 1) refl all (ltb-false 1 acknowledge (or-false (above acknowledge) (any above acknowledges) bits .0))
-    (λ more. acknowledged-all bytes acknowledges (or-false (above acknowledge) (any above acknowledges) bits .1) more (le-of-suc-le-suc enough))
+    cases (eqb acknowledge 1) refl all
+    (ltb-false 1 acknowledge (or-false (above acknowledge) (any above acknowledges) bits .0))
+    (λ more. acknowledged-all bytes acknowledges (or-false (above acknowledge) (any above acknowledges) bits .1) more
+    (le-of-suc-le-suc enough))
   where
     cases : (refused : Bool) → eqb acknowledge 1 ≡ refused
         → suc (length bytes) ≤ cond refused 0 (suc (refusedAt bytes acknowledges))

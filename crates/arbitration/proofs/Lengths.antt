@@ -1,6 +1,6 @@
 -- Lengths of messages: the first out of the limits, their sum and the greatest, as loops over them find these.
 use Prim.Native.Nat.{ℕ, zero, suc, _+_, _<_, _≤_, max}
-use mathlib.Core.Path.{_≡_, refl, sym, ap, _∙_}
+use mathlib.Core.Path.{_≡_, refl, sym, ap}
 use mathlib.Core.Bool.{Bool, cond, true, false, true≢false, not, _||_}
 use mathlib.Core.List.{List, [], _∷_}
 use native.Mathlib.Nat.{not-suc-le-zero, le-of-suc-le-suc, pos-of-ne-zero}
@@ -75,7 +75,9 @@ longest-at (count ∷ counts) (suc i) less = omega (arith, longest-at counts i (
 pub good-acknowledges : (lengths acknowledges : List ℕ) → badAcknowledges lengths acknowledges ≡ false
     → (length acknowledges ≡ longest lengths) × (any (λ acknowledge. ltb 1 acknowledge) acknowledges ≡ false)
 good-acknowledges lengths acknowledges good =
-    let two = or-false (not (eqb (length acknowledges) (longest lengths))) (any (λ acknowledge. ltb 1 acknowledge) acknowledges) good in
+    let two =
+    or-false (not (eqb (length acknowledges) (longest lengths)))
+    (any (λ acknowledge. ltb 1 acknowledge) acknowledges) good in
     (eqb-true _ _ (not-false _ (two .0)), two .1)
 
 -- lengths that 12 and 13 pass
@@ -89,14 +91,16 @@ bad-within : (lengths : List ℕ) → firstBadLength lengths ≤ length lengths
 bad-within [] = omega arith
 bad-within (count ∷ counts) = cases (badLength count) (bad-within counts)
   where
-    cases : (bad : Bool) → firstBadLength counts ≤ length counts → cond bad 0 (suc (firstBadLength counts)) ≤ suc (length counts)
+    cases : (bad : Bool) → firstBadLength counts ≤ length counts
+        → cond bad 0 (suc (firstBadLength counts)) ≤ suc (length counts)
     cases true rest = omega arith
     cases false rest = omega arith
 
 pub good-lengths : (bytes lengths : List ℕ) → badLengths bytes lengths ≡ false
     → (firstBadLength lengths ≡ length lengths) × (total lengths ≡ length bytes)
 good-lengths bytes lengths good =
-    let two = or-false (ltb (firstBadLength lengths) (length lengths)) (not (eqb (total lengths) (length bytes))) good in
+    let two =
+    or-false (ltb (firstBadLength lengths) (length lengths)) (not (eqb (total lengths) (length bytes))) good in
     let none = ltb-false (firstBadLength lengths) (length lengths) (two .0) in
     (omega (arith, bad-within lengths), eqb-true _ _ (not-false _ (two .1)))
 

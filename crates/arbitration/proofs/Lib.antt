@@ -14,3 +14,4 @@ pub mod Ending
 pub mod Refused
 pub mod Answered
 pub mod Accepted
+pub mod Contract

@@ -2,18 +2,18 @@
 use Prim.Native.Nat.{ℕ, zero, suc, _-_, _<_, _≤_}
 use mathlib.Core.Path.{_≡_, refl, sym, ap, ap₂, _∙_}
 use mathlib.Core.Bool.{Bool, false, _&&_}
-use mathlib.Core.List.{List, [], _∷_, _++_, map, zipWith}
+use mathlib.Core.List.{List, [], _∷_, map, zipWith}
 use native.Mathlib.Nat.{not-suc-le-zero, le-of-suc-le-suc}
 use native.Mathlib.Omega.{arith}
 use lib.Dec.{leb}
-use lib.ListN.{length, getD, take, drop, replicate, length-replicate, length-map}
+use lib.ListN.{length, getD, take, drop, replicate, length-replicate}
 use lib.Seq.{length-take-le, take-at, drop-at, getD-take}
 use Rattle.usi_rules.specs.Registers.{USISRL}
 use Rattle.arbitration_rules.specs.declared.Master.{Master}
 use Rattle.arbitration_rules.specs.Limits.{maxMasters, maxLength}
 use Rattle.arbitration_rules.specs.Masters.{entering, written}
 use Rattle.arbitration_rules.specs.Outcome.{any}
-use Rattle.arbitration_rules.specs.Run.{Bus, loaded, through}
+use Rattle.arbitration_rules.specs.Run.{loaded, through}
 use Rattle.arbitration.specs.declared.state.BusState.{BusState}
 use Rattle.arbitration.specs.Rows.{rowOf}
 use Rattle.arbitration.specs.Masters.{absent, enteredOf, loadedRows}
@@ -21,7 +21,8 @@ use Rattle.arbitration.specs.State.{busOf, Moved}
 use Rattle.arbitration.proofs.Held.{padded-at}
 
 module _ {A B C : Type 0} (f : A → B → C) where
-  pub zip-length : (list : List A) (others : List B) → length list ≡ length others → length (zipWith f list others) ≡ length list
+  pub zip-length : (list : List A) (others : List B) → length list ≡ length others
+      → length (zipWith f list others) ≡ length list
   unfolding zipWith
   zip-length [] others same = refl
   zip-length (a ∷ list) [] same = sym same
@@ -40,7 +41,8 @@ abbrev fromRow : ℕ → Master → List ℕ → Master
 fromRow index master row = written USISRL (getD row index 0) master
 
 -- a row's byte is its message's
-row-byte : (index : ℕ) (master : Master) (message : List ℕ) → fromRow index master (rowOf message) ≡ fromRow index master message
+row-byte : (index : ℕ) (master : Master) (message : List ℕ)
+    → fromRow index master (rowOf message) ≡ fromRow index master message
 row-byte index master message =
     ap (λ (byte : ℕ). written USISRL byte master) (padded-at message (maxLength - length message) index)
 
@@ -76,7 +78,8 @@ module _ (state : BusState) (masters : List Master) (rows : List (List ℕ)) (in
       }
 
 -- the masters that enter are those that have a message
-entered-messages : (messages : List (List ℕ)) → replicate (length messages) entering ≡ map (λ message. entering) messages
+entered-messages : (messages : List (List ℕ))
+    → replicate (length messages) entering ≡ map (λ message. entering) messages
 entered-messages [] = refl
 entered-messages (message ∷ messages) = ap (λ (l : List Master). entering ∷ l) (entered-messages messages)
 
@@ -125,7 +128,8 @@ module _ (sent : ℕ) (masters : List Master) (lengths : List ℕ) (within : len
   unfolding throughs
   throughs-at i none less =
       zip-at (isThrough sent) none 0 false (take (length lengths) masters) lengths i (rw taken-length less) less
-      ∙ ap (λ (master : Master). isThrough sent master (getD lengths i 0)) (getD-take (length lengths) masters i none less)
+      ∙ ap (λ (master : Master). isThrough sent master (getD lengths i 0))
+      (getD-take (length lengths) masters i none less)
 
   pub throughs-any : (messages : List (List ℕ)) → lengths ≡ map length messages
       → any itself (throughs sent masters lengths) ≡ through messages sent (take (length lengths) masters)
@@ -134,5 +138,6 @@ module _ (sent : ℕ) (masters : List Master) (lengths : List ℕ) (within : len
       let list = take (length lengths) masters in
       ap (any itself)
       (ap (zipWith (isThrough sent) list) is
-      ∙ zip-map (isThrough sent) (λ master message. isThrough sent master (length message)) length (λ master message. refl)
+      ∙ zip-map (isThrough sent) (λ master message. isThrough sent master (length message)) length
+      (λ master message. refl)
       list messages)

@@ -13,7 +13,8 @@ use Rattle.arbitration.specs.Masters.{mapped}
 -- each element by a function of another list's
 module _ {A B : Type 0} (f : A → B) where
   gathered-suc : (list : List A) (out : List B) (i : ℕ) (empty : A) → i < length list → i < length out
-      → set (map f (take i list) ++ drop i out) i (f (getD list i empty)) ≡ map f (take (suc i) list) ++ drop (suc i) out
+      → set (map f (take i list) ++ drop i out) i (f (getD list i empty))
+      ≡ map f (take (suc i) list) ++ drop (suc i) out
   gathered-suc [] out i empty less room = absurd (not-suc-le-zero less)
   gathered-suc (a ∷ list) [] i empty less room = absurd (not-suc-le-zero room)
   gathered-suc (a ∷ list) (b ∷ out) zero empty less room = refl
@@ -96,7 +97,8 @@ or-assoc false b c = refl
 module _ {A : Type 0} (test : A → Bool) where
   any-end : (list : List A) (a : A) → any test (list ++ a ∷ []) ≡ any test list || test a
   any-end [] a = or-false-end (test a)
-  any-end (b ∷ list) a = ap (λ (rest : Bool). test b || rest) (any-end list a) ∙ sym (or-assoc (test b) (any test list) (test a))
+  any-end (b ∷ list) a =
+      ap (λ (rest : Bool). test b || rest) (any-end list a) ∙ sym (or-assoc (test b) (any test list) (test a))
 
   pub any-more : (list : List A) (i : ℕ) (empty : A) (so-far here : Bool) → so-far ≡ any test (take i list)
       → here ≡ test (getD list i empty) → i < length list → so-far || here ≡ any test (take (i + 1) list)

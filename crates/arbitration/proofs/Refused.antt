@@ -1,18 +1,16 @@
 -- The two halves of the refusals make 01's refusal and place; what they leave when neither applies.
-use Prim.Native.Nat.{ℕ, suc, _+_, _*_, _≤_}
-use mathlib.Core.Path.{_≡_, refl, sym, ap, _∙_}
-use mathlib.Core.Bool.{Bool, cond, true, false, _||_}
-use mathlib.Core.List.{List, []}
+use Prim.Native.Nat.{ℕ, _+_, _≤_}
+use mathlib.Core.Path.{_≡_, refl}
+use mathlib.Core.Bool.{Bool, cond, true, false}
+use mathlib.Core.List.{List}
 use native.Mathlib.Omega.{arith}
-use borrow.Author.Tests.{ne-eqb, ltb-false}
+use borrow.Author.Tests.{ltb-false}
 use lib.Dec.{eqb, ltb}
-use lib.ListN.{length}
-use Rattle.arbitration_rules.specs.declared.Arbitrated.{Arbitrated}
 use Rattle.arbitration_rules.specs.Outcome.{least, carriedCount, unsettled}
-use Rattle.arbitration_rules.specs.Reply.{messagesOf, badCount, badLengths, firstBadLength, reads, firstRead, badAcknowledges}
-use Rattle.arbitration_rules.specs.Reply.{shortBuffer, levelCount, refusal, place, refused, arbitrated, carriedAfter, levelsAfter}
+use Rattle.arbitration_rules.specs.Reply.{messagesOf, badCount, badLengths, firstBadLength, reads, firstRead}
+use Rattle.arbitration_rules.specs.Reply.{badAcknowledges, shortBuffer, levelCount, refusal, place}
 use Rattle.arbitration.specs.declared.refusals.Refusal.{Refusal}
-use Rattle.arbitration.specs.Refusals.{numbered, malformedOf, objectionOf}
+use Rattle.arbitration.specs.Refusals.{firstHalf, secondHalf, malformedOf, objectionOf}
 use Rattle.arbitration.proofs.Lengths.{or-false}
 
 -- a refusal's number and place are 01's
@@ -21,48 +19,56 @@ pub record Agrees (bytes lengths acknowledges : List ℕ) (carriedRoom levelRoom
   pub place-is : place bytes lengths (found .number) ≡ found .place
 
 -- the lengths that the first half passes
-pub well-formed : (bytes lengths : List ℕ) → malformedOf bytes lengths .number ≡ 0 → (badCount lengths ≡ false) × (badLengths bytes lengths ≡ false)
+pub well-formed : (bytes lengths : List ℕ) → malformedOf bytes lengths .number ≡ 0
+    → (badCount lengths ≡ false) × (badLengths bytes lengths ≡ false)
 unfolding malformedOf
 well-formed bytes lengths none = cases (badCount lengths) (badLengths bytes lengths) none
   where
-    cases : (count sizes : Bool)
-        → cond count (numbered 12 0) (cond sizes (numbered 13 (firstBadLength lengths)) (numbered 0 0)) .number ≡ 0
+    cases : (count sizes : Bool) → firstHalf count sizes (firstBadLength lengths) .number ≡ 0
         → (count ≡ false) × (sizes ≡ false)
     cases true sizes none = absurd (omega arith)
     cases false true none = absurd (omega arith)
     cases false false none = (refl, refl)
 
-module _ (bytes lengths acknowledges : List ℕ) (carriedRoom levelRoom : ℕ) where
-  -- the first half
-  module _ (number : ℕ) (where-bad where-read : ℕ) where
-    halved : (count sizes : Bool)
-        → (cond count (numbered 12 0) (cond sizes (numbered 13 where-bad) (numbered 0 0)) .number ≡ 0 → ⊥)
-        → (cond count 12 (cond sizes 13 number)
-        ≡ cond count (numbered 12 0) (cond sizes (numbered 13 where-bad) (numbered 0 0)) .number)
-        × (cond (eqb (cond count (numbered 12 0) (cond sizes (numbered 13 where-bad) (numbered 0 0)) .number) 13) where-bad
-        (cond (eqb (cond count (numbered 12 0) (cond sizes (numbered 13 where-bad) (numbered 0 0)) .number) 14) where-read 0)
-        ≡ cond count (numbered 12 0) (cond sizes (numbered 13 where-bad) (numbered 0 0)) .place)
-    halved true sizes some = (refl, refl)
-    halved false true some = (refl, refl)
-    halved false false some = absurd (some refl)
+-- the place of a refusal, from those of 13 and 14
+abbrev placed : ℕ → ℕ → ℕ → ℕ
+placed number bad read = cond (eqb number 13) bad (cond (eqb number 14) read 0)
 
+first-agrees : (count sizes : Bool) (number bad read : ℕ) → (firstHalf count sizes bad .number ≡ 0 → ⊥)
+    → (cond count 12 (cond sizes 13 number) ≡ firstHalf count sizes bad .number)
+    × (placed (firstHalf count sizes bad .number) bad read ≡ firstHalf count sizes bad .place)
+first-agrees true sizes number bad read some = (refl, refl)
+first-agrees false true number bad read some = (refl, refl)
+first-agrees false false number bad read some = absurd (some refl)
+
+second-agrees : (read acknowledges torn short : Bool) (bad at : ℕ)
+    → (cond read 14 (cond acknowledges 15 (cond torn 16 (cond short 8 0)))
+    ≡ secondHalf read acknowledges torn short at .number)
+    × (placed (secondHalf read acknowledges torn short at .number) bad at
+    ≡ secondHalf read acknowledges torn short at .place)
+second-agrees true acknowledges torn short bad at = (refl, refl)
+second-agrees false true torn short bad at = (refl, refl)
+second-agrees false false true short bad at = (refl, refl)
+second-agrees false false false true bad at = (refl, refl)
+second-agrees false false false false bad at = (refl, refl)
+
+-- nothing of the second half applies
+none-applies : (read acknowledges torn short : Bool) (at : ℕ) → secondHalf read acknowledges torn short at .number ≡ 0
+    → (acknowledges ≡ false) × (short ≡ false)
+none-applies true acknowledges torn short at none = absurd (omega arith)
+none-applies false true torn short at none = absurd (omega arith)
+none-applies false false true short at none = absurd (omega arith)
+none-applies false false false true at none = absurd (omega arith)
+none-applies false false false false at none = (refl, refl)
+
+module _ (bytes lengths acknowledges : List ℕ) (carriedRoom levelRoom : ℕ) where
   pub malformed-agrees : (malformedOf bytes lengths .number ≡ 0 → ⊥)
       → Agrees bytes lengths acknowledges carriedRoom levelRoom (malformedOf bytes lengths)
   unfolding malformedOf refusal place
   malformed-agrees some =
-      let two = halved _ (firstBadLength lengths) (firstRead (messagesOf lengths bytes)) (badCount lengths) (badLengths bytes lengths) some in
+      let read = firstRead (messagesOf lengths bytes) in
+      let two = first-agrees (badCount lengths) (badLengths bytes lengths) _ (firstBadLength lengths) read some in
       record { number = two .0; place-is = two .1 }
-
-  -- the second half
-  objected : (read answers torn short : Bool) (where-bad where-read : ℕ)
-      → let found = cond read (numbered 14 where-read) (cond answers (numbered 15 0) (cond torn (numbered 16 0) (cond short (numbered 8 0) (numbered 0 0)))) in
-      (cond read 14 (cond answers 15 (cond torn 16 (cond short 8 0))) ≡ found .number)
-      × (cond (eqb (found .number) 13) where-bad (cond (eqb (found .number) 14) where-read 0) ≡ found .place)
-  objected true answers torn short where-bad where-read = (refl, refl)
-  objected false true torn short where-bad where-read = (refl, refl)
-  objected false false true short where-bad where-read = (refl, refl)
-  objected false false false true where-bad where-read = (refl, refl)
-  objected false false false false where-bad where-read = (refl, refl)
 
   pub objection-agrees : badCount lengths ≡ false → badLengths bytes lengths ≡ false
       → Agrees bytes lengths acknowledges carriedRoom levelRoom
@@ -70,33 +76,11 @@ module _ (bytes lengths acknowledges : List ℕ) (carriedRoom levelRoom : ℕ) w
   unfolding objectionOf refusal place
   objection-agrees count sizes =
       let all = messagesOf lengths bytes in
-      let two =
-      objected (reads all) (badAcknowledges lengths acknowledges) (unsettled all acknowledges)
-      (shortBuffer (carriedCount (least all) acknowledges) carriedRoom levelRoom)
-      (firstBadLength lengths) (firstRead all) in
+      let short = shortBuffer (carriedCount (least all) acknowledges) carriedRoom levelRoom in
+      let wrong = badAcknowledges lengths acknowledges in
+      let torn = unsettled all acknowledges in
+      let two = second-agrees (reads all) wrong torn short (firstBadLength lengths) (firstRead all) in
       record { number = rw (count, sizes) (two .0); place-is = two .1 }
-
-  -- a refused reply, and the buffers as they were
-  module _ (found : Refusal) (agrees : Agrees bytes lengths acknowledges carriedRoom levelRoom found)
-      (some : found .number ≡ 0 → ⊥) (reply : Arbitrated) (is : reply ≡ refused (found .number) (found .place)) where
-    pub refused-reply : reply ≡ arbitrated bytes lengths acknowledges carriedRoom levelRoom
-    unfolding arbitrated
-    refused-reply = rw (agrees .number, ne-eqb (found .number) 0 some, agrees .place-is) is
-
-    refused-number : reply .refusal ≡ found .number
-    unfolding refused
-    refused-number = ap (λ (r : Arbitrated). r .refusal) is
-
-    pub refused-some : reply .refusal ≡ 0 → ⊥
-    refused-some none = some (sym refused-number ∙ none)
-
-    pub refused-carried : (buffer : List ℕ) → buffer ≡ carriedAfter bytes lengths acknowledges (reply .refusal) buffer
-    unfolding carriedAfter
-    refused-carried buffer = rw (ne-eqb (reply .refusal) 0 refused-some)
-
-    pub refused-levels : (buffer : List ℕ) → buffer ≡ levelsAfter bytes lengths acknowledges (reply .refusal) buffer
-    unfolding levelsAfter
-    refused-levels buffer = rw (ne-eqb (reply .refusal) 0 refused-some)
 
   -- room for k bytes and 5 + 18k levels, where 8 does not apply
   pub roomy : objectionOf lengths (messagesOf lengths bytes) acknowledges carriedRoom levelRoom .number ≡ 0
@@ -106,17 +90,8 @@ module _ (bytes lengths acknowledges : List ℕ) (carriedRoom levelRoom : ℕ) w
   roomy none =
       let all = messagesOf lengths bytes in
       let k = carriedCount (least all) acknowledges in
-      let passed = cases (reads all) (badAcknowledges lengths acknowledges) (unsettled all acknowledges)
-      (shortBuffer k carriedRoom levelRoom) none in
+      let wrong = badAcknowledges lengths acknowledges in
+      let short = shortBuffer k carriedRoom levelRoom in
+      let passed = none-applies (reads all) wrong (unsettled all acknowledges) short (firstRead all) none in
       let two = or-false (ltb carriedRoom k) (ltb levelRoom (levelCount k)) (passed .1) in
       (passed .0, ltb-false _ _ (two .0), ltb-false _ _ (two .1))
-    where
-      cases : (read answers torn short : Bool)
-          → cond read (numbered 14 (firstRead (messagesOf lengths bytes)))
-          (cond answers (numbered 15 0) (cond torn (numbered 16 0) (cond short (numbered 8 0) (numbered 0 0)))) .number
-          ≡ 0 → (answers ≡ false) × (short ≡ false)
-      cases true answers torn short none = absurd (omega arith)
-      cases false true torn short none = absurd (omega arith)
-      cases false false true short none = absurd (omega arith)
-      cases false false false true none = absurd (omega arith)
-      cases false false false false none = (refl, refl)

@@ -1,8 +1,8 @@
 -- Steps of the bus one after the other: what the code does to its state and to the levels' buffer.
-use Prim.Native.Nat.{ℕ, _+_, _-_, _<_, _≤_}
-use mathlib.Core.Path.{_≡_, refl, sym, ap, ap₂, _∙_}
+use Prim.Native.Nat.{ℕ, _+_, _<_, _≤_}
+use mathlib.Core.Path.{_≡_, refl, sym, ap, _∙_}
 use mathlib.Core.Bool.{Bool, true, false}
-use mathlib.Core.List.{List, [], _∷_, _++_, map}
+use mathlib.Core.List.{List, [], map}
 use native.Mathlib.Nat.{add-assoc, add-zero}
 use native.Mathlib.Numerals.{add-one}
 use native.Mathlib.Omega.{arith}
@@ -51,7 +51,8 @@ pub moved-every : (operation : Operation) (state : BusState) (masters : List Mas
     (record { masters = masters; count = state .count; pull = state .pull; level = state .level; byte = state .byte })
 unfolding busOf
 moved-every operation state masters same within =
-    let front = ap (take (state .count)) same ∙ mapped-front (applied operation) (state .masters) (state .count) within in
+    let front =
+    ap (take (state .count)) same ∙ mapped-front (applied operation) (state .masters) (state .count) within in
     record {
       bus = λ carried levels. rw front;
       count = refl;
@@ -95,7 +96,8 @@ module _ {f g : Bus → Bus} {a b c : BusState} where
       }
 
   module _ {at more : ℕ} {entry exit : List ℕ} where
-    pub moved-recorded : Moved f a b → Recorded g b c at more entry exit → Recorded (λ bus. g (f bus)) a c at more entry exit
+    pub moved-recorded : Moved f a b → Recorded g b c at more entry exit
+        → Recorded (λ bus. g (f bus)) a c at more entry exit
     moved-recorded first second =
         record {
           bus = λ carried. second .bus carried ∙ ap g (first .bus carried (take at entry));
@@ -104,7 +106,8 @@ module _ {f g : Bus → Bus} {a b c : BusState} where
           idle = second .idle ∙ first .idle;
         }
 
-    pub recorded-moved : Recorded f a b at more entry exit → Moved g b c → Recorded (λ bus. g (f bus)) a c at more entry exit
+    pub recorded-moved : Recorded f a b at more entry exit → Moved g b c
+        → Recorded (λ bus. g (f bus)) a c at more entry exit
     recorded-moved first second =
         record {
           bus = λ carried. second .bus carried (take (at + more) exit) ∙ ap g (first .bus carried);
@@ -133,7 +136,8 @@ module _ {f g : Bus → Bus} {a b c : BusState} where
 
 -- the same step and count in other words
 pub recorded-as : {f g : Bus → Bus} {a b : BusState} {at more other : ℕ} {entry exit : List ℕ}
-    → ((bus : Bus) → f bus ≡ g bus) → more ≡ other → Recorded f a b at more entry exit → Recorded g a b at other entry exit
+    → ((bus : Bus) → f bus ≡ g bus) → more ≡ other → Recorded f a b at more entry exit
+    → Recorded g a b at other entry exit
 recorded-as {at = at} {entry = entry} same count step =
     record {
       bus = λ carried. rw (← count) (step .bus carried ∙ same (busOf _ carried (take at entry)));

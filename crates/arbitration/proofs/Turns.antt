@@ -1,15 +1,15 @@
 -- Data turns: what they make of the byte, and one more of them.
 use Prim.Native.Nat.{ℕ, zero, suc, _+_, _*_, _^_, _<_, _≤_}
-use mathlib.Core.Path.{_≡_, refl, sym, ap, _∙_}
+use mathlib.Core.Path.{_≡_, refl, _∙_}
 use mathlib.Core.Bool.{Bool, false}
-use mathlib.Core.List.{List, [], _∷_}
+use mathlib.Core.List.{List, []}
 use native.Mathlib.Nat.{add-zero, pow-suc}
 use native.Mathlib.Numerals.{add-one}
 use native.Mathlib.Omega.{arith}
 use lib.ListN.{take}
 use Rattle.bus.specs.Levels.{sda}
 use Rattle.arbitration_rules.specs.declared.Operation.the-variants.{Judge}
-use Rattle.arbitration_rules.specs.Run.{Bus, every, sampled, recorded, bitTurn, taken, dataTurn, dataTurns}
+use Rattle.arbitration_rules.specs.Run.{Bus, every, sampled, recorded, bitTurn, dataTurn, dataTurns}
 use Rattle.arbitration.specs.declared.state.BusState.{BusState}
 use Rattle.arbitration.specs.State.{busOf, Moved, Recorded}
 use Rattle.arbitration.proofs.Steps.{bool-byte, moved-byte, recorded-byte}

@@ -1,6 +1,6 @@
 -- The masters by value: the first of them have a message, the others are never touched.
 use Prim.Native.Nat.{ℕ, _-_}
-use mathlib.Core.Bool.{Bool, true, false}
+use mathlib.Core.Bool.{Bool, false}
 use mathlib.Core.List.{List, _++_, map, zipWith}
 use lib.ListN.{getD, take, drop, replicate}
 use Rattle.usi_rules.specs.Registers.{USISRL}

@@ -1,6 +1,6 @@
 -- The refusals in two halves: of the lengths alone, and of the messages that these cut.
 use Prim.Native.Nat.{ℕ}
-use mathlib.Core.Bool.{cond}
+use mathlib.Core.Bool.{Bool, cond}
 use mathlib.Core.List.{List, map}
 use Rattle.arbitration_rules.specs.declared.Arbitrated.{Arbitrated}
 use Rattle.arbitration_rules.specs.declared.Master.{Master}
@@ -12,19 +12,23 @@ use Rattle.arbitration.specs.declared.refusals.Refusal.{Refusal}
 abbrev pub numbered : ℕ → ℕ → Refusal
 numbered number place = record { number = number; place = place }
 
--- 12 and 13
-unfoldable pub malformedOf : List ℕ → List ℕ → Refusal
-malformedOf bytes lengths =
-    cond (badCount lengths) (numbered 12 0)
-    (cond (badLengths bytes lengths) (numbered 13 (firstBadLength lengths)) (numbered 0 0))
+-- 12 and 13, by whether each applies
+abbrev pub firstHalf : (count sizes : Bool) (place : ℕ) → Refusal
+firstHalf count sizes place = cond count (numbered 12 0) (cond sizes (numbered 13 place) (numbered 0 0))
 
--- 14, 15, 16 and 8
+unfoldable pub malformedOf : List ℕ → List ℕ → Refusal
+malformedOf bytes lengths = firstHalf (badCount lengths) (badLengths bytes lengths) (firstBadLength lengths)
+
+-- 14, 15, 16 and 8, by whether each applies
+abbrev pub secondHalf : (read acknowledges torn short : Bool) (place : ℕ) → Refusal
+secondHalf read acknowledges torn short place =
+    cond read (numbered 14 place)
+    (cond acknowledges (numbered 15 0) (cond torn (numbered 16 0) (cond short (numbered 8 0) (numbered 0 0))))
+
 unfoldable pub objectionOf : List ℕ → List (List ℕ) → List ℕ → ℕ → ℕ → Refusal
 objectionOf lengths messages acknowledges carriedRoom levelRoom =
-    cond (reads messages) (numbered 14 (firstRead messages))
-    (cond (badAcknowledges lengths acknowledges) (numbered 15 0)
-    (cond (unsettled messages acknowledges) (numbered 16 0)
-    (cond (shortBuffer (carriedCount (least messages) acknowledges) carriedRoom levelRoom) (numbered 8 0) (numbered 0 0))))
+    secondHalf (reads messages) (badAcknowledges lengths acknowledges) (unsettled messages acknowledges)
+    (shortBuffer (carriedCount (least messages) acknowledges) carriedRoom levelRoom) (firstRead messages)
 
 -- the reply of a run, from all eight places
 unfoldable pub replyOf : List Master → ℕ → Arbitrated

@@ -6,7 +6,8 @@ use lib.ListN.{length, take, drop, replicate}
 use Rattle.usi_rules.specs.Registers.{USICTL0, USICNT}
 use Rattle.arbitration_rules.specs.declared.Operation.the-variants.{Withdraw}
 use Rattle.arbitration_rules.specs.Limits.{maxMasters, maxLength}
-use Rattle.arbitration_rules.specs.Run.{Bus, every, writes, prepared}
+use Rattle.arbitration_rules.specs.Reply.{levelCount}
+use Rattle.arbitration_rules.specs.Run.{Bus, every, writes, bytesTurn, prepared}
 use Rattle.arbitration.specs.declared.run.Ended.{Ended}
 use Rattle.arbitration.specs.declared.state.BusState.{BusState}
 use Rattle.arbitration.specs.Masters.{absent}
@@ -69,18 +70,29 @@ pub record Carried (step : Bus → Bus) (before after : BusState) (from to : ℕ
   pub count : after .count ≡ before .count
   pub idle : drop (after .count) (after .masters) ≡ drop (before .count) (before .masters)
 
+-- step 2 from a state that has recorded START
+abbrev pub bytesFrom : List (List ℕ) → List ℕ → BusState → List ℕ → Bus
+bytesFrom messages acknowledges state levels = bytesTurn messages acknowledges 0 (busOf state [] (take 2 levels))
+
+-- step 2 done
+pub record Sent (messages : List (List ℕ)) (acknowledges : List ℕ) (before : BusState) (ended : Ended)
+    (entry exit levels levelsExit : List ℕ) : Type 0 where
+  pub carried : Carried (bytesTurn messages acknowledges 0) before (ended .state) 0 (ended .k)
+      entry exit levels levelsExit
+  pub within : ended .k ≤ length (bytesFrom messages acknowledges before levels .carried)
+
 -- the buffers have room for what a bus carries in the end, k bytes and 5 + 18k levels
 pub record Room (bus : Bus) (acknowledges carried levels : List ℕ) : Type 0 where
   pub few : length acknowledges ≤ maxLength
   pub bytes : length (bus .carried) ≤ length carried
-  pub samples : 5 + 18 * length (bus .carried) ≤ length levels
+  pub samples : levelCount (length (bus .carried)) ≤ length levels
 
 -- the end of a run: what it carried and recorded stands in the buffers, whose rest stays
 pub record Ran (bus : Bus) (count : ℕ) (ended : Ended) (entry exit levels levelsExit : List ℕ) : Type 0 where
   pub within : ended .k ≤ length exit
-  pub levels-within : 5 + 18 * ended .k ≤ length levelsExit
-  pub same : busOf (ended .state) (take (ended .k) exit) (take (5 + 18 * ended .k) levelsExit) ≡ bus
+  pub levels-within : levelCount (ended .k) ≤ length levelsExit
+  pub same : busOf (ended .state) (take (ended .k) exit) (take (levelCount (ended .k)) levelsExit) ≡ bus
   pub rest : drop (ended .k) exit ≡ drop (ended .k) entry
-  pub levels-rest : drop (5 + 18 * ended .k) levelsExit ≡ drop (5 + 18 * ended .k) levels
+  pub levels-rest : drop (levelCount (ended .k)) levelsExit ≡ drop (levelCount (ended .k)) levels
   pub masters : ended .state .count ≡ count
   pub idle : drop count (ended .state .masters) ≡ replicate (maxMasters - count) absent

@@ -18,7 +18,9 @@ pub use arbitration_rules::Master;
 pub use arbitration_rules::Operation;
 
 // Runs the arbitration of the messages that lie in bytes one after the other, each of its length, with an acknowledge
-// for each byte of the longest. The carried bytes and the recorded levels go to the two buffers.
+// for each byte of the longest. The reply is that of 01's steps 1 to 4, or the first refusal that applies. The buffers
+// take the carried bytes and the recorded levels; their rest stays, and at a refusal all of both. What a run shows is
+// what follows from messages and acknowledges alone (01: demand 3).
 pub fn arbitrate(
     bytes: &[u8],
     lengths: &[u32],
@@ -26,10 +28,15 @@ pub fn arbitrate(
     carried: &mut [u8],
     levels: &mut [u8],
 ) -> Arbitrated
-    ensures reply { λ r. ⌜ r ≡ arbitrated (now (bytes .entry)) (now (lengths .entry)) (now (acks .entry)) (length (now (carried .entry))) (length (now (levels .entry))) ⌝ }
-    ensures bytes_carried { λ r. ⌜ now (carried .exit) ≡ carriedAfter (now (bytes .entry)) (now (lengths .entry)) (now (acks .entry)) (r .refusal) (now (carried .entry)) ⌝ }
-    ensures levels_recorded { λ r. ⌜ now (levels .exit) ≡ levelsAfter (now (bytes .entry)) (now (lengths .entry)) (now (acks .entry)) (r .refusal) (now (levels .entry)) ⌝ }
-    ensures demand3 { λ r. ⌜ (r .refusal ≡ 0 → shown (length (now (lengths .entry))) r (now (carried .exit)) (now (levels .exit)) ≡ outcome (messagesOf (now (lengths .entry)) (now (bytes .entry))) (now (acks .entry))) ⌝ }
+    ensures reply { λ r. ⌜ r ≡ arbitrated (now (bytes .entry)) (now (lengths .entry)) (now (acks .entry))
+        (length (now (carried .entry))) (length (now (levels .entry))) ⌝ }
+    ensures carried_bytes { λ r. ⌜ now (carried .exit) ≡ carriedAfter (now (bytes .entry)) (now (lengths .entry))
+        (now (acks .entry)) (r .refusal) (now (carried .entry)) ⌝ }
+    ensures recorded_levels { λ r. ⌜ now (levels .exit) ≡ levelsAfter (now (bytes .entry)) (now (lengths .entry))
+        (now (acks .entry)) (r .refusal) (now (levels .entry)) ⌝ }
+    ensures follows { λ r. ⌜ (r .refusal ≡ 0
+        → shown (length (now (lengths .entry))) r (now (carried .exit)) (now (levels .exit))
+        ≡ outcome (messagesOf (now (lengths .entry)) (now (bytes .entry))) (now (acks .entry))) ⌝ }
 {
     let malformed = refusals::malformed(bytes, lengths);
     if malformed.number != 0 {

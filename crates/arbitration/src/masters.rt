@@ -85,7 +85,8 @@ pub(crate) fn load_all(
     index: usize,
 ) -> [Master; 8]
     requires { ⌜ (count ≤ maxMasters) × (index < maxLength) ⌝ }
-    ensures { λ r. ⌜ (r ≡ loadedRows index count rows masters) × (length masters ≡ maxMasters) × (length rows ≡ maxMasters) ⌝ }
+    ensures { λ r. ⌜ (r ≡ loadedRows index count rows masters)
+        × (length masters ≡ maxMasters) × (length rows ≡ maxMasters) ⌝ }
 {
     let mut out = masters;
     let mut i: usize = 0;
@@ -100,7 +101,8 @@ pub(crate) fn load_all(
 // Some master, of as many as there are lengths, still contends and has sent all of its message.
 pub(crate) fn any_through(masters: [Master; 8], lengths: &[u32], sent: usize) -> bool
     requires { ⌜ length (now lengths) ≤ maxMasters ⌝ }
-    ensures { λ r. ⌜ ((messages : List (List ℕ)) → now (lengths .entry) ≡ map length messages → r ≡ through messages sent (take (length (now (lengths .entry))) masters)) ⌝ }
+    ensures { λ r. ⌜ ((messages : List (List ℕ)) → now (lengths .entry) ≡ map length messages
+        → r ≡ through messages sent (take (length (now (lengths .entry))) masters)) ⌝ }
 {
     let mut i: usize = 0;
     while i < lengths.len() {

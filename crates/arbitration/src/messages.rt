@@ -6,7 +6,8 @@ ghost use lib.Dec.{ltb};
 ghost use lib.ListN.{length, take, drop};
 ghost use Rattle.arbitration_rules.specs.Limits.{maxMasters, maxLength};
 ghost use Rattle.arbitration_rules.specs.Outcome.{any};
-ghost use Rattle.arbitration_rules.specs.Reply.{firstBadLength, total as totalOf, longest as longestOf, badAcknowledges, messagesOf, firstRead};
+ghost use Rattle.arbitration_rules.specs.Reply.{firstBadLength, total as totalOf, longest as longestOf};
+ghost use Rattle.arbitration_rules.specs.Reply.{badAcknowledges, messagesOf, firstRead};
 ghost use Rattle.arbitration.specs.Rows.{Cuttable, Rowed, rowOf, messagesIn};
 use arbitration_rules::MAX_LENGTH;
 
@@ -93,7 +94,8 @@ fn row(bytes: &[u8], from: usize, count: usize) -> [u8; 32]
 // A row for each message.
 pub(crate) fn rows(bytes: &[u8], lengths: &[u32]) -> [[u8; 32]; 8]
     requires { ⌜ Cuttable (now bytes) (now lengths) ⌝ }
-    ensures { λ r. ⌜ take (length (now (lengths .entry))) r ≡ map rowOf (messagesOf (now (lengths .entry)) (now (bytes .entry))) ⌝ }
+    ensures { λ r. ⌜ take (length (now (lengths .entry))) r
+        ≡ map rowOf (messagesOf (now (lengths .entry)) (now (bytes .entry))) ⌝ }
 {
     let mut out = [[0u8; 32]; 8];
     let mut from: usize = 0;

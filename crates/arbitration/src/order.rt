@@ -6,7 +6,8 @@ ghost use Prim.Native.Nat.{ℕ, _<_, _≤_};
 ghost use lib.ListN.{length, getD, take};
 ghost use lib.Dec.{ltb};
 ghost use Rattle.arbitration_rules.specs.Limits.{maxLength};
-ghost use Rattle.arbitration_rules.specs.Outcome.{any, atMost, begins as beginsRule, least as leastOf, carriedCount, unsettled as unsettledRule};
+ghost use Rattle.arbitration_rules.specs.Outcome.{any, atMost, begins as beginsRule, carriedCount};
+ghost use Rattle.arbitration_rules.specs.Outcome.{unsettled as unsettledRule};
 ghost use Rattle.arbitration_rules.specs.Reply.{longest};
 ghost use Rattle.arbitration.specs.Rows.{Rowed, messagesIn, first};
 ghost use Rattle.arbitration.specs.Order.{common as commonOf, notAcknowledged, Least};
@@ -73,7 +74,8 @@ pub(crate) fn least(rows: [[u8; 32]; 8], lengths: &[u32]) -> usize
 // The message at an index is a proper beginning of some message.
 fn begins_any(rows: [[u8; 32]; 8], lengths: &[u32], index: usize) -> bool
     requires { ⌜ Rowed (now lengths) rows × (index < length (now lengths)) ⌝ }
-    ensures { λ r. ⌜ r ≡ any (beginsRule (getD (messagesIn (now (lengths .entry)) rows) index [])) (messagesIn (now (lengths .entry)) rows) ⌝ }
+    ensures { λ r. ⌜ r ≡ any (beginsRule (getD (messagesIn (now (lengths .entry)) rows) index []))
+        (messagesIn (now (lengths .entry)) rows) ⌝ }
 {
     let count = lengths[index] as usize;
     let mut i: usize = 0;
@@ -104,7 +106,8 @@ fn first_refused(count: usize, acks: &[u8]) -> usize
 
 // The least message is acknowledged at each byte and begins another (16).
 pub(crate) fn unsettled(rows: [[u8; 32]; 8], lengths: &[u32], least: usize, acks: &[u8]) -> bool
-    requires { ⌜ Rowed (now lengths) rows × Least (now lengths) rows least × (longest (now lengths) ≤ length (now acks)) × (any (λ acknowledge. ltb 1 acknowledge) (now acks) ≡ false) ⌝ }
+    requires { ⌜ Rowed (now lengths) rows × Least (now lengths) rows least
+        × (longest (now lengths) ≤ length (now acks)) × (any (λ acknowledge. ltb 1 acknowledge) (now acks) ≡ false) ⌝ }
     ensures { λ r. ⌜ r ≡ unsettledRule (messagesIn (now (lengths .entry)) rows) (now (acks .entry)) ⌝ }
 {
     let count = lengths[least] as usize;

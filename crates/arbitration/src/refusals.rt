@@ -56,7 +56,8 @@ pub(crate) fn objection(
     level_room: usize,
 ) -> Refusal
     requires { ⌜ Rowed (now lengths) rows × (0 < length (now lengths)) ⌝ }
-    ensures { λ r. ⌜ r ≡ objectionOf (now (lengths .entry)) (messagesIn (now (lengths .entry)) rows) (now (acks .entry)) «carried_room» «level_room» ⌝ }
+    ensures { λ r. ⌜ r ≡ objectionOf (now (lengths .entry)) (messagesIn (now (lengths .entry)) rows)
+        (now (acks .entry)) «carried_room» «level_room» ⌝ }
 {
     let read = messages::first_read(rows, lengths);
     if read < lengths.len() {

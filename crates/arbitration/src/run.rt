@@ -1,13 +1,14 @@
 // A run by 01's steps 1 to 4: START, the bytes with their acknowledges, STOP.
 ghost use mathlib.Core.Path.{_≡_};
-ghost use mathlib.Core.Bool.{false};
-ghost use mathlib.Core.List.{List, [], map};
-ghost use Prim.Native.Nat.{ℕ, _+_, _*_, _<_, _≤_};
+ghost use mathlib.Core.List.{List, map};
+ghost use Prim.Native.Nat.{ℕ, _+_, _<_, _≤_};
 ghost use lib.ListN.{length, take};
 ghost use Rattle.arbitration_rules.specs.Limits.{maxMasters, maxLength};
-ghost use Rattle.arbitration_rules.specs.Run.{started as startedStep, stopped as stoppedStep, loaded as loadedStep, opened as openedStep, byteTurn, bytesTurn, run as runOf};
+ghost use Rattle.arbitration_rules.specs.Run.{started as startedStep, stopped as stoppedStep, loaded as loadedStep};
+ghost use Rattle.arbitration_rules.specs.Run.{opened as openedStep, byteTurn, run as runOf};
 ghost use Rattle.arbitration.specs.Rows.{Rowed, rowOf, messagesIn};
-ghost use Rattle.arbitration.specs.State.{Moved, Recorded, Loaded, Prepared, Carried, Ran, released, levelsBefore, busOf, Room};
+ghost use Rattle.arbitration.specs.State.{Moved, Recorded, Loaded, Prepared, Carried, Ran, released};
+ghost use Rattle.arbitration.specs.State.{levelsBefore, bytesFrom, Sent, Room};
 use crate::masters;
 use crate::state::BusState;
 use arbitration_rules::Operation;
@@ -20,6 +21,7 @@ pub(crate) struct Ended {
 }
 
 impl BusState {
+    // As many masters powered up and set up.
     fn prepared(count: usize) -> BusState
         requires { ⌜ count ≤ maxMasters ⌝ }
         ensures { λ r. ⌜ Prepared count r ⌝ }
@@ -65,6 +67,7 @@ impl BusState {
             .write(Usi::USICTL0, 0xc8)
     }
 
+    // Those still contending take their byte at an index.
     fn loaded(self, rows: [[u8; 32]; 8], index: usize) -> BusState
         requires { ⌜ (self .count ≤ maxMasters) × (index < maxLength) ⌝ }
         ensures { λ r. ⌜ Loaded (λ messages. loadedStep messages index) rows self r ⌝ }
@@ -77,6 +80,7 @@ impl BusState {
         out
     }
 
+    // They get ready to send it.
     fn opened(self, rows: [[u8; 32]; 8], index: usize) -> BusState
         requires { ⌜ (self .count ≤ maxMasters) × (index < maxLength) ⌝ }
         ensures { λ r. ⌜ Loaded (λ messages. openedStep messages index) rows self r ⌝ }
@@ -86,6 +90,7 @@ impl BusState {
             .write(Usi::USICNT, 0x08)
     }
 
+    // Who lost withdraws; the rest get ready for the acknowledge.
     fn closed(self) -> BusState
         requires { ⌜ self .count ≤ maxMasters ⌝ }
         ensures { λ r. ⌜ Moved released self r ⌝ }
@@ -104,9 +109,13 @@ impl BusState {
         carried: &mut [u8],
         levels: &mut [u8],
     ) -> BusState
-        requires { ⌜ (self .count ≤ maxMasters) × (index < maxLength) × (index < length (now carried)) × (levelsBefore (index + 1) ≤ length (now levels)) ⌝ }
-        ensures { λ r. ⌜ ((messages : List (List ℕ)) → take (self .count) rows ≡ map rowOf messages → Carried (byteTurn messages index ack) self r index (index + 1) (now (carried .entry)) (now (carried .exit)) (now (levels .entry)) (now (levels .exit))) ⌝ }
+        requires { ⌜ (self .count ≤ maxMasters) × (index < maxLength) × (index < length (now carried))
+            × (levelsBefore (index + 1) ≤ length (now levels)) ⌝ }
+        ensures { λ r. ⌜ ((messages : List (List ℕ)) → take (self .count) rows ≡ map rowOf messages
+            → Carried (byteTurn messages index ack) self r index (index + 1)
+            (now (carried .entry)) (now (carried .exit)) (now (levels .entry)) (now (levels .exit))) ⌝ }
     {
+        // START recorded 2 levels, and each byte before this one 18
         let at = 2 + 18 * index;
         let sent = self.opened(rows, index)
             .data_turns((9 * index) as u16, levels, at);
@@ -123,8 +132,11 @@ impl BusState {
         carried: &mut [u8],
         levels: &mut [u8],
     ) -> Ended
-        requires { ⌜ (self .count ≡ length (now lengths)) × Rowed (now lengths) rows × Room (bytesTurn (messagesIn (now lengths) rows) (now acks) 0 (busOf self [] (take 2 (now levels)))) (now acks) (now carried) (now levels) ⌝ }
-        ensures { λ r. ⌜ Carried (bytesTurn (messagesIn (now (lengths .entry)) rows) (now (acks .entry)) 0) self (r .state) 0 (r .k) (now (carried .entry)) (now (carried .exit)) (now (levels .entry)) (now (levels .exit)) × (r .k ≤ length (bytesTurn (messagesIn (now (lengths .entry)) rows) (now (acks .entry)) 0 (busOf self [] (take 2 (now (levels .entry)))) .carried)) ⌝ }
+        requires { ⌜ (self .count ≡ length (now lengths)) × Rowed (now lengths) rows
+            × Room (bytesFrom (messagesIn (now lengths) rows) (now acks) self (now levels)) (now acks) (now carried)
+            (now levels) ⌝ }
+        ensures { λ r. ⌜ Sent (messagesIn (now (lengths .entry)) rows) (now (acks .entry)) self r
+            (now (carried .entry)) (now (carried .exit)) (now (levels .entry)) (now (levels .exit)) ⌝ }
     {
         let mut state = self;
         let mut k: usize = 0;
@@ -149,8 +161,11 @@ pub(crate) fn run(
     carried: &mut [u8],
     levels: &mut [u8],
 ) -> Ended
-    requires { ⌜ Rowed (now lengths) rows × Room (runOf (messagesIn (now lengths) rows) (now acks)) (now acks) (now carried) (now levels) ⌝ }
-    ensures { λ r. ⌜ Ran (runOf (messagesIn (now (lengths .entry)) rows) (now (acks .entry))) (length (now (lengths .entry))) r (now (carried .entry)) (now (carried .exit)) (now (levels .entry)) (now (levels .exit)) ⌝ }
+    requires { ⌜ Rowed (now lengths) rows
+        × Room (runOf (messagesIn (now lengths) rows) (now acks)) (now acks) (now carried) (now levels) ⌝ }
+    ensures { λ r. ⌜ Ran (runOf (messagesIn (now (lengths .entry)) rows) (now (acks .entry)))
+        (length (now (lengths .entry))) r
+        (now (carried .entry)) (now (carried .exit)) (now (levels .entry)) (now (levels .exit)) ⌝ }
 {
     let started = BusState::prepared(lengths.len()).started(levels);
     let sent = started.bytes_turn(rows, lengths, acks, carried, levels);

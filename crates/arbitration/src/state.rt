@@ -4,7 +4,8 @@ ghost use mathlib.Core.Bool.{false};
 ghost use Prim.Native.Nat.{_+_, _<_, _≤_};
 ghost use lib.ListN.{length, take};
 ghost use Rattle.arbitration_rules.specs.Limits.{maxMasters};
-ghost use Rattle.arbitration_rules.specs.Run.{levelOf, wire as wireOf, every as everyStep, sampled, recorded, pulled as pulledStep, bitTurn, taken as takenStep, dataTurn, dataTurns};
+ghost use Rattle.arbitration_rules.specs.Run.{levelOf, wire as wireOf, every as everyStep, sampled, recorded};
+ghost use Rattle.arbitration_rules.specs.Run.{pulled as pulledStep, bitTurn, taken as takenStep, dataTurn, dataTurns};
 ghost use Rattle.arbitration.specs.State.{Moved, Recorded};
 use crate::masters;
 use arbitration_rules::Master;
@@ -119,7 +120,8 @@ impl BusState {
 
     // The eight bits of a byte, the first at a position.
     pub(crate) fn data_turns(self, position: u16, levels: &mut [u8], at: usize) -> BusState
-        requires { ⌜ (self .count ≤ maxMasters) × (self .byte ≡ 0) × (position < 1000) × (at + 16 ≤ length (now levels)) ⌝ }
+        requires { ⌜ (self .count ≤ maxMasters) × (self .byte ≡ 0) × (position < 1000)
+            × (at + 16 ≤ length (now levels)) ⌝ }
         ensures { λ r. ⌜ Recorded (dataTurns 8 position) self r at 16 (now (levels .entry)) (now (levels .exit)) ⌝ }
     {
         let mut state = self;

@@ -1,15 +1,15 @@
 -- The reply of an arbitration: one 64-bit number, and two tables of eight entries that the caller lends.
 use Prim.Native.Nat.{ℕ, _+_, _*_, _%_, _^_}
 use mathlib.Core.Bool.{Bool, cond, false, _||_}
-use mathlib.Core.List.{List, [], _∷_}
+use mathlib.Core.List.{List, map}
 use mir.Val.{boolByte}
 use lib.Dec.{ltb}
-use lib.ListN.{getD}
-use lib.Seq.{sets}
+use lib.ListN.{length, getD}
 use Rattle.usi.specs.declared.Usi.{Usi}
-use Rattle.usi.specs.Module.{powerUp}
+use Rattle.bus.specs.Buffer.{filled}
 use Rattle.arbitration_rules.specs.declared.Arbitrated.{Arbitrated}
 use Rattle.arbitration_rules.specs.Limits.{maxMasters}
+use Rattle.arbitration_rules.specs.Reply.{arbitrated, carriedAfter, levelsAfter}
 use Rattle.export.specs.Packed.{packed}
 use Rattle.export.specs.Replies.{short}
 
@@ -32,13 +32,57 @@ abbrev pub packedReply : Arbitrated → ℕ
 packedReply reply =
     reply .refusal + 256 * short (reply .place) + 256 ^ 3 * (reply .k % 256) + 256 ^ 4 * contenders (reply .contending)
 
--- the first eight entries of a table, and the rest as it was
-abbrev pub eight : (ℕ → ℕ) → List ℕ → List ℕ
-eight entry table =
-    sets table 0 (entry 0 ∷ entry 1 ∷ entry 2 ∷ entry 3 ∷ entry 4 ∷ entry 5 ∷ entry 6 ∷ entry 7 ∷ [])
+-- the eight modules, each as a number, and the rest of the table as it was
+abbrev pub modulesTable : List Usi → List ℕ → List ℕ
+modulesTable modules table = filled (map packed modules) table
 
-unfoldable pub modulesTable : List Usi → List ℕ → List ℕ
-modulesTable modules table = eight (λ i. packed (getD modules i (powerUp 0 0))) table
+-- the eight positions likewise
+abbrev pub positionsTable : List ℕ → List ℕ → List ℕ
+positionsTable positions table = filled positions table
 
-unfoldable pub positionsTable : List ℕ → List ℕ → List ℕ
-positionsTable positions table = eight (λ i. getD positions i 0) table
+-- what is asked of an arbitration: bytes, lengths and acknowledges, and the two buffers and the two tables as they were lent
+pub record Asked : Type 0 where
+  pub bytes : List ℕ
+  pub lengths : List ℕ
+  pub acks : List ℕ
+  pub carried : List ℕ
+  pub levels : List ℕ
+  pub modules : List ℕ
+  pub positions : List ℕ
+
+-- the reply of arbitrate to it
+abbrev pub replyTo : Asked → Arbitrated
+replyTo asked =
+    arbitrated (asked .bytes) (asked .lengths) (asked .acks) (length (asked .carried)) (length (asked .levels))
+
+-- the answer, and what is lent as it is handed back
+pub record Handed : Type 0 where
+  pub answer : ℕ
+  pub carried : List ℕ
+  pub levels : List ℕ
+  pub modules : List ℕ
+  pub positions : List ℕ
+
+abbrev pub ran : Asked → Handed
+ran asked =
+    record {
+      answer = packedReply (replyTo asked);
+      carried = carriedAfter (asked .bytes) (asked .lengths) (asked .acks) (replyTo asked .refusal) (asked .carried);
+      levels = levelsAfter (asked .bytes) (asked .lengths) (asked .acks) (replyTo asked .refusal) (asked .levels);
+      modules = modulesTable (replyTo asked .modules) (asked .modules);
+      positions = positionsTable (replyTo asked .positions) (asked .positions);
+    }
+
+abbrev pub untouched : Asked → Handed
+untouched asked =
+    record {
+      answer = notRun;
+      carried = asked .carried;
+      levels = asked .levels;
+      modules = asked .modules;
+      positions = asked .positions;
+    }
+
+-- with short tables nothing is touched
+unfoldable pub handed : Asked → Handed
+handed asked = cond (shortTable (length (asked .modules)) (length (asked .positions))) (untouched asked) (ran asked)

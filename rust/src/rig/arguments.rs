@@ -59,7 +59,7 @@ impl Options {
 /// The arguments after the program's name, or the error line.
 pub fn parse(arguments: &[Vec<u8>]) -> Result<Asked, Vec<u8>> {
     let mut rest = arguments.iter();
-    let first = short(rest.next().ok_or(NO_COMMAND)?)?;
+    let first = rest.next().ok_or(NO_COMMAND)?.as_slice();
     if first == b"help" {
         return help(rest);
     }
@@ -82,14 +82,19 @@ pub fn parse(arguments: &[Vec<u8>]) -> Result<Asked, Vec<u8>> {
     Ok(Asked::Run(options))
 }
 
-/// `help`, or `help` with one of the four commands.
-fn help<'a>(mut rest: impl Iterator<Item = &'a Vec<u8>>) -> Result<Asked, Vec<u8>> {
-    if let Some(word) = rest.next() {
-        Command::from_word(short(word)?).ok_or(NO_COMMAND)?;
+/// `help`, or `help` with one of the four commands; a word too many is found before an unknown command.
+fn help<'a>(rest: impl Iterator<Item = &'a Vec<u8>>) -> Result<Asked, Vec<u8>> {
+    let mut topic = None;
+    for word in rest {
+        let word = short(word)?;
+        if is_option(word) || topic.is_some() {
+            return Err(unexpected(word));
+        }
+        topic = Some(word);
     }
-    match rest.next() {
-        Some(word) => Err(unexpected(short(word)?)),
-        None => Ok(Asked::Help),
+    match topic.map(Command::from_word) {
+        Some(None) => Err(NO_COMMAND.into()),
+        _ => Ok(Asked::Help),
     }
 }
 
@@ -100,9 +105,9 @@ fn short(word: &[u8]) -> Result<&[u8], Vec<u8>> {
     Ok(word)
 }
 
-/// A word that begins with `-` and is not `-` alone.
+/// A word that begins with two dashes; a file's name may begin with one.
 fn is_option(word: &[u8]) -> bool {
-    word.len() > 1 && word[0] == b'-'
+    word.starts_with(b"--")
 }
 
 fn room(word: Option<&Vec<u8>>) -> Result<u64, Vec<u8>> {

@@ -91,22 +91,19 @@ fn only_number(words: &[&[u8]]) -> Option<u64> {
     }
 }
 
-/// A byte with its acknowledge; `write` and `read` must be what the byte says.
+/// A byte with its acknowledge; `write` and `read` must be what the byte says, which is looked at first.
 fn byte_event(byte: &[u8], rest: &[&[u8]]) -> Result<u16, &'static str> {
     let byte = u16::from(short_byte(byte).ok_or(EXPECTED)?);
-    let (odd, ack) = match rest {
-        [ack] => (byte % 2, ack),
-        [b"write", ack] => (0, ack),
-        [b"read", ack] => (1, ack),
-        _ => return Err(EXPECTED),
+    let ack = match (rest.first().copied(), byte % 2) {
+        (Some(b"write"), 1) | (Some(b"read"), 0) => {
+            return Err("an even address byte is a write, an odd one a read");
+        }
+        (Some(b"write" | b"read"), _) => &rest[1..],
+        _ => rest,
     };
-    let event = match *ack {
-        b"ACK" => byte,
-        b"NACK" => byte + 256,
-        _ => return Err(EXPECTED),
-    };
-    if byte % 2 != odd {
-        return Err("an even address byte is a write, an odd one a read");
+    match ack {
+        [b"ACK"] => Ok(byte),
+        [b"NACK"] => Ok(byte + 256),
+        _ => Err(EXPECTED),
     }
-    Ok(event)
 }

@@ -12,9 +12,10 @@ fn error(arguments: &[&[u8]]) -> Vec<u8> {
 #[test]
 fn commands() {
     let expected = "error expected a command: clash, decode, encode, session or help\n";
-    for arguments in ["", "Clash", "run x", "--brief", "help me", "help help", "help x y"] {
+    for arguments in ["", "Clash", "run x", "--brief", "help me", "help help"] {
         assert_eq!(rig(arguments, ""), expected, "{arguments}");
     }
+    assert_eq!(rig("help x y", ""), "error unexpected argument y\n");
     for arguments in ["help", "help clash", "help decode", "help encode", "help session"] {
         assert_eq!(rig(arguments, ""), "ok help\n", "{arguments}");
     }
@@ -58,7 +59,7 @@ fn options_stand_anywhere() {
 #[test]
 fn long_arguments() {
     let long = [b'a'; 4097];
-    assert_eq!(error(&[&long]), b"an argument is longer than 4096 bytes");
+    assert_eq!(error(&[&long]), b"expected a command: clash, decode, encode, session or help");
     assert_eq!(error(&[b"decode", &long]), b"an argument is longer than 4096 bytes");
     let name = &long[..4096];
     assert_eq!(error(&[b"decode", name]), [b"cannot open ", name, b": the name is too long"].concat());

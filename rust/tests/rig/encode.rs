@@ -57,8 +57,8 @@ fn errors() {
     let event = "line 1: expected START, repeated START, STOP, cut byte, HH ACK, HH NACK or event numbers";
     let lines = "\
         5:; :; 5: start 1; 5: gap 1; 5: ok; 5: 6: START; START STOP; START ACK; STOP 1; repeated; \
-        repeated STOP; cut; cut byte 5; ACK; A0 write; A0 read; A0 write ack; A0 ACK 5; 100 ACK; \
-        G0 ACK; write ACK; x; 512 x; 512 -1; A0; A1 write foo; start:; ok: ok";
+        repeated STOP; cut; cut byte 5; ACK; A0 write; A1 read; A0 write ack; A0 ACK 5; 100 ACK; \
+        G0 ACK; write ACK; x; 512 x; 512 -1; A0; A0 write foo; start:; ok: ok";
     for line in lines.split("; ") {
         check_errors("encode", &[(line, event)]);
     }
@@ -67,6 +67,8 @@ fn errors() {
     let cases = [
         ("A1 write ACK", direction),
         ("0 read NACK", direction),
+        ("A0 read", direction),
+        ("A1 write foo", direction),
         ("\nstart", start),
         ("\nstart x", start),
         ("\nstart 1 2", start),

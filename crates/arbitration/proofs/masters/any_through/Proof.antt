@@ -1,6 +1,6 @@
 -- The loop passes masters that lost or have bytes to come; it stops at the first that is through.
 use Prim.Native.Nat.{_-_, _<_, _≤_}
-use mathlib.Core.Path.{_≡_, sym, _∙_}
+use mathlib.Core.Path.{_∙_}
 use mathlib.Core.Bool.{false}
 use native.Mathlib.Omega.{arith}
 use lib.ListN.{length}
@@ -9,8 +9,6 @@ use Rattle.arbitration.proofs.Loading.{itself, throughs, throughs-lengt
 use borrow.Author.Needs.{needs}
 use Rattle.arbitration.proofs.masters.any_through.Statement.{statement}
 use Rattle.arbitration.proofs.masters.any_through.Tie as tie
-use Rattle.arbitration.proofs.masters.any_through.Reads as reads
-use Rattle.arbitration.proofs.masters.any_through.Lts as lts
 
 abbrev Inv-loop : tie.InvT-loop
 Inv-loop lengths sent masters i₀ i = (i ≤ length lengths) × Passed itself (throughs sent masters lengths) i
@@ -43,9 +41,11 @@ returns c messages same =
     let list = a .lengths .now in
     let few : length list ≤ length (a .t1) = omega arith in
     let less : l .i < length list = omega arith in
-    let inside : l .i < length (throughs (a .sent) (a .t1) list) = rw (throughs-length (a .sent) (a .t1) list few) less in
+    let inside : l .i < length (throughs (a .sent) (a .t1) list) =
+    rw (throughs-length (a .sent) (a .t1) list few) less in
     let here = throughs-at (a .sent) (a .t1) list few (l .i) _ less in
-    found-any itself _ _ false (l .inv .1) inside (here ∙ c .if1 .taken) ∙ throughs-any (a .sent) (a .t1) list few messages same
+    found-any itself _ _ false (l .inv .1) inside (here ∙ c .if1 .taken) ∙ throughs-any (a .sent) (a .t1) list few
+    messages same
 
 add-i : tie.Need-add-i Inv-loop μ-loop
 add-i c = search needs
@@ -60,7 +60,8 @@ loop-again c =
     let list = a .lengths .now in
     let few : length list ≤ length (a .t1) = omega arith in
     let less : l .i < length list = omega arith in
-    let inside : l .i < length (throughs (a .sent) (a .t1) list) = rw (throughs-length (a .sent) (a .t1) list few) less in
+    let inside : l .i < length (throughs (a .sent) (a .t1) list) =
+    rw (throughs-length (a .sent) (a .t1) list few) less in
     let here = throughs-at (a .sent) (a .t1) list few (l .i) _ less in
     (search needs, passed-more itself _ _ false (l .inv .1) inside (here ∙ c .if1 .left))
 

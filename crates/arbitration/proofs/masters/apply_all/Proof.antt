@@ -9,9 +9,6 @@ use Rattle.arbitration.proofs.Mapped.{mapped-more}
 use borrow.Author.Needs.{needs}
 use Rattle.arbitration.proofs.masters.apply_all.Statement.{statement}
 use Rattle.arbitration.proofs.masters.apply_all.Tie as tie
-use Rattle.arbitration.proofs.masters.apply_all.Reads as reads
-use Rattle.arbitration.proofs.masters.apply_all.Lts as lts
-use Rattle.arbitration_rules.proofs.Master.apply.Reads as apply-reads
 
 abbrev Inv-loop : tie.InvT-loop
 Inv-loop count operation out₀ i₀ out i = (i ≤ count) × (out ≡ mapped (applied operation) i out₀)
@@ -45,7 +42,8 @@ loop-less c = search needs
 
 loop-again : tie.Need-loop-again Inv-loop μ-loop
 loop-again c =
-    let less : c .before .before .before .loop .i < length (c .before .before .before .before .args .masters) = omega arith in
+    let less : c .before .before .before .loop .i < length (c .before .before .before .before .args .masters) =
+    omega arith in
     (search needs, mapped-more _ _ _ _ _ _ (c .before .before .before .loop .inv .1) (c .apply .ensures) less)
 
 returns : tie.Need-returns Inv-loop μ-loop

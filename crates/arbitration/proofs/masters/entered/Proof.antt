@@ -1,18 +1,15 @@
 -- The loop's invariant: the first i masters have entered.
-use Prim.Native.Nat.{_-_, _<_, _≤_}
+use Prim.Native.Nat.{_-_, _≤_}
 use mathlib.Core.Path.{_≡_}
 use mathlib.Core.List.{_++_}
 use native.Mathlib.Omega.{arith}
-use lib.ListN.{length, drop, replicate}
+use lib.ListN.{drop, replicate}
 use Rattle.arbitration_rules.specs.Limits.{maxMasters}
 use Rattle.arbitration.specs.Masters.{absent}
 use Rattle.arbitration.proofs.Mapped.{filled-more, drop-replicate}
 use borrow.Author.Needs.{needs}
 use Rattle.arbitration.proofs.masters.entered.Statement.{statement}
 use Rattle.arbitration.proofs.masters.entered.Tie as tie
-use Rattle.arbitration.proofs.masters.entered.Reads as reads
-use Rattle.arbitration.proofs.masters.entered.Lts as lts
-use Rattle.arbitration.proofs.masters.powered.Reads as powered-reads
 
 abbrev Inv-loop : tie.InvT-loop
 Inv-loop count entering out₀ i₀ out i = (i ≤ count) × (out ≡ replicate i entering ++ drop i out₀)
@@ -48,7 +45,13 @@ returns : tie.Need-returns Inv-loop μ-loop
 returns c =
     let end : c .before .loop .i ≡ c .before .before .before .before .args .count = omega arith in
     let within : c .before .before .before .before .args .count ≤ maxMasters = c .before .before .before .before .pre in
-    rw (← drop-replicate absent maxMasters _ within, ← end, ← c .before .before .before .powered .ensures, ← c .before .before .powered2 .ensures)
+    rw (
+      ← drop-replicate absent maxMasters _ within,
+      ← end,
+      ← c .before .before .before .powered .ensures,
+      ←
+          c .before .before .powered2 .ensures,
+    )
     (c .before .loop .inv .1)
 
 pub entered-spec : {M : Type 1} → statement M

@@ -9,9 +9,6 @@ use Rattle.arbitration.proofs.Mapped.{zipped-more}
 use borrow.Author.Needs.{needs}
 use Rattle.arbitration.proofs.masters.load_all.Statement.{statement}
 use Rattle.arbitration.proofs.masters.load_all.Tie as tie
-use Rattle.arbitration.proofs.masters.load_all.Reads as reads
-use Rattle.arbitration.proofs.masters.load_all.Lts as lts
-use Rattle.arbitration_rules.proofs.Master.apply.Reads as apply-reads
 
 abbrev Inv-loop : tie.InvT-loop
 Inv-loop count index rows out₀ i₀ out i = (i ≤ count) × (out ≡ loadedRows index i rows out₀)
@@ -55,9 +52,14 @@ loop-less c = search needs
 
 loop-again : tie.Need-loop-again Inv-loop μ-loop
 loop-again c =
-    let less : c .before .before .before .before .loop .i < length (c .before .before .before .before .before .args .masters) = omega arith in
-    let less-row : c .before .before .before .before .loop .i < length (c .before .before .before .before .before .args .t3) = omega arith in
-    (search needs, zipped-more _ _ _ _ _ _ _ [] (c .before .before .before .before .loop .inv .1) (c .apply .ensures) less less-row)
+    let less : c .before .before .before .before .loop .i < length
+    (c .before .before .before .before .before .args .masters) = omega arith in
+    let less-row : c .before .before .before .before .loop .i < length
+    (c .before .before .before .before .before .args .t3) = omega arith in (
+      search needs,
+      zipped-more _ _ _ _ _ _ _ [] (c .before .before .before .before .loop .inv .1) (c .apply .ensures)
+          less less-row,
+    )
 
 returns : tie.Need-returns Inv-loop μ-loop
 returns c =

@@ -3,9 +3,6 @@ use borrow.Author.Needs.{needs}
 use borrow.Author.Needs.{needs}
 use Rattle.arbitration.proofs.masters.powered.Statement.{statement}
 use Rattle.arbitration.proofs.masters.powered.Tie as tie
-use Rattle.arbitration.proofs.masters.powered.Reads as reads
-use Rattle.arbitration.proofs.masters.powered.Lts as lts
-use Rattle.usi.proofs.Usi.power_up.Reads as power-up-reads
 
 power-up-requires : tie.Need-power-up-requires
 power-up-requires c κs = search needs

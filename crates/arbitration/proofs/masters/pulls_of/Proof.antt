@@ -8,13 +8,10 @@ use Rattle.arbitration.proofs.Mapped.{any-more}
 use borrow.Author.Needs.{needs}
 use Rattle.arbitration.proofs.masters.pulls_of.Statement.{statement}
 use Rattle.arbitration.proofs.masters.pulls_of.Tie as tie
-use Rattle.arbitration.proofs.masters.pulls_of.Reads as reads
-use Rattle.arbitration.proofs.masters.pulls_of.Lts as lts
-use Rattle.usi.proofs.Usi.pulls_scl.Reads as pulls-scl-reads
-use Rattle.usi.proofs.Usi.pulls_sda.Reads as pulls-sda-reads
 
 abbrev Inv-loop : tie.InvT-loop
-Inv-loop count masters scl₀ sda₀ i₀ scl sda i = (i ≤ count) × (scl ≡ anyScl (take i masters)) × (sda ≡ anySda (take i masters))
+Inv-loop count masters scl₀ sda₀ i₀ scl sda i =
+    (i ≤ count) × (scl ≡ anyScl (take i masters)) × (sda ≡ anySda (take i masters))
 
 abbrev μ-loop : tie.MeasureT-loop
 μ-loop count masters scl₀ sda₀ i₀ scl sda i = count - i

@@ -9,8 +9,6 @@ use Rattle.arbitration.proofs.Search.{Passed, passed-start, passed-more
 use borrow.Author.Needs.{needs}
 use Rattle.arbitration.proofs.messages.any_above_one.Statement.{statement}
 use Rattle.arbitration.proofs.messages.any_above_one.Tie as tie
-use Rattle.arbitration.proofs.messages.any_above_one.Reads as reads
-use Rattle.arbitration.proofs.messages.any_above_one.Lts as lts
 
 abbrev above : ℕ → Bool
 above acknowledge = ltb 1 acknowledge

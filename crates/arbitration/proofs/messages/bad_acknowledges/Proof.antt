@@ -3,10 +3,6 @@ use borrow.Author.Needs.{needs}
 use borrow.Author.Needs.{needs}
 use Rattle.arbitration.proofs.messages.bad_acknowledges.Statement.{statement}
 use Rattle.arbitration.proofs.messages.bad_acknowledges.Tie as tie
-use Rattle.arbitration.proofs.messages.bad_acknowledges.Reads as reads
-use Rattle.arbitration.proofs.messages.bad_acknowledges.Lts as lts
-use Rattle.arbitration.proofs.messages.any_above_one.Reads as any-above-one-reads
-use Rattle.arbitration.proofs.messages.longest.Reads as longest-reads
 
 longest-requires : tie.Need-longest-requires
 longest-requires c κs = search needs

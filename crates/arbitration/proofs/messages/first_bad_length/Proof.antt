@@ -8,8 +8,6 @@ use Rattle.arbitration.proofs.Lengths.{badLength, bad-length-first}
 use borrow.Author.Needs.{needs}
 use Rattle.arbitration.proofs.messages.first_bad_length.Statement.{statement}
 use Rattle.arbitration.proofs.messages.first_bad_length.Tie as tie
-use Rattle.arbitration.proofs.messages.first_bad_length.Reads as reads
-use Rattle.arbitration.proofs.messages.first_bad_length.Lts as lts
 
 abbrev Inv-loop : tie.InvT-loop
 Inv-loop lengths i₀ i = Passed badLength lengths i

@@ -1,9 +1,9 @@
 -- The loop passes messages that begin with an even byte; it stops at the first that asks for a read.
 use Prim.Native.Nat.{_-_, _<_, _≤_}
-use mathlib.Core.Path.{_≡_, sym, ap, _∙_}
+use mathlib.Core.Path.{sym, ap, _∙_}
 use mathlib.Core.List.{[]}
 use native.Mathlib.Omega.{arith}
-use lib.ListN.{length, getD}
+use lib.ListN.{length}
 use Rattle.bits.specs.Positions.{isSet}
 use Rattle.arbitration.specs.Rows.{messagesIn}
 use Rattle.arbitration.proofs.Search.{Passed, passed-start, passed-more, found-first, none-first}
@@ -11,9 +11,6 @@ use Rattle.arbitration.proofs.Held.{in-length, byte-at, asksRead, read-
 use borrow.Author.Needs.{needs}
 use Rattle.arbitration.proofs.messages.first_read.Statement.{statement}
 use Rattle.arbitration.proofs.messages.first_read.Tie as tie
-use Rattle.arbitration.proofs.messages.first_read.Reads as reads
-use Rattle.arbitration.proofs.messages.first_read.Lts as lts
-use Rattle.bits.proofs.is_set.Reads as is-set-reads
 
 abbrev Inv-loop : tie.InvT-loop
 Inv-loop lengths rows i₀ i = (i ≤ length lengths) × Passed asksRead (messagesIn lengths rows) i
@@ -45,7 +42,8 @@ returns c =
     let less : l .i < length list = omega arith in
     let inside : l .i < length (messagesIn list (a .args .t1)) = rw (in-length list (a .args .t1) few) less in
     found-first asksRead _ _ [] (l .inv .1) inside
-    (ap (isSet 0) (sym (byte-at list (a .args .t1) (a .pre) few (l .i) less 0)) ∙ sym (c .before .is-set .ensures) ∙ c .if1 .taken)
+    (ap (isSet 0) (sym (byte-at list (a .args .t1) (a .pre) few (l .i) less 0)) ∙ sym (c .before .is-set .ensures) ∙
+    c .if1 .taken)
     ∙ sym (read-first (messagesIn list (a .args .t1)))
 
 add-i : tie.Need-add-i Inv-loop μ-loop
@@ -64,7 +62,8 @@ loop-again c =
     let inside : l .i < length (messagesIn list (a .args .t1)) = rw (in-length list (a .args .t1) few) less in (
       search needs,
       passed-more asksRead _ _ [] (l .inv .1) inside
-          (ap (isSet 0) (sym (byte-at list (a .args .t1) (a .pre) few (l .i) less 0)) ∙ sym (c .before .is-set .ensures) ∙ c .if1 .left),
+          (ap (isSet 0) (sym (byte-at list (a .args .t1) (a .pre) few (l .i) less 0)) ∙ sym (c .before .is-set .ensures)
+          ∙ c .if1 .left),
     )
 
 returns-2 : tie.Need-returns-2 Inv-loop μ-loop

@@ -9,8 +9,6 @@ use Rattle.arbitration.proofs.Lengths.{most-more, most-all}
 use borrow.Author.Needs.{needs}
 use Rattle.arbitration.proofs.messages.longest.Statement.{statement}
 use Rattle.arbitration.proofs.messages.longest.Tie as tie
-use Rattle.arbitration.proofs.messages.longest.Reads as reads
-use Rattle.arbitration.proofs.messages.longest.Lts as lts
 
 abbrev Inv-loop : tie.InvT-loop
 Inv-loop lengths most₀ i₀ most i = (i ≤ length lengths) × (max most (longest (drop i lengths)) ≡ longest lengths)

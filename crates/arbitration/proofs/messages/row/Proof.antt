@@ -1,6 +1,6 @@
 -- The loop's invariant: the row of the first i bytes.
-use Prim.Native.Nat.{_+_, _-_, _<_, _≤_}
-use mathlib.Core.Path.{_≡_, ap}
+use Prim.Native.Nat.{_-_, _<_, _≤_}
+use mathlib.Core.Path.{_≡_}
 use native.Mathlib.Omega.{arith}
 use lib.ListN.{length, take, drop, length-drop}
 use lib.Seq.{getD-drop}
@@ -10,8 +10,6 @@ use Rattle.arbitration.proofs.Cut.{row-more}
 use borrow.Author.Needs.{needs}
 use Rattle.arbitration.proofs.messages.row.Statement.{statement}
 use Rattle.arbitration.proofs.messages.row.Tie as tie
-use Rattle.arbitration.proofs.messages.row.Reads as reads
-use Rattle.arbitration.proofs.messages.row.Lts as lts
 
 abbrev Inv-loop : tie.InvT-loop
 Inv-loop bytes from count out₀ i₀ out i = (i ≤ count) × (out ≡ rowOf (take i (drop from bytes)))

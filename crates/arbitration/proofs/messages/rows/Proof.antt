@@ -1,15 +1,11 @@
 -- The loop's invariant: the first i messages are cut.
-use Prim.Native.Nat.{_-_, _<_, _≤_}
-use mathlib.Core.Path.{refl}
+use Prim.Native.Nat.{_-_}
 use native.Mathlib.Omega.{arith}
 use lib.ListN.{length}
 use Rattle.arbitration.proofs.Cut.{Cutting, cutting-start, cutting-fit, cutting-room, cutting-more, cutting-done}
 use borrow.Author.Needs.{needs}
 use Rattle.arbitration.proofs.messages.rows.Statement.{statement}
 use Rattle.arbitration.proofs.messages.rows.Tie as tie
-use Rattle.arbitration.proofs.messages.rows.Reads as reads
-use Rattle.arbitration.proofs.messages.rows.Lts as lts
-use Rattle.arbitration.proofs.messages.row.Reads as row-reads
 
 abbrev Inv-loop : tie.InvT-loop
 Inv-loop bytes lengths out₀ from₀ i₀ out from i = Cutting bytes lengths out from i

@@ -8,11 +8,10 @@ use Rattle.arbitration.proofs.Lengths.{summed-more, summed-all}
 use borrow.Author.Needs.{needs}
 use Rattle.arbitration.proofs.messages.total.Statement.{statement}
 use Rattle.arbitration.proofs.messages.total.Tie as tie
-use Rattle.arbitration.proofs.messages.total.Reads as reads
-use Rattle.arbitration.proofs.messages.total.Lts as lts
 
 abbrev Inv-loop : tie.InvT-loop
-Inv-loop lengths sum₀ i₀ sum i = (i ≤ length lengths) × (sum ≤ 0xffffffff * i) × (sum + total (drop i lengths) ≡ total lengths)
+Inv-loop lengths sum₀ i₀ sum i =
+    (i ≤ length lengths) × (sum ≤ 0xffffffff * i) × (sum + total (drop i lengths) ≡ total lengths)
 
 abbrev μ-loop : tie.MeasureT-loop
 μ-loop lengths sum₀ i₀ sum i = length lengths - i

@@ -1,5 +1,5 @@
 -- By what is in common: one message ends there, or the bytes there differ.
-use Prim.Native.Nat.{_<_, _≤_}
+use Prim.Native.Nat.{_<_}
 use mathlib.Core.Path.{_≡_, sym, _∙_}
 use native.Mathlib.Omega.{arith}
 use lib.ListN.{length, take}
@@ -9,9 +9,6 @@ use borrow.Author.Needs.{needs}
 use borrow.Author.Needs.{needs}
 use Rattle.arbitration.proofs.order.at_most.Statement.{statement}
 use Rattle.arbitration.proofs.order.at_most.Tie as tie
-use Rattle.arbitration.proofs.order.at_most.Reads as reads
-use Rattle.arbitration.proofs.order.at_most.Lts as lts
-use Rattle.arbitration.proofs.order.common.Reads as common-reads
 
 common-requires : tie.Need-common-requires
 common-requires c κs = search needs

@@ -8,9 +8,6 @@ use borrow.Author.Needs.{needs}
 use borrow.Author.Needs.{needs}
 use Rattle.arbitration.proofs.order.begins.Statement.{statement}
 use Rattle.arbitration.proofs.order.begins.Tie as tie
-use Rattle.arbitration.proofs.order.begins.Reads as reads
-use Rattle.arbitration.proofs.order.begins.Lts as lts
-use Rattle.arbitration.proofs.order.common.Reads as common-reads
 
 common-requires : tie.Need-common-requires
 common-requires c κs = search needs

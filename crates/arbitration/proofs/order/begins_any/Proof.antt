@@ -1,6 +1,6 @@
 -- The loop passes messages that the one at the index does not begin; it stops at the first that it begins.
 use Prim.Native.Nat.{_-_, _<_, _≤_}
-use mathlib.Core.Path.{_≡_, sym, _∙_}
+use mathlib.Core.Path.{sym, _∙_}
 use mathlib.Core.List.{[]}
 use native.Mathlib.Omega.{arith}
 use lib.ListN.{length, getD}
@@ -12,12 +12,10 @@ use Rattle.arbitration.proofs.Held.{in-length, in-at}
 use borrow.Author.Needs.{needs}
 use Rattle.arbitration.proofs.order.begins_any.Statement.{statement}
 use Rattle.arbitration.proofs.order.begins_any.Tie as tie
-use Rattle.arbitration.proofs.order.begins_any.Reads as reads
-use Rattle.arbitration.proofs.order.begins_any.Lts as lts
-use Rattle.arbitration.proofs.order.begins.Reads as begins-reads
 
 abbrev Inv-loop : tie.InvT-loop
-Inv-loop lengths index rows count i₀ i = (i ≤ length lengths) × Passed (begins (getD (messagesIn lengths rows) index [])) (messagesIn lengths rows) i
+Inv-loop lengths index rows count i₀ i =
+    (i ≤ length lengths) × Passed (begins (getD (messagesIn lengths rows) index [])) (messagesIn lengths rows) i
 
 abbrev μ-loop : tie.MeasureT-loop
 μ-loop lengths index rows count i₀ i = length lengths - i
@@ -57,8 +55,11 @@ array-copy-out-begins-2 c = search needs
 
 begins-requires : tie.Need-begins-requires Inv-loop μ-loop
 begins-requires c κs =
-    let a = c .before .before .before .before .before .before .before in
-    (good-at (a .args .lengths .now) _ (a .pre .0 .fit) (a .pre .1) .1, good-at (a .args .lengths .now) _ (a .pre .0 .fit) (c .before .before .before .loop-test .taken) .1)
+    let a = c .before .before .before .before .before .before .before in (
+      good-at (a .args .lengths .now) _ (a .pre .0 .fit) (a .pre .1) .1,
+      good-at (a .args .lengths .now) _
+          (a .pre .0 .fit) (c .before .before .before .loop-test .taken) .1,
+    )
 
 returns : tie.Need-returns Inv-loop μ-loop
 returns c =
@@ -89,8 +90,11 @@ loop-again c =
     let less : l .i < length list = omega arith in
     let inside : l .i < length (messagesIn list rows) = rw (in-length list rows few) less in
     let own = in-at list rows (a .args .index) (a .pre .1) (omega arith) in
-    let other = in-at list rows (l .i) less (omega arith) in
-    (search needs, passed-more _ _ _ [] (l .inv .1) inside (rw (own, other) (sym (c .before .begins .ensures) ∙ c .if1 .left)))
+    let other = in-at list rows (l .i) less (omega arith) in (
+      search needs,
+      passed-more _ _ _ [] (l .inv .1) inside
+          (rw (own, other) (sym (c .before .begins .ensures) ∙ c .if1 .left)),
+    )
 
 returns-2 : tie.Need-returns-2 Inv-loop μ-loop
 returns-2 c =

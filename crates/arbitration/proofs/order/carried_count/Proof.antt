@@ -1,6 +1,4 @@
 -- One more than the first byte not acknowledged; without one, the length.
-use Prim.Native.Nat.{_<_, _≤_}
-use mathlib.Core.Path.{_≡_}
 use native.Mathlib.Omega.{arith}
 use lib.ListN.{length}
 use Rattle.arbitration.proofs.Least.{carried-refused, carried-whole}
@@ -8,9 +6,6 @@ use borrow.Author.Needs.{needs}
 use borrow.Author.Needs.{needs}
 use Rattle.arbitration.proofs.order.carried_count.Statement.{statement}
 use Rattle.arbitration.proofs.order.carried_count.Tie as tie
-use Rattle.arbitration.proofs.order.carried_count.Reads as reads
-use Rattle.arbitration.proofs.order.carried_count.Lts as lts
-use Rattle.arbitration.proofs.order.first_refused.Reads as first-refused-reads
 
 first-refused-requires : tie.Need-first-refused-requires
 first-refused-requires c κs = search needs

@@ -1,15 +1,14 @@
 -- The loop passes equal bytes; it stops at the first unequal ones, or where a message ends.
-use Prim.Native.Nat.{ℕ, _-_, _<_, _≤_}
-use mathlib.Core.Path.{_≡_, _∙_}
+use Prim.Native.Nat.{_-_, _<_}
+use mathlib.Core.Path.{_≡_}
 use native.Mathlib.Omega.{arith}
-use lib.ListN.{length, getD, take}
+use lib.ListN.{length, take}
 use lib.Seq.{length-take-le, getD-take}
-use Rattle.arbitration.proofs.Compared.{Shared, shared-start, shared-more, shared-differ, shared-end, shared-other-end}
+use Rattle.arbitration.proofs.Compared.{Shared, shared-start, shared-more, shared-differ, shared-end}
+use Rattle.arbitration.proofs.Compared.{shared-other-end}
 use borrow.Author.Needs.{needs}
 use Rattle.arbitration.proofs.order.common.Statement.{statement}
 use Rattle.arbitration.proofs.order.common.Tie as tie
-use Rattle.arbitration.proofs.order.common.Reads as reads
-use Rattle.arbitration.proofs.order.common.Lts as lts
 
 abbrev Inv-loop : tie.InvT-loop
 Inv-loop count other-count message other i₀ i = Shared (take count message) (take other-count other) i
@@ -41,7 +40,8 @@ returns-2 c =
     let others : length (take (a .other-count) (a .t3)) ≡ a .other-count = length-take-le _ _ (omega arith) in
     let less : l .i < a .other-count = omega (arith, l .inv .within-other) in
     shared-differ _ _ _ (l .inv) (rw own (omega arith)) (rw others less)
-    (rw (getD-take (a .count) (a .t1) (l .i) 0 (omega arith), getD-take (a .other-count) (a .t3) (l .i) 0 less) (c .if2 .taken))
+    (rw (getD-take (a .count) (a .t1) (l .i) 0 (omega arith), getD-take (a .other-count) (a .t3) (l .i) 0 less)
+    (c .if2 .taken))
 
 add-i : tie.Need-add-i Inv-loop μ-loop
 add-i c = search needs
@@ -57,7 +57,8 @@ loop-again c =
     let others : length (take (a .other-count) (a .t3)) ≡ a .other-count = length-take-le _ _ (omega arith) in
     let less : l .i < a .other-count = omega (arith, l .inv .within-other) in
     shared-more _ _ _ (l .inv) (rw own (omega arith)) (rw others less)
-    (rw (getD-take (a .count) (a .t1) (l .i) 0 (omega arith), getD-take (a .other-count) (a .t3) (l .i) 0 less) (c .if2 .left))
+    (rw (getD-take (a .count) (a .t1) (l .i) 0 (omega arith), getD-take (a .other-count) (a .t3) (l .i) 0 less)
+    (c .if2 .left))
 
 returns-3 : tie.Need-returns-3 Inv-loop μ-loop
 returns-3 c =

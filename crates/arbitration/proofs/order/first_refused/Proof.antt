@@ -1,17 +1,15 @@
 -- The loop passes bytes that are acknowledged; it stops at the first that is not.
-use Prim.Native.Nat.{ℕ, _-_, _<_, _≤_}
-use mathlib.Core.Path.{_≡_, _∙_}
+use Prim.Native.Nat.{_-_, _<_, _≤_}
+use mathlib.Core.Path.{_∙_}
 use native.Mathlib.Omega.{arith}
 use borrow.Author.Tests.{eq-eqb, ne-eqb}
-use lib.ListN.{length, getD, take}
+use lib.ListN.{length, take}
 use lib.Seq.{length-take-le, getD-take}
 use Rattle.arbitration.specs.Order.{notAcknowledged}
 use Rattle.arbitration.proofs.Search.{Passed, passed-start, passed-more, found-first, none-first}
 use borrow.Author.Needs.{needs}
 use Rattle.arbitration.proofs.order.first_refused.Statement.{statement}
 use Rattle.arbitration.proofs.order.first_refused.Tie as tie
-use Rattle.arbitration.proofs.order.first_refused.Reads as reads
-use Rattle.arbitration.proofs.order.first_refused.Lts as lts
 
 abbrev Inv-loop : tie.InvT-loop
 Inv-loop count acks i₀ i = (i ≤ count) × Passed notAcknowledged (take count acks) i
@@ -29,7 +27,8 @@ returns : tie.Need-returns Inv-loop μ-loop
 returns c =
     let l = c .before .before .before .loop in
     let a = c .before .before .before .before in
-    let less : l .i < length (take (a .args .count) (a .args .acks .now)) = rw (length-take-le _ _ (a .pre)) (omega arith) in
+    let less : l .i < length (take (a .args .count) (a .args .acks .now)) =
+    rw (length-take-le _ _ (a .pre)) (omega arith) in
     let here = getD-take (a .args .count) (a .args .acks .now) (l .i) 0 (omega arith) in
     found-first notAcknowledged _ _ 0 (l .inv .1) less (eq-eqb _ _ (here ∙ c .if1 .taken))
 
@@ -43,14 +42,16 @@ loop-again : tie.Need-loop-again Inv-loop μ-loop
 loop-again c =
     let l = c .before .before .before .loop in
     let a = c .before .before .before .before in
-    let less : l .i < length (take (a .args .count) (a .args .acks .now)) = rw (length-take-le _ _ (a .pre)) (omega arith) in
+    let less : l .i < length (take (a .args .count) (a .args .acks .now)) =
+    rw (length-take-le _ _ (a .pre)) (omega arith) in
     let here = getD-take (a .args .count) (a .args .acks .now) (l .i) 0 (omega arith) in
     (search needs, passed-more notAcknowledged _ _ 0 (l .inv .1) less (rw here (ne-eqb _ _ (c .if1 .left))))
 
 returns-2 : tie.Need-returns-2 Inv-loop μ-loop
 returns-2 c =
     let a = c .before .before in
-    let done : length (take (a .args .count) (a .args .acks .now)) ≤ c .before .loop .i = rw (length-take-le _ _ (a .pre)) (omega arith) in
+    let done : length (take (a .args .count) (a .args .acks .now)) ≤ c .before .loop .i =
+    rw (length-take-le _ _ (a .pre)) (omega arith) in
     none-first notAcknowledged _ _ (c .before .loop .inv .1) done
 
 pub first-refused-spec : {M : Type 1} → statement M

@@ -1,11 +1,10 @@
 -- The loop's invariant: the best so far is the least of the messages passed.
 use Prim.Native.Nat.{_-_, _<_, _≤_}
-use mathlib.Core.Path.{_≡_, sym, _∙_}
-use mathlib.Core.List.{[]}
+use mathlib.Core.Path.{sym, _∙_}
 use mathlib.Core.Logic.{⊎-elim}
 use native.Mathlib.Omega.{arith}
 use borrow.Author.Tests.{not-true, not-false}
-use lib.ListN.{length, getD}
+use lib.ListN.{length}
 use Rattle.arbitration.specs.Rows.{messagesIn}
 use Rattle.arbitration.proofs.Lengths.{good-at}
 use Rattle.arbitration.proofs.Held.{in-length, in-at}
@@ -13,9 +12,6 @@ use Rattle.arbitration.proofs.Least.{Best, best-start, best-kept, best-
 use borrow.Author.Needs.{needs}
 use Rattle.arbitration.proofs.order.least.Statement.{statement}
 use Rattle.arbitration.proofs.order.least.Tie as tie
-use Rattle.arbitration.proofs.order.least.Reads as reads
-use Rattle.arbitration.proofs.order.least.Lts as lts
-use Rattle.arbitration.proofs.order.at_most.Reads as at-most-reads
 
 abbrev Inv-loop : tie.InvT-loop
 Inv-loop lengths rows best₀ i₀ best i = (best < length lengths) × Best (messagesIn lengths rows) best i
@@ -62,8 +58,11 @@ array-copy-out-at-most-2 c = search needs
 at-most-requires : tie.Need-at-most-requires Inv-loop μ-loop
 at-most-requires c κs =
     let a = c .before .before .before .before .before .before .before in
-    let l = c .before .before .before .before .before .loop in
-    (good-at (a .args .lengths .now) _ (a .pre .0 .fit) (l .inv .0) .1, good-at (a .args .lengths .now) _ (a .pre .0 .fit) (c .before .before .before .before .loop-test .taken) .1)
+    let l = c .before .before .before .before .before .loop in (
+      good-at (a .args .lengths .now) _ (a .pre .0 .fit) (l .inv .0) .1,
+      good-at (a .args .lengths .now) _
+          (a .pre .0 .fit) (c .before .before .before .before .loop-test .taken) .1,
+    )
 
 add-i : tie.Need-add-i Inv-loop μ-loop
 add-i c = search needs

@@ -1,6 +1,5 @@
 -- 16 does not apply where a byte of the least message is not acknowledged; else it does where it begins another.
-use Prim.Native.Nat.{_<_, _≤_}
-use mathlib.Core.Path.{_≡_, sym, ap, _∙_}
+use Prim.Native.Nat.{_≤_}
 use mathlib.Core.List.{[]}
 use native.Mathlib.Omega.{arith}
 use lib.ListN.{length, getD}
@@ -13,10 +12,6 @@ use borrow.Author.Needs.{needs}
 use borrow.Author.Needs.{needs}
 use Rattle.arbitration.proofs.order.unsettled.Statement.{statement}
 use Rattle.arbitration.proofs.order.unsettled.Tie as tie
-use Rattle.arbitration.proofs.order.unsettled.Reads as reads
-use Rattle.arbitration.proofs.order.unsettled.Lts as lts
-use Rattle.arbitration.proofs.order.begins_any.Reads as begins-any-reads
-use Rattle.arbitration.proofs.order.first_refused.Reads as first-refused-reads
 
 mul-count : tie.Need-mul-count
 mul-count c = search needs
@@ -44,7 +39,8 @@ returns c =
     let enough = longest-at list (a .args .least) (a .pre .1 .within) in
     rw (← a .pre .1 .same)
     (rw
-    (acknowledged-not (getD (messagesIn list rows) (a .args .least) []) (a .args .acks .now) (a .pre .3) (omega arith) (omega arith)))
+    (acknowledged-not (getD (messagesIn list rows) (a .args .least) []) (a .args .acks .now) (a .pre .3) (omega arith)
+    (omega arith)))
 
 begins-any-requires : tie.Need-begins-any-requires
 begins-any-requires c κs = search needs
@@ -61,7 +57,8 @@ returns-2 c =
     let enough = longest-at list (a .args .least) (a .pre .1 .within) in
     rw (← a .pre .1 .same)
     (rw
-    (acknowledged-all (getD (messagesIn list rows) (a .args .least) []) (a .args .acks .now) (a .pre .3) (omega arith) (omega arith))
+    (acknowledged-all (getD (messagesIn list rows) (a .args .least) []) (a .args .acks .now) (a .pre .3) (omega arith)
+    (omega arith))
     (c .begins-any .ensures))
 
 pub unsettled-spec : {M : Type 1} → statement M

@@ -1,19 +1,10 @@
 -- The first of 12 and 13 that applies.
-use Prim.Native.Nat.{_≤_}
-use mathlib.Core.Path.{_≡_, sym, ap, _∙_}
-use mathlib.Core.Bool.{Bool}
-use native.Mathlib.Omega.{arith}
-use Rattle.arbitration_rules.specs.Reply.{badLengths}
 use Rattle.arbitration.specs.Refusals.{malformedOf}
 use Rattle.arbitration.proofs.Lengths.{good-count}
 use borrow.Author.Needs.{needs}
 use borrow.Author.Needs.{needs}
 use Rattle.arbitration.proofs.refusals.malformed.Statement.{statement}
 use Rattle.arbitration.proofs.refusals.malformed.Tie as tie
-use Rattle.arbitration.proofs.refusals.malformed.Reads as reads
-use Rattle.arbitration.proofs.refusals.malformed.Lts as lts
-use Rattle.arbitration.proofs.messages.first_bad_length.Reads as first-bad-length-reads
-use Rattle.arbitration.proofs.messages.total.Reads as total-reads
 
 returns : tie.Need-returns
 unfolding malformedOf

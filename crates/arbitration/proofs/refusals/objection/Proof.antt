@@ -1,5 +1,5 @@
 -- The first of 14, 15, 16 and 8 that applies.
-use Prim.Native.Nat.{ℕ, _<_, _≤_}
+use Prim.Native.Nat.{ℕ, _≤_}
 use mathlib.Core.Path.{_≡_, sym, ap, _∙_}
 use mathlib.Core.Bool.{true, false}
 use mathlib.Core.List.{List, []}
@@ -9,7 +9,7 @@ use lib.ListN.{length, getD}
 use Rattle.arbitration_rules.specs.Outcome.{least, carriedCount, unsettled}
 use Rattle.arbitration_rules.specs.Reply.{reads, firstRead, badAcknowledges}
 use Rattle.arbitration.specs.Rows.{messagesIn}
-use Rattle.arbitration.specs.Refusals.{objectionOf}
+use Rattle.arbitration.specs.Refusals.{numbered, objectionOf}
 use Rattle.arbitration.proofs.Lengths.{good-at, good-acknowledges, longest-at}
 use Rattle.arbitration.proofs.Held.{in-length, length-at}
 use Rattle.arbitration.proofs.Least.{carried-within}
@@ -17,41 +17,43 @@ use borrow.Author.Needs.{needs}
 use borrow.Author.Needs.{needs}
 use Rattle.arbitration.proofs.refusals.objection.Statement.{statement}
 use Rattle.arbitration.proofs.refusals.objection.Tie as tie
-use Rattle.arbitration.proofs.refusals.objection.Reads as reads
-use Rattle.arbitration.proofs.refusals.objection.Lts as lts
-use Rattle.arbitration.proofs.messages.bad_acknowledges.Reads as bad-acknowledges-reads
-use Rattle.arbitration.proofs.messages.first_read.Reads as first-read-reads
-use Rattle.arbitration.proofs.order.carried_count.Reads as carried-count-reads
-use Rattle.arbitration.proofs.order.least.Reads as least-reads
-use Rattle.arbitration.proofs.order.unsettled.Reads as unsettled-reads
-use Rattle.arbitration.proofs.refusals.short_buffer.Reads as short-buffer-reads
+
+-- the messages that the function's arguments hold
+abbrev held : tie.Start → List (List ℕ)
+held a = messagesIn (a .args .lengths .now) (a .args .rows)
 
 -- what the branches passed: not 14, not 15, not 16
-not-read : (c : tie.Else1) → reads (messagesIn (c .before .before .before .before .args .lengths .now) (c .before .before .before .before .args .rows)) ≡ false
+not-read : (c : tie.Else1) → reads (held (c .before .before .before .before)) ≡ false
 not-read c =
     let a = c .before .before .before .before in
     let list = a .args .lengths .now in
     let many : length list ≤ length (a .args .rows) = omega (arith, a .pre .0 .few) in
-    let messages = messagesIn list (a .args .rows) in
-    le-ltb (firstRead messages) (length messages)
+    le-ltb (firstRead (held a)) (length (held a))
     (rw (in-length list (a .args .rows) many, ← c .before .first-read .ensures) (c .if1 .left))
 
-good-bits : (c : tie.Else2) → badAcknowledges (c .before .before .before .before .before .before .args .lengths .now) (c .before .before .before .before .before .before .args .acks .now) ≡ false
+abbrev bits : tie.Else2 → tie.Start
+bits c = c .before .before .before .before .before .before
+
+good-bits : (c : tie.Else2) → badAcknowledges (bits c .args .lengths .now) (bits c .args .acks .now) ≡ false
 good-bits c = sym (c .before .bad-acknowledges .ensures) ∙ c .if2 .left
 
-settled : (c : tie.Else3) → unsettled (messagesIn (c .before .before .before .before .before .before .before .before .before .args .lengths .now) (c .before .before .before .before .before .before .before .before .before .args .rows)) (c .before .before .before .before .before .before .before .before .before .args .acks .now) ≡ false
+settled : (c : tie.Else3)
+    → unsettled (held (bits (c .before .before .before))) (bits (c .before .before .before) .args .acks .now) ≡ false
 settled c = sym (c .before .unsettled .ensures) ∙ c .if3 .left
 
+abbrev entry : tie.After-carried-count → tie.Start
+entry c = c .before .before .before .before .before .before .before .before .before .before .before
+
 k-is : (c : tie.After-carried-count)
-    → c .carried-count .result ≡ carriedCount (least (messagesIn (c .before .before .before .before .before .before .before .before .before .before .before .args .lengths .now) (c .before .before .before .before .before .before .before .before .before .before .before .args .rows))) (c .before .before .before .before .before .before .before .before .before .before .before .args .acks .now)
+    → c .carried-count .result ≡ carriedCount (least (held (entry c))) (entry c .args .acks .now)
 k-is c =
-    let a = c .before .before .before .before .before .before .before .before .before .before .before in
+    let a = entry c in
     let list = a .args .lengths .now in
     let rows = a .args .rows in
     let many : length list ≤ length rows = omega (arith, a .pre .0 .few) in
+    let index = c .before .before .before .before .least .result in
     let best = c .before .before .before .before .least .ensures in
-    c .carried-count .ensures (getD (messagesIn list rows) (c .before .before .before .before .least .result) [])
-    (length-at list rows (a .pre .0) many (c .before .before .before .before .least .result) (best .within))
+    c .carried-count .ensures (getD (held a) index []) (length-at list rows (a .pre .0) many index (best .within))
     ∙ ap (λ (message : List ℕ). carriedCount message (a .args .acks .now)) (best .same)
 
 first-read-requires : tie.Need-first-read-requires
@@ -64,10 +66,9 @@ returns c =
     let list = a .args .lengths .now in
     let many : length list ≤ length (a .args .rows) = omega (arith, a .pre .0 .few) in
     let is = c .before .first-read .ensures in
-    let messages = messagesIn list (a .args .rows) in
-    let read : reads messages ≡ true =
-    lt-ltb (firstRead messages) (length messages) (rw (in-length list (a .args .rows) many, ← is) (c .if1 .taken)) in
-    rw (read, is)
+    let read : reads (held a) ≡ true =
+    lt-ltb (firstRead (held a)) (length (held a)) (rw (in-length list (a .args .rows) many, ← is) (c .if1 .taken)) in
+    rw read (ap (numbered 14) is)
 
 bad-acknowledges-requires : tie.Need-bad-acknowledges-requires
 bad-acknowledges-requires c κs = search needs
@@ -87,7 +88,14 @@ unsettled-requires c κs =
 
 returns-3 : tie.Need-returns-3
 unfolding objectionOf
-returns-3 c = rw (not-read (c .before .before .before .before .before), good-bits (c .before .before .before), ← c .before .unsettled .ensures, c .if3 .taken)
+returns-3 c =
+    rw (
+      not-read (c .before .before .before .before .before),
+      good-bits (c .before .before .before),
+      ←
+          c .before .unsettled .ensures,
+      c .if3 .taken,
+    )
 
 mul-carried-count : tie.Need-mul-carried-count
 mul-carried-count c = search needs
@@ -101,8 +109,14 @@ cast-carried-count c = omega (arith, c .shared-slice-known3 .given (c .before .b
 carried-count-requires : tie.Need-carried-count-requires
 carried-count-requires c κs =
     let a = c .before .before .before .before .before .before .before .before .before .before in
-    let good = good-acknowledges (a .args .lengths .now) (a .args .acks .now) (good-bits (c .before .before .before .before)) in
-    omega (arith, longest-at (a .args .lengths .now) (c .before .before .before .least .result) (c .before .before .before .least .ensures .within))
+    let good =
+    good-acknowledges (a .args .lengths .now) (a .args .acks .now) (good-bits (c .before .before .before .before))
+    in
+    omega (
+      arith,
+      longest-at (a .args .lengths .now) (c .before .before .before .least .result)
+          (c .before .before .before .least .ensures .within),
+    )
 
 short-buffer-requires : tie.Need-short-buffer-requires
 short-buffer-requires c κs =

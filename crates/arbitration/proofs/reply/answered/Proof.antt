@@ -1,6 +1,6 @@
 -- The loop's invariant: the first i places are gathered.
 use Prim.Native.Nat.{_-_, _<_, _≤_}
-use mathlib.Core.Path.{_≡_, refl}
+use mathlib.Core.Path.{_≡_}
 use mathlib.Core.List.{_++_, map}
 use native.Mathlib.Omega.{arith}
 use lib.ListN.{length, take, drop}
@@ -10,9 +10,6 @@ use Rattle.arbitration.proofs.Mapped.{gathered-more, gathered-all}
 use borrow.Author.Needs.{needs}
 use Rattle.arbitration.proofs.reply.answered.Statement.{statement}
 use Rattle.arbitration.proofs.reply.answered.Tie as tie
-use Rattle.arbitration.proofs.reply.answered.Reads as reads
-use Rattle.arbitration.proofs.reply.answered.Lts as lts
-use Rattle.usi.proofs.Usi.power_up.Reads as power-up-reads
 
 abbrev Inv-loop : tie.InvT-loop
 Inv-loop k masters modules₀ contending₀ positions₀ i₀ modules contending positions i =

@@ -4,9 +4,6 @@ use borrow.Author.Needs.{needs}
 use borrow.Author.Needs.{needs}
 use Rattle.arbitration.proofs.reply.refused.Statement.{statement}
 use Rattle.arbitration.proofs.reply.refused.Tie as tie
-use Rattle.arbitration.proofs.reply.refused.Reads as reads
-use Rattle.arbitration.proofs.reply.refused.Lts as lts
-use Rattle.usi.proofs.Usi.power_up.Reads as power-up-reads
 
 power-up-requires : tie.Need-power-up-requires
 power-up-requires c κs = search needs

@@ -5,8 +5,6 @@ use borrow.Author.Needs.{needs}
 use borrow.Author.Needs.{needs}
 use Rattle.arbitration.proofs.state.level_of.Statement.{statement}
 use Rattle.arbitration.proofs.state.level_of.Tie as tie
-use Rattle.arbitration.proofs.state.level_of.Reads as reads
-use Rattle.arbitration.proofs.state.level_of.Lts as lts
 
 cast-result : tie.Need-cast-result
 cast-result c = search needs

@@ -1,141 +1,90 @@
+-- The table is written entry by entry.
+use mathlib.Core.Path.{_≡_, _∙_}
+use mathlib.Core.List.{map}
+use Prim.Native.Nat.{_≤_, _<_, _-_}
+use native.Mathlib.Omega.{arith}
+use lib.ListN.{length, length-map}
 use borrow.Author.Needs.{needs}
+use Rattle.export.specs.Packed.{packed}
+use Rattle.export.proofs.WrittenTable.{Written, written-none, written-long, written-more, written-done, module-entry}
 use Rattle.export.proofs.tables.put_modules.Statement.{statement}
 use Rattle.export.proofs.tables.put_modules.Tie as tie
-use Rattle.export.proofs.tables.put_modules.Reads as reads
-use Rattle.export.proofs.tables.put_modules.Lts as lts
-use Rattle.export.proofs.packed.Reads as packed-reads
 
--- src/tables.rt:41:30
-array-copy-out-packed : tie.Need-array-copy-out-packed
+abbrev Inv-loop : tie.InvT-loop
+Inv-loop table₀ modules i₀ table i = (i ≤ 8) × Written (map packed modules) table₀ table i
+
+abbrev μ-loop : tie.MeasureT-loop
+μ-loop table₀ modules i₀ table i = 8 - i
+
+loop-holds : tie.Need-loop-holds Inv-loop μ-loop
+loop-holds c = (omega arith, written-none _ _)
+
+mul-packed : tie.Need-mul-packed Inv-loop μ-loop
+mul-packed c = search needs
+
+array-copy-out-packed : tie.Need-array-copy-out-packed Inv-loop μ-loop
 array-copy-out-packed c = search needs
 
--- src/tables.rt:41:16
-packed-requires : tie.Need-packed-requires
+packed-requires : tie.Need-packed-requires Inv-loop μ-loop
 packed-requires c κs = search needs
 
--- src/tables.rt:41:5
-slice-write-table : tie.Need-slice-write-table
-slice-write-table c = search needs
+mul-table : tie.Need-mul-table Inv-loop μ-loop
+mul-table c = search needs
 
--- src/tables.rt:42:30
-array-copy-out-packed-2 : tie.Need-array-copy-out-packed-2
-array-copy-out-packed-2 c = search needs
+slice-write-table : tie.Need-slice-write-table Inv-loop μ-loop
+slice-write-table c =
+    let start = c .before .before .before .before .before in
+    let long : length (map packed (start .args .t1)) ≡ 8 = length-map (start .args .t1) packed ∙ search needs in
+    let room : length (map packed (start .args .t1)) ≤ length (start .args .table .now) = rw long (start .pre) in
+    omega (arith, written-long _ _ _ _ room (c .before .before .before .loop .inv .1), start .pre)
 
--- src/tables.rt:42:16
-packed-requires-2 : tie.Need-packed-requires-2
-packed-requires-2 c κs = search needs
+add-i : tie.Need-add-i Inv-loop μ-loop
+add-i c = search needs
 
--- src/tables.rt:42:5
-slice-write-table-2 : tie.Need-slice-write-table-2
-slice-write-table-2 c = ?
+loop-less : tie.Need-loop-less Inv-loop μ-loop
+loop-less c = search needs
 
--- src/tables.rt:43:30
-array-copy-out-packed-3 : tie.Need-array-copy-out-packed-3
-array-copy-out-packed-3 c = search needs
+loop-again : tie.Need-loop-again Inv-loop μ-loop
+loop-again c =
+    let start = c .before .before .before .before .before in
+    let i = c .before .before .before .loop .i in
+    let long : length (map packed (start .args .t1)) ≡ 8 = length-map (start .args .t1) packed ∙ search needs in
+    let room : length (map packed (start .args .t1)) ≤ length (start .args .table .now) = rw long (start .pre) in
+    let more : i < length (map packed (start .args .t1)) = rw long (search needs) in (
+      search needs,
+      written-more _ _ _ _ room (c .before .before .before .loop .inv .1) (c .packed .result) _ more
+          (module-entry (start .args .t1) i _ (c .packed .result) (c .packed .ensures .0)),
+    )
 
--- src/tables.rt:43:16
-packed-requires-3 : tie.Need-packed-requires-3
-packed-requires-3 c κs = search needs
+same-length : tie.Need-same-length Inv-loop μ-loop
+same-length c =
+    let start = c .before .before .before in
+    let long : length (map packed (start .args .t1)) ≡ 8 = length-map (start .args .t1) packed ∙ search needs in
+    let room : length (map packed (start .args .t1)) ≤ length (start .args .table .now) = rw long (start .pre) in
+    written-long _ _ _ _ room (c .before .loop .inv .1)
 
--- src/tables.rt:43:5
-slice-write-table-3 : tie.Need-slice-write-table-3
-slice-write-table-3 c = ?
-
--- src/tables.rt:44:30
-array-copy-out-packed-4 : tie.Need-array-copy-out-packed-4
-array-copy-out-packed-4 c = search needs
-
--- src/tables.rt:44:16
-packed-requires-4 : tie.Need-packed-requires-4
-packed-requires-4 c κs = search needs
-
--- src/tables.rt:44:5
-slice-write-table-4 : tie.Need-slice-write-table-4
-slice-write-table-4 c = ?
-
--- src/tables.rt:45:30
-array-copy-out-packed-5 : tie.Need-array-copy-out-packed-5
-array-copy-out-packed-5 c = search needs
-
--- src/tables.rt:45:16
-packed-requires-5 : tie.Need-packed-requires-5
-packed-requires-5 c κs = search needs
-
--- src/tables.rt:45:5
-slice-write-table-5 : tie.Need-slice-write-table-5
-slice-write-table-5 c = ?
-
--- src/tables.rt:46:30
-array-copy-out-packed-6 : tie.Need-array-copy-out-packed-6
-array-copy-out-packed-6 c = search needs
-
--- src/tables.rt:46:16
-packed-requires-6 : tie.Need-packed-requires-6
-packed-requires-6 c κs = search needs
-
--- src/tables.rt:46:5
-slice-write-table-6 : tie.Need-slice-write-table-6
-slice-write-table-6 c = ?
-
--- src/tables.rt:47:30
-array-copy-out-packed-7 : tie.Need-array-copy-out-packed-7
-array-copy-out-packed-7 c = search needs
-
--- src/tables.rt:47:16
-packed-requires-7 : tie.Need-packed-requires-7
-packed-requires-7 c κs = search needs
-
--- src/tables.rt:47:5
-slice-write-table-7 : tie.Need-slice-write-table-7
-slice-write-table-7 c = ?
-
--- src/tables.rt:48:30
-array-copy-out-packed-8 : tie.Need-array-copy-out-packed-8
-array-copy-out-packed-8 c = search needs
-
--- src/tables.rt:48:16
-packed-requires-8 : tie.Need-packed-requires-8
-packed-requires-8 c κs = search needs
-
--- src/tables.rt:48:5
-slice-write-table-8 : tie.Need-slice-write-table-8
-slice-write-table-8 c = ?
-
--- src/tables.rt:37:1
-same-length : tie.Need-same-length
-same-length c = ?
-
--- src/tables.rt:37:1
-returns : tie.Need-returns
-returns c = ?
+returns : tie.Need-returns Inv-loop μ-loop
+returns c =
+    let start = c .before .before .before in
+    let long : length (map packed (start .args .t1)) ≡ 8 = length-map (start .args .t1) packed ∙ search needs in
+    let room : length (map packed (start .args .t1)) ≤ length (start .args .table .now) = rw long (start .pre) in
+    let all : length (map packed (start .args .t1)) ≤ c .before .loop .i = rw long (search needs) in
+    written-done _ _ _ _ room (c .before .loop .inv .1) all
 
 pub put-modules-spec : {M : Type 1} → statement M
 put-modules-spec =
     tie.close
     (tie.spec
+    Inv-loop
+    μ-loop
+    loop-holds
+    mul-packed
     array-copy-out-packed
     packed-requires
+    mul-table
     slice-write-table
-    array-copy-out-packed-2
-    packed-requires-2
-    slice-write-table-2
-    array-copy-out-packed-3
-    packed-requires-3
-    slice-write-table-3
-    array-copy-out-packed-4
-    packed-requires-4
-    slice-write-table-4
-    array-copy-out-packed-5
-    packed-requires-5
-    slice-write-table-5
-    array-copy-out-packed-6
-    packed-requires-6
-    slice-write-table-6
-    array-copy-out-packed-7
-    packed-requires-7
-    slice-write-table-7
-    array-copy-out-packed-8
-    packed-requires-8
-    slice-write-table-8
+    add-i
+    loop-less
+    loop-again
     same-length
     returns)

@@ -1,100 +1,84 @@
+-- The table is written entry by entry.
+use mathlib.Core.Path.{_≡_, refl}
+use Prim.Native.Nat.{_≤_, _<_, _-_}
+use native.Mathlib.Omega.{arith}
+use lib.ListN.{length}
 use borrow.Author.Needs.{needs}
+use Rattle.export.proofs.WrittenTable.{Written, written-none, written-long, written-more, written-done}
 use Rattle.export.proofs.tables.put_positions.Statement.{statement}
 use Rattle.export.proofs.tables.put_positions.Tie as tie
-use Rattle.export.proofs.tables.put_positions.Reads as reads
-use Rattle.export.proofs.tables.put_positions.Lts as lts
 
--- src/tables.rt:55:16
-array-read-table : tie.Need-array-read-table
+abbrev Inv-loop : tie.InvT-loop
+Inv-loop table₀ positions i₀ table i = (i ≤ 8) × Written positions table₀ table i
+
+abbrev μ-loop : tie.MeasureT-loop
+μ-loop table₀ positions i₀ table i = 8 - i
+
+loop-holds : tie.Need-loop-holds Inv-loop μ-loop
+loop-holds c = (omega arith, written-none _ _)
+
+mul-table : tie.Need-mul-table Inv-loop μ-loop
+mul-table c = search needs
+
+array-read-table : tie.Need-array-read-table Inv-loop μ-loop
 array-read-table c = search needs
 
--- src/tables.rt:55:5
-slice-write-table : tie.Need-slice-write-table
-slice-write-table c = search needs
+mul-table-2 : tie.Need-mul-table-2 Inv-loop μ-loop
+mul-table-2 c = search needs
 
--- src/tables.rt:56:16
-array-read-table-2 : tie.Need-array-read-table-2
-array-read-table-2 c = search needs
+slice-write-table : tie.Need-slice-write-table Inv-loop μ-loop
+slice-write-table c =
+    let start = c .before .before in
+    let long : length (start .args .t1) ≡ 8 = search needs in
+    let room : length (start .args .t1) ≤ length (start .args .table .now) = rw long (start .pre) in
+    omega (arith, written-long _ _ _ _ room (c .before .loop .inv .1), start .pre)
 
--- src/tables.rt:56:5
-slice-write-table-2 : tie.Need-slice-write-table-2
-slice-write-table-2 c = ?
+add-i : tie.Need-add-i Inv-loop μ-loop
+add-i c = search needs
 
--- src/tables.rt:57:16
-array-read-table-3 : tie.Need-array-read-table-3
-array-read-table-3 c = search needs
+loop-less : tie.Need-loop-less Inv-loop μ-loop
+loop-less c = search needs
 
--- src/tables.rt:57:5
-slice-write-table-3 : tie.Need-slice-write-table-3
-slice-write-table-3 c = ?
+loop-again : tie.Need-loop-again Inv-loop μ-loop
+loop-again c =
+    let start = c .before .before in
+    let i = c .before .loop .i in
+    let long : length (start .args .t1) ≡ 8 = search needs in
+    let room : length (start .args .t1) ≤ length (start .args .table .now) = rw long (start .pre) in
+    let more : i < length (start .args .t1) = rw long (search needs) in (
+      search needs,
+      written-more _ _ _ _ room (c .before .loop .inv .1) _ _ more
+          refl,
+    )
 
--- src/tables.rt:58:16
-array-read-table-4 : tie.Need-array-read-table-4
-array-read-table-4 c = search needs
+same-length : tie.Need-same-length Inv-loop μ-loop
+same-length c =
+    let start = c .before .before in
+    let long : length (start .args .t1) ≡ 8 = search needs in
+    let room : length (start .args .t1) ≤ length (start .args .table .now) = rw long (start .pre) in
+    written-long _ _ _ _ room (c .before .loop .inv .1)
 
--- src/tables.rt:58:5
-slice-write-table-4 : tie.Need-slice-write-table-4
-slice-write-table-4 c = ?
-
--- src/tables.rt:59:16
-array-read-table-5 : tie.Need-array-read-table-5
-array-read-table-5 c = search needs
-
--- src/tables.rt:59:5
-slice-write-table-5 : tie.Need-slice-write-table-5
-slice-write-table-5 c = ?
-
--- src/tables.rt:60:16
-array-read-table-6 : tie.Need-array-read-table-6
-array-read-table-6 c = search needs
-
--- src/tables.rt:60:5
-slice-write-table-6 : tie.Need-slice-write-table-6
-slice-write-table-6 c = ?
-
--- src/tables.rt:61:16
-array-read-table-7 : tie.Need-array-read-table-7
-array-read-table-7 c = search needs
-
--- src/tables.rt:61:5
-slice-write-table-7 : tie.Need-slice-write-table-7
-slice-write-table-7 c = ?
-
--- src/tables.rt:62:16
-array-read-table-8 : tie.Need-array-read-table-8
-array-read-table-8 c = search needs
-
--- src/tables.rt:62:5
-slice-write-table-8 : tie.Need-slice-write-table-8
-slice-write-table-8 c = ?
-
--- src/tables.rt:51:1
-same-length : tie.Need-same-length
-same-length c = ?
-
--- src/tables.rt:51:1
-returns : tie.Need-returns
-returns c = ?
+returns : tie.Need-returns Inv-loop μ-loop
+returns c =
+    let start = c .before .before in
+    let long : length (start .args .t1) ≡ 8 = search needs in
+    let room : length (start .args .t1) ≤ length (start .args .table .now) = rw long (start .pre) in
+    let all : length (start .args .t1) ≤ c .before .loop .i = rw long (search needs) in
+    written-done _ _ _ _ room (c .before .loop .inv .1) all
 
 pub put-positions-spec : {M : Type 1} → statement M
 put-positions-spec =
     tie.close
     (tie.spec
+    Inv-loop
+    μ-loop
+    loop-holds
+    mul-table
     array-read-table
+    mul-table-2
     slice-write-table
-    array-read-table-2
-    slice-write-table-2
-    array-read-table-3
-    slice-write-table-3
-    array-read-table-4
-    slice-write-table-4
-    array-read-table-5
-    slice-write-table-5
-    array-read-table-6
-    slice-write-table-6
-    array-read-table-7
-    slice-write-table-7
-    array-read-table-8
-    slice-write-table-8
+    add-i
+    loop-less
+    loop-again
     same-length
     returns)

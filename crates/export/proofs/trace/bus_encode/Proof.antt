@@ -20,8 +20,8 @@ returns c =
     let drawn = c .before .before .before .before .before .encode .ensures in (
       rw (c .encode-answer .ensures, drawn .0),
       (
-        rw (← drawn .0) (drawn .1),
-        rw (← drawn .0) (drawn .2),
+        rw (← drawn .0) (drawn .1 .0),
+        rw (← drawn .0) (drawn .1 .1),
       ),
     )
 

@@ -6,12 +6,6 @@ use borrow.Author.Needs.{needs}
 use borrow.Author.Needs.{needs}
 use Rattle.arbitration.proofs.state.BusState.bit_turn.Statement.{statement}
 use Rattle.arbitration.proofs.state.BusState.bit_turn.Tie as tie
-use Rattle.arbitration.proofs.state.BusState.bit_turn.Reads as reads
-use Rattle.arbitration.proofs.state.BusState.bit_turn.Lts as lts
-use Rattle.arbitration.proofs.state.BusState.every.Reads as every-reads
-use Rattle.arbitration.proofs.state.BusState.pulled.Reads as pulled-reads
-use Rattle.arbitration.proofs.state.BusState.record_sample.Reads as record-sample-reads
-use Rattle.arbitration.proofs.state.BusState.sample.Reads as sample-reads
 
 every-requires : tie.Need-every-requires
 every-requires c κs = search needs
@@ -29,7 +23,8 @@ every-requires-2 : tie.Need-every-requires-2
 every-requires-2 c κs = search needs
 
 add-record-sample : tie.Need-add-record-sample
-add-record-sample c = omega (arith, c .before .before .before .before .before .before .before .before .before .before .good .1 .1 .0 .0)
+add-record-sample c =
+    omega (arith, c .before .before .before .before .before .before .before .before .before .before .good .1 .1 .0 .0)
 
 record-sample-requires-2 : tie.Need-record-sample-requires-2
 record-sample-requires-2 c κs = search needs
@@ -43,8 +38,10 @@ returns c =
     let low = c .before .before .before .before .before .before .before .before .before in
     let ticked = moved-moved (low .before .before .every .ensures) (low .before .sample .ensures) in
     let fallen = moved-moved ticked (low .pulled .ensures) in
-    let shown = moved-recorded fallen (c .before .before .before .before .before .before .before .record-sample .ensures) in
-    recorded-recorded (recorded-moved shown (c .before .before .before .before .every2 .ensures)) (c .before .before .record-sample2 .ensures)
+    let shown =
+    moved-recorded fallen (c .before .before .before .before .before .before .before .record-sample .ensures) in
+    recorded-recorded (recorded-moved shown (c .before .before .before .before .every2 .ensures))
+    (c .before .before .record-sample2 .ensures)
 
 pub bit-turn-spec : {M : Type 1} → statement M
 bit-turn-spec =

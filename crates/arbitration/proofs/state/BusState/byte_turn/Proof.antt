@@ -1,75 +1,59 @@
 -- Step 2: the byte loaded, its data turns, the byte stored, and its acknowledge.
-use native.Mathlib.Omega.{arith}
 use Rattle.arbitration_rules.specs.Run.{byteTurn, closed}
 use Rattle.arbitration.proofs.Steps.{moved-recorded}
 use Rattle.arbitration.proofs.Bytes.{carried-byte}
 use borrow.Author.Needs.{needs}
 use Rattle.arbitration.proofs.state.BusState.byte_turn.Statement.{statement}
 use Rattle.arbitration.proofs.state.BusState.byte_turn.Tie as tie
-use Rattle.arbitration.proofs.state.BusState.byte_turn.Reads as reads
-use Rattle.arbitration.proofs.state.BusState.byte_turn.Lts as lts
-use Rattle.arbitration.proofs.state.BusState.bit_turn.Reads as bit-turn-reads
-use Rattle.arbitration.proofs.state.BusState.closed.Reads as closed-reads
-use Rattle.arbitration.proofs.state.BusState.data_turns.Reads as data-turns-reads
-use Rattle.arbitration.proofs.state.BusState.opened.Reads as opened-reads
 
--- src/run.rt:90:22
 mul-at : tie.Need-mul-at
 mul-at c = search needs
 
--- src/run.rt:90:18
 add-at : tie.Need-add-at
 add-at c = search needs
 
--- src/run.rt:91:20
 opened-requires : tie.Need-opened-requires
 opened-requires c κs = search needs
 
--- src/run.rt:91:57
 mul-data-turns : tie.Need-mul-data-turns
 mul-data-turns c = search needs
 
--- src/run.rt:91:56
 cast-data-turns : tie.Need-cast-data-turns
 cast-data-turns c = search needs
 
--- src/run.rt:91:13
 data-turns-requires : tie.Need-data-turns-requires
 data-turns-requires c κs = search needs
 
--- src/run.rt:92:9
 slice-write-carried : tie.Need-slice-write-carried
 slice-write-carried c = search needs
 
--- src/run.rt:93:9
 closed-requires : tie.Need-closed-requires
 closed-requires c κs = search needs
 
--- src/run.rt:93:50
 add-bit-turn : tie.Need-add-bit-turn
 add-bit-turn c = search needs
 
--- src/run.rt:93:9
 bit-turn-requires : tie.Need-bit-turn-requires
 bit-turn-requires c κs = search needs
 
--- src/run.rt:86:5
 same-length : tie.Need-same-length
 same-length c = search needs
 
--- src/run.rt:86:5
 same-length-2 : tie.Need-same-length-2
 same-length-2 c = search needs
 
--- src/run.rt:86:5
 returns : tie.Need-returns
 unfolding byteTurn closed
 returns c messages held =
     let a = c .before .before .before .before .before .before .before .before .before .before .before .before .args in
-    let ready = c .before .before .before .before .before .before .before .before .before .opened .ensures .moved messages held in
+    let ready =
+    c .before .before .before .before .before .before .before .before .before .opened .ensures .moved messages held
+    in
     let sent = moved-recorded ready (c .before .before .before .before .before .before .before .data-turns .ensures) in
-    let acknowledged = moved-recorded (c .before .before .before .before .closed .ensures) (c .before .before .bit-turn .ensures) in
-    carried-byte (a .index) (a .carried .now) sent acknowledged (c .before .before .before .before .before .before .before .before .before .before .before .before .pre .2)
+    let acknowledged =
+    moved-recorded (c .before .before .before .before .closed .ensures) (c .before .before .bit-turn .ensures) in
+    carried-byte (a .index) (a .carried .now) sent acknowledged
+    (c .before .before .before .before .before .before .before .before .before .before .before .before .pre .2)
 
 pub byte-turn-spec : {M : Type 1} → statement M
 byte-turn-spec =

@@ -4,10 +4,6 @@ use borrow.Author.Needs.{needs}
 use borrow.Author.Needs.{needs}
 use Rattle.arbitration.proofs.state.BusState.closed.Statement.{statement}
 use Rattle.arbitration.proofs.state.BusState.closed.Tie as tie
-use Rattle.arbitration.proofs.state.BusState.closed.Reads as reads
-use Rattle.arbitration.proofs.state.BusState.closed.Lts as lts
-use Rattle.arbitration.proofs.state.BusState.every.Reads as every-reads
-use Rattle.arbitration.proofs.state.BusState.write.Reads as write-reads
 
 every-requires : tie.Need-every-requires
 every-requires c κs = search needs
@@ -19,7 +15,8 @@ write-requires-2 : tie.Need-write-requires-2
 write-requires-2 c κs = search needs
 
 returns : tie.Need-returns
-returns c = moved-moved (moved-moved (c .before .before .every .ensures) (c .before .write .ensures)) (c .write2 .ensures)
+returns c =
+    moved-moved (moved-moved (c .before .before .every .ensures) (c .before .write .ensures)) (c .write2 .ensures)
 
 pub closed-spec : {M : Type 1} → statement M
 closed-spec = tie.close (tie.spec every-requires write-requires write-requires-2 returns)

@@ -1,6 +1,4 @@
 -- A bit turn; who has AL set has lost; the bit is taken.
-use Prim.Native.Nat.{_<_}
-use mathlib.Core.Path.{_≡_}
 use native.Mathlib.Omega.{arith}
 use Rattle.arbitration_rules.specs.Run.{dataTurn}
 use Rattle.arbitration.proofs.Steps.{recorded-moved}
@@ -9,11 +7,6 @@ use borrow.Author.Needs.{needs}
 use borrow.Author.Needs.{needs}
 use Rattle.arbitration.proofs.state.BusState.data_turn.Statement.{statement}
 use Rattle.arbitration.proofs.state.BusState.data_turn.Tie as tie
-use Rattle.arbitration.proofs.state.BusState.data_turn.Reads as reads
-use Rattle.arbitration.proofs.state.BusState.data_turn.Lts as lts
-use Rattle.arbitration.proofs.state.BusState.bit_turn.Reads as bit-turn-reads
-use Rattle.arbitration.proofs.state.BusState.every.Reads as every-reads
-use Rattle.arbitration.proofs.state.BusState.taken.Reads as taken-reads
 
 bit-turn-requires : tie.Need-bit-turn-requires
 bit-turn-requires c κs = search needs
@@ -23,7 +16,9 @@ every-requires c κs = search needs
 
 taken-requires : tie.Need-taken-requires
 taken-requires c κs =
-    let same = judged-byte (c .before .before .before .before .before .before .args .position) (c .before .before .before .bit-turn .ensures) (c .every .ensures) in
+    let same =
+    judged-byte (c .before .before .before .before .before .before .args .position)
+    (c .before .before .before .bit-turn .ensures) (c .every .ensures) in
     omega arith
 
 same-length : tie.Need-same-length
@@ -31,7 +26,9 @@ same-length c = search needs
 
 returns : tie.Need-returns
 unfolding dataTurn
-returns c = recorded-moved (recorded-moved (c .before .before .before .before .bit-turn .ensures) (c .before .every .ensures)) (c .taken .ensures)
+returns c =
+    recorded-moved (recorded-moved (c .before .before .before .before .bit-turn .ensures) (c .before .every .ensures))
+    (c .taken .ensures)
 
 pub data-turn-spec : {M : Type 1} → statement M
 data-turn-spec =

@@ -11,12 +11,11 @@ use Rattle.arbitration.proofs.Turns.{grown-byte, data-turns-more}
 use borrow.Author.Needs.{needs}
 use Rattle.arbitration.proofs.state.BusState.data_turns.Statement.{statement}
 use Rattle.arbitration.proofs.state.BusState.data_turns.Tie as tie
-use Rattle.arbitration.proofs.state.BusState.data_turns.Reads as reads
-use Rattle.arbitration.proofs.state.BusState.data_turns.Lts as lts
-use Rattle.arbitration.proofs.state.BusState.data_turn.Reads as data-turn-reads
 
 abbrev Inv-loop : tie.InvT-loop
-Inv-loop position levels₀ at state₀ i₀ levels state i = (i ≤ 8) × (state .byte < 2 ^ i) × (length levels ≡ length levels₀) × Recorded (dataTurns i position) state₀ state at (2 * i) levels₀ levels
+Inv-loop position levels₀ at state₀ i₀ levels state i =
+    (i ≤ 8) × (state .byte < 2 ^ i) × (length levels ≡ length levels₀) × Recorded (dataTurns i position) state₀ state at
+    (2 * i) levels₀ levels
 
 abbrev μ-loop : tie.MeasureT-loop
 μ-loop position levels₀ at state₀ i₀ levels state i = 8 - i

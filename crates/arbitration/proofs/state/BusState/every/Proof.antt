@@ -5,9 +5,6 @@ use borrow.Author.Needs.{needs}
 use borrow.Author.Needs.{needs}
 use Rattle.arbitration.proofs.state.BusState.every.Statement.{statement}
 use Rattle.arbitration.proofs.state.BusState.every.Tie as tie
-use Rattle.arbitration.proofs.state.BusState.every.Reads as reads
-use Rattle.arbitration.proofs.state.BusState.every.Lts as lts
-use Rattle.arbitration.proofs.masters.apply_all.Reads as apply-all-reads
 
 apply-all-requires : tie.Need-apply-all-requires
 apply-all-requires c κs = search needs

@@ -5,15 +5,10 @@ use Rattle.arbitration.proofs.Loading.{moved-loaded}
 use borrow.Author.Needs.{needs}
 use Rattle.arbitration.proofs.state.BusState.loaded.Statement.{statement}
 use Rattle.arbitration.proofs.state.BusState.loaded.Tie as tie
-use Rattle.arbitration.proofs.state.BusState.loaded.Reads as reads
-use Rattle.arbitration.proofs.state.BusState.loaded.Lts as lts
-use Rattle.arbitration.proofs.masters.load_all.Reads as load-all-reads
 
--- src/run.rt:64:13
 load-all-requires : tie.Need-load-all-requires
 load-all-requires c κs = search needs
 
--- src/run.rt:59:5
 returns : tie.Need-returns
 returns c =
     let a = c .before .before .args in

@@ -6,24 +6,16 @@ use Rattle.arbitration.proofs.Steps.{moved-moved, moved-byte}
 use borrow.Author.Needs.{needs}
 use Rattle.arbitration.proofs.state.BusState.opened.Statement.{statement}
 use Rattle.arbitration.proofs.state.BusState.opened.Tie as tie
-use Rattle.arbitration.proofs.state.BusState.opened.Reads as reads
-use Rattle.arbitration.proofs.state.BusState.opened.Lts as lts
-use Rattle.arbitration.proofs.state.BusState.loaded.Reads as loaded-reads
-use Rattle.arbitration.proofs.state.BusState.write.Reads as write-reads
 
--- src/run.rt:75:9
 loaded-requires : tie.Need-loaded-requires
 loaded-requires c κs = search needs
 
--- src/run.rt:75:9
 write-requires : tie.Need-write-requires
 write-requires c κs = search needs
 
--- src/run.rt:75:9
 write-requires-2 : tie.Need-write-requires-2
 write-requires-2 c κs = search needs
 
--- src/run.rt:71:5
 returns : tie.Need-returns
 unfolding busOf opened
 returns c =

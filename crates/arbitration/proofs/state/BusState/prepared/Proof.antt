@@ -1,6 +1,6 @@
 -- The masters enter; three registers are written.
 use Prim.Native.Nat.{ℕ}
-use mathlib.Core.Path.{_≡_, sym, ap, _∙_}
+use mathlib.Core.Path.{sym, ap, _∙_}
 use mathlib.Core.List.{[]}
 use lib.ListN.{drop}
 use Rattle.arbitration_rules.specs.Run.{prepared}
@@ -10,34 +10,27 @@ use Rattle.arbitration.proofs.Loading.{entered-front, entered-rest}
 use borrow.Author.Needs.{needs}
 use Rattle.arbitration.proofs.state.BusState.prepared.Statement.{statement}
 use Rattle.arbitration.proofs.state.BusState.prepared.Tie as tie
-use Rattle.arbitration.proofs.state.BusState.prepared.Reads as reads
-use Rattle.arbitration.proofs.state.BusState.prepared.Lts as lts
-use Rattle.arbitration.proofs.masters.entered.Reads as entered-reads
-use Rattle.arbitration.proofs.state.BusState.write.Reads as write-reads
 
--- src/run.rt:27:13
 entered-requires : tie.Need-entered-requires
 entered-requires c κs = search needs
 
--- src/run.rt:35:9
 write-requires : tie.Need-write-requires
 write-requires c κs = search needs
 
--- src/run.rt:35:9
 write-requires-2 : tie.Need-write-requires-2
 write-requires-2 c κs = search needs
 
--- src/run.rt:35:9
 write-requires-3 : tie.Need-write-requires-3
 write-requires-3 c κs = search needs
 
--- src/run.rt:23:5
 returns : tie.Need-returns
 unfolding busOf prepared
 returns c =
     let count = c .before .before .before .before .args .count in
     let entered = c .before .before .before .entered .ensures in
-    let three = moved-moved (moved-moved (c .before .before .write .ensures) (c .before .write2 .ensures)) (c .write3 .ensures) in
+    let three =
+    moved-moved (moved-moved (c .before .before .write .ensures) (c .before .write2 .ensures)) (c .write3 .ensures)
+    in
     record {
       bus = λ messages same. three .bus [] [] ∙ rw (entered, entered-front count messages same);
       same = three .count;

@@ -3,8 +3,6 @@ use mathlib.Core.Path.{refl}
 use Rattle.arbitration.specs.State.{busOf}
 use Rattle.arbitration.proofs.state.BusState.pulled.Statement.{statement}
 use Rattle.arbitration.proofs.state.BusState.pulled.Tie as tie
-use Rattle.arbitration.proofs.state.BusState.pulled.Reads as reads
-use Rattle.arbitration.proofs.state.BusState.pulled.Lts as lts
 
 returns : tie.Need-returns
 unfolding busOf

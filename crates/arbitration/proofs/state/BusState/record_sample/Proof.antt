@@ -1,13 +1,9 @@
 -- The level of a sample, stored at the index.
-use native.Mathlib.Omega.{arith}
 use Rattle.arbitration.proofs.Steps.{recorded-sample}
 use borrow.Author.Needs.{needs}
 use borrow.Author.Needs.{needs}
 use Rattle.arbitration.proofs.state.BusState.record_sample.Statement.{statement}
 use Rattle.arbitration.proofs.state.BusState.record_sample.Tie as tie
-use Rattle.arbitration.proofs.state.BusState.record_sample.Reads as reads
-use Rattle.arbitration.proofs.state.BusState.record_sample.Lts as lts
-use Rattle.arbitration.proofs.state.BusState.sample.Reads as sample-reads
 
 sample-requires : tie.Need-sample-requires
 sample-requires c κs = search needs

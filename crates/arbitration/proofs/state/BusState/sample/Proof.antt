@@ -4,10 +4,6 @@ use borrow.Author.Needs.{needs}
 use borrow.Author.Needs.{needs}
 use Rattle.arbitration.proofs.state.BusState.sample.Statement.{statement}
 use Rattle.arbitration.proofs.state.BusState.sample.Tie as tie
-use Rattle.arbitration.proofs.state.BusState.sample.Reads as reads
-use Rattle.arbitration.proofs.state.BusState.sample.Lts as lts
-use Rattle.arbitration.proofs.state.BusState.every.Reads as every-reads
-use Rattle.arbitration.proofs.state.BusState.wire.Reads as wire-reads
 
 wire-requires : tie.Need-wire-requires
 wire-requires c κs = search needs

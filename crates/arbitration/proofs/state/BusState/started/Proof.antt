@@ -5,55 +5,46 @@ use Rattle.arbitration.proofs.Steps.{moved-moved, recorded-moved, recor
 use borrow.Author.Needs.{needs}
 use Rattle.arbitration.proofs.state.BusState.started.Statement.{statement}
 use Rattle.arbitration.proofs.state.BusState.started.Tie as tie
-use Rattle.arbitration.proofs.state.BusState.started.Reads as reads
-use Rattle.arbitration.proofs.state.BusState.started.Lts as lts
-use Rattle.arbitration.proofs.state.BusState.record_sample.Reads as record-sample-reads
-use Rattle.arbitration.proofs.state.BusState.write.Reads as write-reads
 
--- src/run.rt:43:13
 record-sample-requires : tie.Need-record-sample-requires
 record-sample-requires c κs = search needs
 
--- src/run.rt:44:21
 write-requires : tie.Need-write-requires
 write-requires c κs = search needs
 
--- src/run.rt:44:21
 write-requires-2 : tie.Need-write-requires-2
 write-requires-2 c κs = search needs
 
--- src/run.rt:44:13
 write-requires-3 : tie.Need-write-requires-3
 write-requires-3 c κs = search needs
 
--- src/run.rt:45:9
 record-sample-requires-2 : tie.Need-record-sample-requires-2
 record-sample-requires-2 c κs = search needs
 
--- src/run.rt:45:9
 write-requires-4 : tie.Need-write-requires-4
 write-requires-4 c κs =
+    let ready = c .before .before .before .before in
     omega (
       arith,
       c .before .before .record-sample2 .ensures .count,
-      c .before .before .before .before .write3 .ensures .count,
-      c .before .before .before .before .before .write2 .ensures .count,
-      c .before .before .before .before .before .before .write .ensures .count,
-      c .before .before .before .before .before .before .before .before .before .record-sample .ensures .count,
-      c .before .before .before .before .before .before .before .before .before .before .before .before .pre .0,
+      ready .write3 .ensures .count,
+      ready .before .write2 .ensures .count,
+      ready .before .before .write .ensures .count,
+      ready .before .before .before .before .before .record-sample .ensures .count,
+      ready .before .before .before .before .before .before .before .before .pre .0,
     )
 
--- src/run.rt:39:5
 same-length : tie.Need-same-length
 same-length c = search needs
 
--- src/run.rt:39:5
 returns : tie.Need-returns
 unfolding started
 returns c =
-    let written = moved-moved (moved-moved (c .before .before .before .before .before .before .before .write .ensures) (c .before .before .before .before .before .before .write2 .ensures)) (c .before .before .before .before .before .write3 .ensures) in
-    let ready = recorded-moved (c .before .before .before .before .before .before .before .before .before .before .record-sample .ensures) written in
-    recorded-moved (recorded-recorded ready (c .before .before .before .record-sample2 .ensures)) (c .write4 .ensures)
+    let ready = c .before .before .before .before .before in
+    let first = ready .before .before .before .before .before .record-sample .ensures in
+    let two = moved-moved (ready .before .before .write .ensures) (ready .before .write2 .ensures) in
+    let written = recorded-moved first (moved-moved two (ready .write3 .ensures)) in
+    recorded-moved (recorded-recorded written (c .before .before .before .record-sample2 .ensures)) (c .write4 .ensures)
 
 pub started-spec : {M : Type 1} → statement M
 started-spec =

@@ -8,8 +8,6 @@ use borrow.Author.Needs.{needs}
 use borrow.Author.Needs.{needs}
 use Rattle.arbitration.proofs.state.BusState.taken.Statement.{statement}
 use Rattle.arbitration.proofs.state.BusState.taken.Tie as tie
-use Rattle.arbitration.proofs.state.BusState.taken.Reads as reads
-use Rattle.arbitration.proofs.state.BusState.taken.Lts as lts
 
 mul-self : tie.Need-mul-self
 mul-self c = search needs

@@ -5,10 +5,6 @@ use borrow.Author.Needs.{needs}
 use borrow.Author.Needs.{needs}
 use Rattle.arbitration.proofs.state.BusState.wire.Statement.{statement}
 use Rattle.arbitration.proofs.state.BusState.wire.Tie as tie
-use Rattle.arbitration.proofs.state.BusState.wire.Reads as reads
-use Rattle.arbitration.proofs.state.BusState.wire.Lts as lts
-use Rattle.arbitration.proofs.masters.pulls_of.Reads as pulls-of-reads
-use Rattle.arbitration.proofs.state.level_of.Reads as level-of-reads
 
 pulls-of-requires : tie.Need-pulls-of-requires
 pulls-of-requires c κs = search needs

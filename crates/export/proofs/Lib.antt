@@ -1,0 +1,2 @@
+pub mod HandedBack
+pub mod WrittenTable

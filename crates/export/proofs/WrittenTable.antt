@@ -1,0 +1,38 @@
+-- A table filled entry by entry: what holds of it as a loop goes on, by bus's law of lists written into a buffer.
+use mathlib.Core.Path.{_≡_, sym, ap, _∙_}
+use mathlib.Core.List.{List, [], _∷_, _++_, map}
+use Prim.Native.Nat.{ℕ, suc, _+_, _≤_, _<_}
+use native.Mathlib.Numerals.{add-one}
+use lib.ListN.{length, drop, set, getD, drop-of-length-le, List·getD-map}
+use lib.Seq.{drop-cons}
+use Rattle.usi.specs.declared.Usi.{Usi}
+use Rattle.bus.specs.Buffer.{filled}
+use Rattle.export.specs.Packed.{packed}
+use Rattle.bus.proofs.Writing.{Writing, writing-none, writing-long, writing-more, writing-done}
+
+-- the first count entries are written
+abbrev pub Written : List ℕ → List ℕ → List ℕ → ℕ → Type 0
+Written whole table₀ table count = Writing whole (drop count whole) table₀ table count
+
+pub written-none : (whole table : List ℕ) → Written whole table table 0
+written-none whole table = writing-none whole table
+
+module _ (whole table₀ table : List ℕ) (count : ℕ) (room : length whole ≤ length table₀) (written : Written whole table₀ table count) where
+  pub written-long : length table ≡ length table₀
+  written-long = writing-long whole (drop count whole) table₀ table count room written
+
+  pub written-more : (entry other : ℕ) → count < length whole → entry ≡ getD whole count other
+      → Written whole table₀ (set table count entry) (count + 1)
+  written-more entry other more e =
+      let next : drop (suc count) whole ≡ drop (count + 1) whole = ap (λ (n : ℕ). drop n whole) (sym (add-one count)) in
+      let first : getD whole count other ∷ drop (suc count) whole ≡ entry ∷ drop (count + 1) whole = rw (e, next) in
+      writing-more whole (drop count whole) table₀ table count room written (entry ∷ []) (drop (count + 1) whole)
+      (drop-cons whole count other more ∙ first)
+
+  pub written-done : length whole ≤ count → table ≡ filled whole table₀
+  written-done all = writing-done whole (drop count whole) table₀ table count room written (drop-of-length-le whole all)
+
+-- the number of the module at an index stands there in the list of numbers
+pub module-entry : (modules : List Usi) (index : ℕ) (other : Usi) (entry : ℕ) → entry ≡ packed (getD modules index other)
+    → entry ≡ getD (map packed modules) index (packed other)
+module-entry modules index other entry e = e ∙ sym (List·getD-map packed modules index other)
