@@ -12,7 +12,7 @@ use lib.ListN.{length}
 use borrow.Author.Tests.{eq-eqb, ne-eqb}
 use Rattle.bits.proofs.Masks.{on-bit}
 use Rattle.usi_rules.specs.Rules.{firstBit, shifted}
-use Rattle.bus.specs.Encode.{byteBits}
+use Rattle.bus_draw.specs.Encode.{byteBits}
 use Rattle.bus_theorems.proofs.Bits.{numberFrom, number-of-bits}
 
 -- the number that bits make

@@ -9,7 +9,7 @@ use mir.Val.{boolByte}
 use lib.ListN.{length, length-append}
 use Rattle.usi.specs.declared.Usi.{Usi}
 use Rattle.bus.specs.Levels.{sda}
-use Rattle.bus.specs.Encode.{drawBit, drawBits}
+use Rattle.bus_draw.specs.Encode.{drawBit, drawBits}
 use Rattle.bus_theorems.proofs.Bits.{numberFrom}
 use Rattle.arbitration_rules.specs.declared.Master.{Master}
 use Rattle.arbitration_rules.specs.declared.Operation.the-variants.{Judge}

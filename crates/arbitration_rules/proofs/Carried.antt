@@ -8,8 +8,8 @@ use mathlib.Core.List.{List, [], _∷_, _++_, append-assoc}
 use lib.Dec.{eqb}
 use borrow.Author.Tests.{lt-ltb}
 use lib.ListN.{length, take, length-append, length-take}
-use Rattle.bus.specs.Events.{stopEvent}
-use Rattle.bus.specs.Encode.{byteBits, drawEvent, drawEvents, drawing}
+use Rattle.bus_draw.specs.Events.{stopEvent}
+use Rattle.bus_draw.specs.Encode.{byteBits, drawEvent, drawEvents, drawing}
 use Rattle.arbitration_rules.specs.Outcome.{carriedCount, byteEvents, frame}
 use Rattle.arbitration_rules.specs.Reply.{levelCount}
 use Rattle.arbitration_rules.proofs.Lists.{Everyone, nobody, also}

@@ -8,7 +8,7 @@ use lib.Dec.{eqb, leb, lit<}
 use lib.ListN.{length}
 use lib.Seq.{getD-append-seam}
 use borrow.Author.Tests.{le-leb, lt-leb}
-use Rattle.bus.specs.Encode.{drawEvent}
+use Rattle.bus_draw.specs.Encode.{drawEvent}
 use Rattle.arbitration_rules.specs.declared.Master.{Master}
 use Rattle.arbitration_rules.specs.Outcome.{any, atMost}
 use Rattle.arbitration_rules.specs.Run.{Bus, byteTurn, through}

@@ -5,7 +5,7 @@ use mathlib.Core.Path.{_≡_, refl, ap, ap₂, sym, _∙_}
 use mathlib.Core.Bool.{true, false, not}
 use mathlib.Core.List.{List, [], _∷_, _++_, map, map-map}
 use lib.ListN.{length, take, drop, take-append-drop}
-use Rattle.bus.specs.Encode.{drawEvents, drawing}
+use Rattle.bus_draw.specs.Encode.{drawEvents, drawing}
 use Rattle.arbitration_rules.specs.declared.Master.{Master}
 use Rattle.arbitration_rules.specs.Outcome.{least, carriedCount, carriedOf, byteEvents, frame, outcome}
 use Rattle.arbitration_rules.specs.Run.{Bus, levelOf, bytesTurn, stopped, run, fateOf, observed}

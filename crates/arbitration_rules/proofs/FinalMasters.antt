@@ -9,7 +9,7 @@ use lib.Dec.{eqb}
 use lib.ListN.{length, getD}
 use Rattle.usi.specs.Module.{pullsScl, pullsSda}
 use Rattle.bits.specs.Positions.{isSet}
-use Rattle.bus.specs.Encode.{byteBits}
+use Rattle.bus_draw.specs.Encode.{byteBits}
 use Rattle.arbitration_rules.specs.declared.Master.{Master}
 use Rattle.arbitration_rules.specs.Outcome.{unequalBit, positionIn, lossFrom, carriedOf}
 use Rattle.arbitration_rules.specs.Run.{run}

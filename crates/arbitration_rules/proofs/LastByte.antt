@@ -9,7 +9,7 @@ use lib.Dec.{eqb, ltb}
 use lib.ListN.{length, length-append}
 use borrow.Author.Tests.{eq-eqb, eqb-true, le-ltb, lt-ltb}
 use Rattle.bits.specs.Positions.{isSet}
-use Rattle.bus.specs.Encode.{drawEvent}
+use Rattle.bus_draw.specs.Encode.{drawEvent}
 use Rattle.arbitration_rules.specs.declared.Master.{Master}
 use Rattle.arbitration_rules.specs.Outcome.{any, least, allAcknowledged, begins, positionIn, unsettled}
 use Rattle.arbitration_rules.specs.Run.{Bus, byteTurn, bytesTurn, prepared, started}

@@ -8,7 +8,7 @@ use mathlib.Core.Bool.{Bool, cond, true, false, _||_}
 use mathlib.Core.List.{List, [], _∷_, _++_, append-assoc, append-nil}
 use lib.Dec.{eqb}
 use lib.ListN.{length, take, length-append}
-use Rattle.bus.specs.Encode.{drawEvent, drawEvents}
+use Rattle.bus_draw.specs.Encode.{drawEvent, drawEvents}
 use Rattle.arbitration_rules.specs.Outcome.{carriedCount, byteEvents}
 use Rattle.arbitration_rules.specs.Run.{Bus, byteTurn, through, bytesTurn}
 use Rattle.arbitration_rules.proofs.Lists.{Everyone, also}

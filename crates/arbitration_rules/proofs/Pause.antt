@@ -10,7 +10,7 @@ use Rattle.usi_rules.specs.Rules as rules
 use Rattle.usi_rules.specs.Rules.{countFlags}
 use Rattle.usi.specs.declared.Usi.{Usi}
 use Rattle.usi.specs.Step.{followed, settled, writeByte}
-use Rattle.bus.specs.Encode.{byteBits}
+use Rattle.bus_draw.specs.Encode.{byteBits}
 use Rattle.arbitration_rules.specs.declared.Master.{Master}
 use Rattle.arbitration_rules.specs.Masters.{withUsi, written, withdrawn}
 use Rattle.arbitration_rules.specs.Run.{levelOf}

@@ -7,9 +7,9 @@ use mathlib.Core.List.{List, [], _∷_, _++_}
 use lib.Dec.{eqb}
 use lib.ListN.{length}
 use borrow.Author.Tests.{lt-ltb}
-use Rattle.bus.specs.declared.Position.the-variants.{Between, Opened, Within, Broken}
-use Rattle.bus.specs.Events.{repeatedStartEvent, stopEvent}
-use Rattle.bus.specs.Complete.{advance, completeFrom, complete}
+use Rattle.bus_draw.specs.declared.Position.the-variants.{Between, Opened, Within, Broken}
+use Rattle.bus_draw.specs.Events.{repeatedStartEvent, stopEvent}
+use Rattle.bus_draw.specs.Complete.{advance, completeFrom, complete}
 use Rattle.bus.specs.Decode.{events, final}
 use Rattle.bus_theorems.proofs.ReadBack.{events-back, frame-closed}
 use Rattle.arbitration_rules.specs.Outcome.{least, carriedCount, carriedOf, byteEvents, frame}

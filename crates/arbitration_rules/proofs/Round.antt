@@ -7,7 +7,7 @@ use mathlib.Core.List.{List, [], _∷_, _++_, map, map-map, append-assoc}
 use lib.Dec.{eqb}
 use lib.ListN.{getD}
 use Rattle.usi_rules.specs.Registers.{USICTL0, USICNT, USISRL}
-use Rattle.bus.specs.Encode.{byteBits, drawBit, drawBits}
+use Rattle.bus_draw.specs.Encode.{byteBits, drawBit, drawBits}
 use Rattle.arbitration_rules.specs.declared.Master.{Master}
 use Rattle.arbitration_rules.specs.Masters.{written, withdrawn}
 use Rattle.arbitration_rules.specs.Outcome.{any}

@@ -6,8 +6,8 @@ use mathlib.Core.List.{List, [], _∷_, _++_, map}
 use mathlib.Core.Option.{Option, none, some}
 use lib.Dec.{eqb, ltb}
 use lib.ListN.{take}
-use Rattle.bus.specs.Events.{startEvent, stopEvent}
-use Rattle.bus.specs.Encode.{byteBits, drawing}
+use Rattle.bus_draw.specs.Events.{startEvent, stopEvent}
+use Rattle.bus_draw.specs.Encode.{byteBits, drawing}
 
 -- What is known of one master at the end: whether it is still in, its position (01: place), and its AL.
 pub record Fate : Type 0 where

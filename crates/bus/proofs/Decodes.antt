@@ -6,7 +6,7 @@ use borrow.Author.Tests.{eq-eqb, ne-eqb, lt-ltb, le-ltb}
 use lib.ListN.{length}
 use Rattle.bus.specs.declared.Decoder.{Decoder}
 use Rattle.bus.specs.declared.Decoded.the-variants.{Events, Refused}
-use Rattle.bus.specs.Limits.{maxSamples}
+use Rattle.bus_draw.specs.Limits.{maxSamples}
 use Rattle.bus.specs.Decode.{events, final}
 use Rattle.bus.specs.DecodeReply.{badLevel, badStamp, decoded}
 

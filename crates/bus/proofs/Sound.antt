@@ -5,16 +5,12 @@ use Prim.Native.Nat.{ℕ, _≤_, _<_, _^_}
 use native.Mathlib.Nat.{pow-succ', pow-le-pow-right}
 use native.Mathlib.Numerals.{add-one}
 use native.Mathlib.Omega.{arith}
-use mir.Val.{boolByte}
 use borrow.Author.Tests.{eqb-false}
 use Rattle.bus.specs.declared.Decoder.{Decoder}
 use Rattle.bus.specs.Levels.{starts, stops}
 use Rattle.bus.specs.Decode.{idle, takes, bit, ninth, conditioned, withBit, next}
 use Rattle.bus.specs.Listing.{Sound}
-
-pub at-most-one : (b : Bool) → boolByte b ≤ 1
-at-most-one true = omega arith
-at-most-one false = omega arith
+use Rattle.bus_draw.proofs.BitValue.{at-most-one}
 
 -- fewer than eight bits leave room for one more in a byte
 pub below-128 : (decoder : Decoder) → decoder .pending < 8 → Sound decoder → decoder .value < 128

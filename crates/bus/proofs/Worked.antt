@@ -3,7 +3,7 @@ use mathlib.Core.Path.{_≡_, refl}
 use mathlib.Core.List.{[], _∷_}
 use Rattle.bus.specs.Levels.{starts, stops, falls}
 use Rattle.bus.specs.Decode.{events, takes, withBit, next, cut, lists}
-use Rattle.bus.specs.Encode.{drawing, byteBits, drawEvent, sampleCount}
+use Rattle.bus_draw.specs.Encode.{drawing, byteBits, drawEvent, sampleCount}
 
 -- P7: the list 512, A0h, 514 draws 23 levels
 pub p7 : drawing (512 ∷ 0xa0 ∷ 514 ∷ [])

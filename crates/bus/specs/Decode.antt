@@ -6,7 +6,7 @@ use mir.Val.{boolByte}
 use lib.Dec.{eqb}
 use Rattle.bus.specs.declared.Decoder.{Decoder}
 use Rattle.bus.specs.Levels.{scl, sda, starts, stops, falls}
-use Rattle.bus.specs.Events.{byteEvent, startEvent, repeatedStartEvent, stopEvent, partialEvent}
+use Rattle.bus_draw.specs.Events.{byteEvent, startEvent, repeatedStartEvent, stopEvent, partialEvent}
 
 -- before the first sample: no frame, no bits, and no line seen high, so that the first sample is only remembered
 abbrev pub idle : Decoder

@@ -7,8 +7,8 @@ use lib.Dec.{eqb, ltb}
 use lib.ListN.{length}
 use Rattle.bus.specs.declared.Decoded.{Decoded}
 use Rattle.bus.specs.declared.Decoded.the-variants.{Events, Refused}
-use Rattle.bus.specs.Limits.{maxSamples}
-use Rattle.bus.specs.Buffer.{filled}
+use Rattle.bus_draw.specs.Limits.{maxSamples}
+use Rattle.bus_draw.specs.Buffer.{filled}
 use Rattle.bus.specs.Decode.{events, final}
 
 -- the place of the first level above 3, or the length where there is none (refusal 4)

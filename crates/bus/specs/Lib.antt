@@ -1,11 +1,5 @@
--- What decode and encode mean, in document 01's order.
-pub mod Limits
-pub mod Buffer
+-- What decode means, in document 01's order.
 pub mod Levels
-pub mod Events
 pub mod Decode
 pub mod Listing
 pub mod DecodeReply
-pub mod Complete
-pub mod Encode
-pub mod EncodeReply

@@ -1,7 +1,7 @@
 // The decoder, stepped by one sample: a struct by value.
 ghost use mathlib.Core.Path.{_≡_};
 ghost use mathlib.Core.List.{[], _∷_, _++_};
-ghost use Rattle.bus.specs.Events.{byteEvent};
+ghost use Rattle.bus_draw.specs.Events.{byteEvent};
 ghost use Rattle.bus.specs.Decode as decode;
 ghost use Rattle.bus.specs.Listing.{Sound, listOf};
 use super::Decoder;

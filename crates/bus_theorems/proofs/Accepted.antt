@@ -8,13 +8,13 @@ use lib.Dec.{eqb, ltb}
 use lib.ListN.{length}
 use borrow.Author.Tests.{eqb-false, ltb-false, not-false}
 use Rattle.bus.specs.declared.Decoded.the-variants.{Events, Refused as Unread}
-use Rattle.bus.specs.declared.Encoded.the-variants.{Drawn, Refused}
-use Rattle.bus.specs.Limits.{maxSamples, maxGap, largestStamp}
+use Rattle.bus_draw.specs.declared.Encoded.the-variants.{Drawn, Refused}
+use Rattle.bus_draw.specs.Limits.{maxSamples, maxGap, largestStamp}
 use Rattle.bus.specs.Decode.{events}
 use Rattle.bus.specs.DecodeReply.{badLevel, badStamp, decoded}
-use Rattle.bus.specs.Complete.{complete}
-use Rattle.bus.specs.Encode.{sampleCount, lastStamp}
-use Rattle.bus.specs.EncodeReply.{encoded}
+use Rattle.bus_draw.specs.Complete.{complete}
+use Rattle.bus_draw.specs.Encode.{sampleCount, lastStamp}
+use Rattle.bus_draw.specs.EncodeReply.{encoded}
 
 -- the reply is not the refusal of this test, so the test was false and a later reply is meant
 passes : {Reply : Type 0} (test : Bool) (refusal rest reply : Reply) → (refusal ≡ reply → ⊥)

@@ -9,9 +9,9 @@ use mir.Val.{boolByte}
 use lib.Dec.{eqb}
 use lib.Arith.{mod-mul}
 use lib.Pow.{pow-pos}
-use Rattle.bus.specs.Events.{byteEvent}
+use Rattle.bus_draw.specs.Events.{byteEvent}
 use Rattle.bits.specs.Positions.{isSet}
-use Rattle.bus.specs.Encode.{bitsBelow, byteBits}
+use Rattle.bus_draw.specs.Encode.{bitsBelow, byteBits}
 
 -- the number that bits make, first bit highest, after a value
 abbrev pub numberFrom : ℕ → List Bool → ℕ

@@ -8,10 +8,11 @@ use lib.Dec.{eqb}
 use lib.ListN.{length, getD, length-append}
 use borrow.Author.Tests.{eqb-true}
 use Rattle.bus.specs.declared.Decoder.{Decoder}
-use Rattle.bus.specs.Events.{byteEvent, partialEvent, stopEvent}
+use Rattle.bus_draw.specs.Events.{byteEvent, partialEvent, stopEvent}
 use Rattle.bus.specs.Decode.{idle, bit, ninth, next, cut, startOf, lists, listed, events}
 use Rattle.bus.specs.Listing.{Sound}
-use Rattle.bus.proofs.Sound.{at-most-one, idle-sound, next-sound}
+use Rattle.bus_draw.proofs.BitValue.{at-most-one}
+use Rattle.bus.proofs.Sound.{idle-sound, next-sound}
 use Rattle.bus_theorems.proofs.Sample.{Sampled, started, stopped, ignored, bit-taken, byte-taken, remembered}
 use Rattle.bus_theorems.proofs.Sample.{sampled}
 

@@ -11,15 +11,15 @@ use lib.Dec.{eqb}
 use lib.ListN.{length, length-append}
 use borrow.Author.Tests.{eqb-true, lt-ltb}
 use Rattle.bus.specs.declared.Decoder.{Decoder}
-use Rattle.bus.specs.declared.Position.{Position}
-use Rattle.bus.specs.declared.Position.the-variants.{Between, Opened, Within, Broken}
+use Rattle.bus_draw.specs.declared.Position.{Position}
+use Rattle.bus_draw.specs.declared.Position.the-variants.{Between, Opened, Within, Broken}
 use Rattle.bus.specs.Levels.{scl}
-use Rattle.bus.specs.Events.{isByte, partialEvent, stopEvent}
+use Rattle.bus_draw.specs.Events.{isByte, partialEvent, stopEvent}
 use Rattle.bus.specs.Decode.{ninth, conditioned, seen, cut, startOf}
-use Rattle.bus.specs.Complete.{advance, completeFrom}
-use Rattle.bus.specs.Encode.{drawEvent, drawEvents}
+use Rattle.bus_draw.specs.Complete.{advance, completeFrom}
+use Rattle.bus_draw.specs.Encode.{drawEvent, drawEvents}
 use Rattle.bus.specs.Listing.{Sound}
-use Rattle.bus.proofs.Sound.{at-most-one}
+use Rattle.bus_draw.proofs.BitValue.{at-most-one}
 use Rattle.bus_theorems.proofs.Frames.{never}
 use Rattle.bus_theorems.proofs.Length.{byte-length}
 use Rattle.bus_theorems.proofs.Bounds.{byte-below-512}

@@ -5,10 +5,10 @@ use mathlib.Core.Bool.{Bool, true, false, cond, false≢true}
 use mathlib.Core.List.{List, [], _∷_}
 use lib.Dec.{eqb}
 use borrow.Author.Tests.{eqb-true}
-use Rattle.bus.specs.declared.Position.{Position}
-use Rattle.bus.specs.declared.Position.the-variants.{Between, Opened, Within, Broken}
-use Rattle.bus.specs.Events.{isByte, startEvent, repeatedStartEvent, stopEvent}
-use Rattle.bus.specs.Complete.{advance, completeFrom}
+use Rattle.bus_draw.specs.declared.Position.{Position}
+use Rattle.bus_draw.specs.declared.Position.the-variants.{Between, Opened, Within, Broken}
+use Rattle.bus_draw.specs.Events.{isByte, startEvent, repeatedStartEvent, stopEvent}
+use Rattle.bus_draw.specs.Complete.{advance, completeFrom}
 
 -- the lists that complete a list from a position
 pub data Completes : Position → List ℕ → Type 0 where

@@ -7,11 +7,11 @@ use mathlib.Core.Bool.{true}
 use mathlib.Core.List.{List, _∷_}
 use lib.ListN.{length, length-append}
 use borrow.Author.Tests.{ltb-true, ne-eqb}
-use Rattle.bus.specs.declared.Position.{Position}
-use Rattle.bus.specs.declared.Position.the-variants.{Between, Opened, Within, Broken}
-use Rattle.bus.specs.Events.{isByte}
-use Rattle.bus.specs.Complete.{complete}
-use Rattle.bus.specs.Encode.{byteBits, drawEvent, drawEvents, drawing, sampleCount}
+use Rattle.bus_draw.specs.declared.Position.{Position}
+use Rattle.bus_draw.specs.declared.Position.the-variants.{Between, Opened, Within, Broken}
+use Rattle.bus_draw.specs.Events.{isByte}
+use Rattle.bus_draw.specs.Complete.{complete}
+use Rattle.bus_draw.specs.Encode.{byteBits, drawEvent, drawEvents, drawing, sampleCount}
 use Rattle.bus_theorems.proofs.Frames.{Completes, ended, start, first, more, again, stop, completes}
 
 -- in a frame, the samples of the STOP that closes it

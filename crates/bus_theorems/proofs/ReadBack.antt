@@ -7,14 +7,14 @@ use mathlib.Core.Bool.{Bool, true, false}
 use mathlib.Core.List.{List, [], _∷_, _++_, append-nil}
 use borrow.Author.Tests.{ltb-true}
 use Rattle.bus.specs.declared.Decoder.{Decoder}
-use Rattle.bus.specs.declared.Position.{Position}
-use Rattle.bus.specs.declared.Position.the-variants.{Between, Opened, Within, Broken}
+use Rattle.bus_draw.specs.declared.Position.{Position}
+use Rattle.bus_draw.specs.declared.Position.the-variants.{Between, Opened, Within, Broken}
 use Rattle.bus.specs.Levels.{starts, stops, falls}
-use Rattle.bus.specs.Events.{isByte, byteEvent, startEvent, repeatedStartEvent, stopEvent}
+use Rattle.bus_draw.specs.Events.{isByte, byteEvent, startEvent, repeatedStartEvent, stopEvent}
 use Rattle.bus.specs.Decode.{idle, takes, withBit, next, cut, lists, events, final}
-use Rattle.bus.specs.Complete.{complete}
+use Rattle.bus_draw.specs.Complete.{complete}
 use Rattle.bits.specs.Positions.{isSet}
-use Rattle.bus.specs.Encode.{bitsBelow, byteBits, drawBit, drawEvent, drawEvents, drawing}
+use Rattle.bus_draw.specs.Encode.{bitsBelow, byteBits, drawBit, drawEvent, drawEvents, drawing}
 use Rattle.bus_theorems.proofs.Frames.{Completes, ended, start, first, more, again, stop, completes}
 use Rattle.bus_theorems.proofs.Bits.{numberFrom, event-of-bits}
 use Rattle.bus_theorems.proofs.Reading.{Reads, then-reads, between, opened, showing}

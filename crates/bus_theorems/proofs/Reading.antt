@@ -10,9 +10,9 @@ use lib.ListN.{length}
 use borrow.Author.Tests.{ne-eqb}
 use Rattle.bus.specs.declared.Decoder.{Decoder}
 use Rattle.bus.specs.Levels.{starts, stops, falls}
-use Rattle.bus.specs.Events.{byteEvent}
+use Rattle.bus_draw.specs.Events.{byteEvent}
 use Rattle.bus.specs.Decode.{takes, withBit, next, cut, lists, after, listed}
-use Rattle.bus.specs.Encode.{drawBit, drawBits}
+use Rattle.bus_draw.specs.Encode.{drawBit, drawBits}
 use Rattle.bus_theorems.proofs.Bits.{numberFrom}
 
 -- from one decoder to another these levels list these events

@@ -6,13 +6,13 @@ use mathlib.Core.Bool.{true, false}
 use mathlib.Core.List.{List, [], _∷_, _++_, append-assoc}
 use lib.ListN.{length, length-append}
 use Rattle.bus.specs.declared.Decoder.{Decoder}
-use Rattle.bus.specs.declared.Position.{Position}
-use Rattle.bus.specs.declared.Position.the-variants.{Between}
-use Rattle.bus.specs.Limits.{maxSamples}
+use Rattle.bus_draw.specs.declared.Position.{Position}
+use Rattle.bus_draw.specs.declared.Position.the-variants.{Between}
+use Rattle.bus_draw.specs.Limits.{maxSamples}
 use Rattle.bus.specs.Levels.{starts, stops, falls}
 use Rattle.bus.specs.Decode.{idle, takes, next, lists, listed, events}
-use Rattle.bus.specs.Complete.{completeFrom, complete}
-use Rattle.bus.specs.Encode.{drawEvent, drawEvents, sampleCount}
+use Rattle.bus_draw.specs.Complete.{completeFrom, complete}
+use Rattle.bus_draw.specs.Encode.{drawEvent, drawEvents, sampleCount}
 use Rattle.bus.specs.Listing.{Sound}
 use Rattle.bus.proofs.Sound.{idle-sound, next-sound}
 use Rattle.bus_theorems.proofs.Length.{drawing-length}

@@ -8,14 +8,14 @@ use lib.ListN.{length, take}
 use lib.Seq.{take-at}
 use borrow.Author.Tests.{eq-eqb, ne-eqb, le-ltb}
 use Rattle.bus.specs.declared.Decoded.the-variants.{Events}
-use Rattle.bus.specs.declared.Encoded.the-variants.{Drawn}
-use Rattle.bus.specs.Limits.{maxSamples, maxGap, largestStamp}
+use Rattle.bus_draw.specs.declared.Encoded.the-variants.{Drawn}
+use Rattle.bus_draw.specs.Limits.{maxSamples, maxGap, largestStamp}
 use Rattle.bus.specs.Decode.{events, final}
 use Rattle.bus.specs.DecodeReply.{badLevel, badStamp, decoded, eventsAfter}
-use Rattle.bus.specs.Complete.{complete}
-use Rattle.bus.specs.Encode.{drawing, sampleCount, stampsFrom, lastStamp}
-use Rattle.bus.specs.EncodeReply.{encoded, stampsAfter, levelsAfter}
-use Rattle.bus.proofs.Stamps.{length-stamps}
+use Rattle.bus_draw.specs.Complete.{complete}
+use Rattle.bus_draw.specs.Encode.{drawing, sampleCount, stampsFrom, lastStamp}
+use Rattle.bus_draw.specs.EncodeReply.{encoded, stampsAfter, levelsAfter}
+use Rattle.bus_draw.proofs.Stamps.{length-stamps}
 use Rattle.bus_theorems.proofs.Length.{drawing-length}
 use Rattle.bus_theorems.proofs.Trace.{no-bad-level, no-bad-stamp}
 use Rattle.bus_theorems.proofs.ReadBack.{events-back, frame-closed, none-pending, value-zero}

@@ -7,7 +7,7 @@ use borrow.Author.Tests.{not-true}
 use mir.Val.{boolByte}
 use Rattle.bus.specs.declared.Decoder.{Decoder}
 use Rattle.bus.specs.Levels.{scl, sda, starts, stops, falls}
-use Rattle.bus.specs.Events.{byteEvent, stopEvent}
+use Rattle.bus_draw.specs.Events.{byteEvent, stopEvent}
 use Rattle.bus.specs.Decode.{takes, bit, ninth, conditioned, withBit, seen, next, cut, startOf, lists}
 
 -- SCL falls in an open frame, and no START or STOP fell in its high phase

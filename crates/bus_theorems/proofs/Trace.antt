@@ -7,9 +7,9 @@ use mathlib.Core.List.{List, [], _∷_, _++_}
 use lib.Dec.{eqb, ltb}
 use lib.ListN.{length}
 use borrow.Author.Tests.{lt-ltb}
-use Rattle.bus.specs.Events.{isByte, startEvent, repeatedStartEvent, stopEvent}
+use Rattle.bus_draw.specs.Events.{isByte, startEvent, repeatedStartEvent, stopEvent}
 use Rattle.bus.specs.DecodeReply.{badLevel, badAfter, badStamp}
-use Rattle.bus.specs.Encode.{eventBits, drawBits, drawEvent, drawEvents, drawing, stampsFrom}
+use Rattle.bus_draw.specs.Encode.{eventBits, drawBits, drawEvent, drawEvents, drawing, stampsFrom}
 
 -- no level is above 3
 abbrev Legal : List ℕ → Type 0

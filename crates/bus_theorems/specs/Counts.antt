@@ -4,9 +4,9 @@ use mathlib.Core.Path.{_≡_}
 use mathlib.Core.Bool.{true}
 use mathlib.Core.List.{List}
 use lib.ListN.{length}
-use Rattle.bus.specs.Events.{isByte}
-use Rattle.bus.specs.Complete.{complete}
-use Rattle.bus.specs.Encode.{howMany, isStart, isRepeatedStart, drawing}
+use Rattle.bus_draw.specs.Events.{isByte}
+use Rattle.bus_draw.specs.Complete.{complete}
+use Rattle.bus_draw.specs.Encode.{howMany, isStart, isRepeatedStart, drawing}
 
 -- a complete list of so many frames, bytes and repeated STARTs
 pub record Counts (list : List ℕ) (frames bytes repeats : ℕ) : Type 0 where

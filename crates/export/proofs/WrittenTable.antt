@@ -6,9 +6,9 @@ use native.Mathlib.Numerals.{add-one}
 use lib.ListN.{length, drop, set, getD, drop-of-length-le, List·getD-map}
 use lib.Seq.{drop-cons}
 use Rattle.usi.specs.declared.Usi.{Usi}
-use Rattle.bus.specs.Buffer.{filled}
+use Rattle.bus_draw.specs.Buffer.{filled}
 use Rattle.export.specs.Packed.{packed}
-use Rattle.bus.proofs.Writing.{Writing, writing-none, writing-long, writing-more, writing-done}
+use Rattle.bus_draw.proofs.Writing.{Writing, writing-none, writing-long, writing-more, writing-done}
 
 -- the first count entries are written
 abbrev pub Written : List ℕ → List ℕ → List ℕ → ℕ → Type 0

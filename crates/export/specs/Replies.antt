@@ -3,8 +3,8 @@ use Prim.Native.Nat.{ℕ, _+_, _*_, _%_, _^_}
 use mir.Val.{boolByte}
 use Rattle.bus.specs.declared.Decoded.{Decoded}
 use Rattle.bus.specs.declared.Decoded.the-variants.{Events, Refused}
-use Rattle.bus.specs.declared.Encoded.{Encoded}
-use Rattle.bus.specs.declared.Encoded.the-variants.{Drawn, Refused as NotDrawn}
+use Rattle.bus_draw.specs.declared.Encoded.{Encoded}
+use Rattle.bus_draw.specs.declared.Encoded.the-variants.{Drawn, Refused as NotDrawn}
 
 -- a number of 16 bits (no place and no count passes 4,096)
 abbrev pub short : ℕ → ℕ

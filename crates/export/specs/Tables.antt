@@ -6,7 +6,7 @@ use mir.Val.{boolByte}
 use lib.Dec.{ltb}
 use lib.ListN.{length, getD}
 use Rattle.usi.specs.declared.Usi.{Usi}
-use Rattle.bus.specs.Buffer.{filled}
+use Rattle.bus_draw.specs.Buffer.{filled}
 use Rattle.arbitration_rules.specs.declared.Arbitrated.{Arbitrated}
 use Rattle.arbitration_rules.specs.Limits.{maxMasters}
 use Rattle.arbitration_rules.specs.Reply.{arbitrated, carriedAfter, levelsAfter}

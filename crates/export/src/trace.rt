@@ -3,7 +3,7 @@ ghost use mathlib.Core.Path.{_≡_};
 ghost use Prim.Native.Nat.{_<_};
 ghost use lib.ListN.{length};
 ghost use Rattle.bus.specs.DecodeReply.{decoded, eventsAfter};
-ghost use Rattle.bus.specs.EncodeReply.{encoded, stampsAfter, levelsAfter};
+ghost use Rattle.bus_draw.specs.EncodeReply.{encoded, stampsAfter, levelsAfter};
 ghost use Rattle.export.specs.Replies.{short as shortNumber, packedDecoded, packedEncoded};
 use bus::Decoded;
 use bus::Encoded;

@@ -1,6 +1,7 @@
 -- `with_bit` goes by whether the bit is the ninth; fewer than eight bits leave room in a byte.
 use native.Mathlib.Omega.{arith}
-use Rattle.bus.proofs.Sound.{at-most-one, below-128}
+use Rattle.bus_draw.proofs.BitValue.{at-most-one}
+use Rattle.bus.proofs.Sound.{below-128}
 use borrow.Author.Tests.{eq-eqb, ne-eqb}
 use Rattle.bus.specs.Decode.{withBit}
 use borrow.Author.Needs.{needs}

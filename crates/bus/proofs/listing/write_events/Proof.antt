@@ -5,7 +5,7 @@ use borrow.Author.Needs.{needs}
 use lib.ListN.{length, drop}
 use Rattle.bus.specs.Listing.{listOf}
 use Rattle.bus.specs.Decode.{listed, events}
-use Rattle.bus.proofs.Writing.{Writing, writing-none, writing-long, writing-room, writing-more, writing-done}
+use Rattle.bus_draw.proofs.Writing.{Writing, writing-none, writing-long, writing-room, writing-more, writing-done}
 use Rattle.bus.proofs.Passes.{Passed, passed-none, passed-more, passed-last, left-more, left-none}
 use Rattle.bus.proofs.listing.write_events.Statement.{statement}
 use Rattle.bus.proofs.listing.write_events.Tie as tie
