@@ -1,4 +1,4 @@
-// I2C bus traces: a trace of stamps and levels, and the events it holds; with the drawing of events as a trace.
+// I2C bus traces: a trace of stamps and levels, and the events it holds; encode, the way back, is crate bus_draw's.
 ghost use mathlib.Core.Path.{_≡_};
 ghost use lib.ListN.{length};
 ghost use Rattle.bus.specs.DecodeReply.{decoded, eventsAfter};

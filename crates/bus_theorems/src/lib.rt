@@ -1,4 +1,4 @@
-// What holds of decode and encode together: the theorems in proofs/ over crate bus's definitions.
+// What holds of decode and encode together: the theorems in proofs/ over the definitions of crates bus_draw and bus.
 ghost use Rattle.bus_theorems.specs.Counts.{Samples};
 
 // How many samples encode draws, and so how much room it needs, by the frames, bytes and repeated STARTs of a list.

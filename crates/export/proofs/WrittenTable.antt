@@ -1,4 +1,4 @@
--- A table filled entry by entry: what holds of it as a loop goes on, by bus's law of lists written into a buffer.
+-- A table filled entry by entry: what holds of it as a loop goes on, by bus_draw's law of lists written into a buffer.
 use mathlib.Core.Path.{_≡_, sym, ap, _∙_}
 use mathlib.Core.List.{List, [], _∷_, _++_, map}
 use Prim.Native.Nat.{ℕ, suc, _+_, _≤_, _<_}
