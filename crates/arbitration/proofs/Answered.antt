@@ -16,7 +16,7 @@ use Rattle.arbitration_rules.specs.Run.{Bus, fateOf, observed}
 use Rattle.arbitration.specs.declared.run.Ended.{Ended}
 use Rattle.arbitration.specs.Masters.{absent}
 use Rattle.arbitration.specs.State.{busOf, Ran}
-use Rattle.arbitration.specs.Refusals.{replyOf}
+use Rattle.arbitration.specs.Gathered.{replyOf}
 use Rattle.arbitration.specs.Shown.{fatesOf, shown}
 
 -- the first of a list and then the same element, mapped

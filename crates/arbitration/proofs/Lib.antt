@@ -1,9 +1,3 @@
-pub mod Search
-pub mod Lengths
-pub mod Cut
-pub mod Held
-pub mod Compared
-pub mod Least
 pub mod Mapped
 pub mod Steps
 pub mod Turns

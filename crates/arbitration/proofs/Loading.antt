@@ -15,10 +15,10 @@ use Rattle.arbitration_rules.specs.Masters.{entering, written}
 use Rattle.arbitration_rules.specs.Outcome.{any}
 use Rattle.arbitration_rules.specs.Run.{loaded, through}
 use Rattle.arbitration.specs.declared.state.BusState.{BusState}
-use Rattle.arbitration.specs.Rows.{rowOf}
+use Rattle.arbitration_messages.specs.Rows.{rowOf}
 use Rattle.arbitration.specs.Masters.{absent, enteredOf, loadedRows}
 use Rattle.arbitration.specs.State.{busOf, Moved}
-use Rattle.arbitration.proofs.Held.{padded-at}
+use Rattle.arbitration_messages.proofs.Held.{padded-at}
 
 module _ {A B C : Type 0} (f : A → B → C) where
   pub zip-length : (list : List A) (others : List B) → length list ≡ length others

@@ -11,7 +11,7 @@ use Rattle.arbitration_rules.specs.Run.{Bus, every, writes, bytesTurn, prepared
 use Rattle.arbitration.specs.declared.run.Ended.{Ended}
 use Rattle.arbitration.specs.declared.state.BusState.{BusState}
 use Rattle.arbitration.specs.Masters.{absent}
-use Rattle.arbitration.specs.Rows.{rowOf}
+use Rattle.arbitration_messages.specs.Rows.{rowOf}
 
 -- the bus that a state stands for, with the bytes carried and the levels recorded so far
 unfoldable pub busOf : BusState → List ℕ → List ℕ → Bus

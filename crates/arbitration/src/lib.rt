@@ -1,14 +1,13 @@
 // I2C arbitration: masters that start together on an idle bus, and who of them keeps it (01: the clash runner).
 ghost use mathlib.Core.Path.{_≡_};
+ghost use Prim.Native.Nat.{_≤_};
 ghost use lib.ListN.{length};
+ghost use Rattle.arbitration_rules.specs.Limits.{maxLength};
 ghost use Rattle.arbitration_rules.specs.Outcome.{outcome};
-ghost use Rattle.arbitration_rules.specs.Reply.{arbitrated, carriedAfter, levelsAfter, messagesOf};
+ghost use Rattle.arbitration_rules.specs.Reply.{arbitrated, carriedAfter, levelsAfter, messagesOf, shortBuffer};
 ghost use Rattle.arbitration.specs.Shown.{shown};
 
 mod masters;
-mod messages;
-mod order;
-mod refusals;
 mod reply;
 mod run;
 mod state;
@@ -16,6 +15,14 @@ mod state;
 pub use arbitration_rules::Arbitrated;
 pub use arbitration_rules::Master;
 pub use arbitration_rules::Operation;
+
+// A buffer is shorter than k bytes, or 5 + 18k levels (8).
+fn short_buffer(k: usize, carried_room: usize, level_room: usize) -> bool
+    requires { ⌜ k ≤ maxLength ⌝ }
+    ensures { λ r. ⌜ r ≡ shortBuffer k «carried_room» «level_room» ⌝ }
+{
+    (carried_room < k) | (level_room < 5 + 18 * k)
+}
 
 // Runs the arbitration of the messages that lie in bytes one after the other, each of its length, with an acknowledge
 // for each byte of the longest. The reply is that of 01's steps 1 to 4, or the first refusal that applies. The buffers
@@ -38,15 +45,14 @@ pub fn arbitrate(
         → shown (length (now (lengths .entry))) r (now (carried .exit)) (now (levels .exit))
         ≡ outcome (messagesOf (now (lengths .entry)) (now (bytes .entry))) (now (acks .entry))) ⌝ }
 {
-    let malformed = refusals::malformed(bytes, lengths);
-    if malformed.number != 0 {
-        return reply::refused(malformed.number, malformed.place);
+    let settled = arbitration_order::settle(bytes, lengths, acks);
+    if settled.refusal != 0 {
+        return reply::refused(settled.refusal, settled.place);
     }
-    let rows = messages::rows(bytes, lengths);
-    let objection = refusals::objection(rows, lengths, acks, carried.len(), levels.len());
-    if objection.number != 0 {
-        return reply::refused(objection.number, objection.place);
+    if short_buffer(settled.k, carried.len(), levels.len()) {
+        return reply::refused(8, 0);
     }
+    let rows = arbitration_messages::rows(bytes, lengths);
     let ended = run::run(rows, lengths, acks, carried, levels);
     let state = ended.state;
     let masters = state.masters;

@@ -3,7 +3,7 @@ ghost use mathlib.Core.Path.{_≡_};
 ghost use lib.ListN.{length};
 ghost use Rattle.arbitration_rules.specs.Limits.{maxMasters};
 ghost use Rattle.arbitration_rules.specs.Reply.{refused as refusedReply};
-ghost use Rattle.arbitration.specs.Refusals.{replyOf};
+ghost use Rattle.arbitration.specs.Gathered.{replyOf};
 use arbitration_rules::Arbitrated;
 use arbitration_rules::MAX_MASTERS;
 use arbitration_rules::Master;

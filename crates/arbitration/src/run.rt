@@ -6,7 +6,7 @@ ghost use lib.ListN.{length, take};
 ghost use Rattle.arbitration_rules.specs.Limits.{maxMasters, maxLength};
 ghost use Rattle.arbitration_rules.specs.Run.{started as startedStep, stopped as stoppedStep, loaded as loadedStep};
 ghost use Rattle.arbitration_rules.specs.Run.{opened as openedStep, byteTurn, run as runOf};
-ghost use Rattle.arbitration.specs.Rows.{Rowed, rowOf, messagesIn};
+ghost use Rattle.arbitration_messages.specs.Rows.{Rowed, rowOf, messagesIn};
 ghost use Rattle.arbitration.specs.State.{Moved, Recorded, Loaded, Prepared, Carried, Ran, released};
 ghost use Rattle.arbitration.specs.State.{levelsBefore, bytesFrom, Sent, Room};
 use crate::masters;

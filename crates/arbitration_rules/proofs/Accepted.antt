@@ -70,7 +70,7 @@ cut-sendable acknowledges (count ∷ counts) bytes good sum long small =
     (cut-sendable acknowledges counts (drop count bytes) (lengths .1) (omega (arith, length-drop count bytes))
     (omega arith) (left-over small count))
 
-cut-count : (lengths bytes : List ℕ) → length (messagesOf lengths bytes) ≡ length lengths
+pub cut-count : (lengths bytes : List ℕ) → length (messagesOf lengths bytes) ≡ length lengths
 cut-count [] bytes = refl
 cut-count (count ∷ counts) bytes = ap suc (cut-count counts (drop count bytes))
 

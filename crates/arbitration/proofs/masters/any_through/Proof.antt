@@ -4,7 +4,7 @@ use mathlib.Core.Path.{_∙_}
 use mathlib.Core.Bool.{false}
 use native.Mathlib.Omega.{arith}
 use lib.ListN.{length}
-use Rattle.arbitration.proofs.Search.{Passed, passed-start, passed-more, found-any, none-any}
+use Rattle.arbitration_messages.proofs.Search.{Passed, passed-start, passed-more, found-any, none-any}
 use Rattle.arbitration.proofs.Loading.{itself, throughs, throughs-length, throughs-at, throughs-any}
 use borrow.Author.Needs.{needs}
 use Rattle.arbitration.proofs.masters.any_through.Statement.{statement}

@@ -5,7 +5,7 @@ use mathlib.Core.List.{_++_, map}
 use native.Mathlib.Omega.{arith}
 use lib.ListN.{length, take, drop}
 use Rattle.arbitration_rules.specs.declared.Master.{Master}
-use Rattle.arbitration.specs.Refusals.{replyOf}
+use Rattle.arbitration.specs.Gathered.{replyOf}
 use Rattle.arbitration.proofs.Mapped.{gathered-more, gathered-all}
 use borrow.Author.Needs.{needs}
 use Rattle.arbitration.proofs.reply.answered.Statement.{statement}

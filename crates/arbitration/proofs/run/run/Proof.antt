@@ -3,8 +3,8 @@ use Prim.Native.Nat.{_+_, _*_, _≤_}
 use mathlib.Core.Path.{_∙_}
 use native.Mathlib.Omega.{arith}
 use lib.ListN.{length}
-use Rattle.arbitration.specs.Rows.{messagesIn}
-use Rattle.arbitration.proofs.Held.{in-length}
+use Rattle.arbitration_messages.specs.Rows.{messagesIn}
+use Rattle.arbitration_messages.proofs.Held.{in-length}
 use Rattle.arbitration.proofs.Ending.{room-started, room-sent, ran}
 use borrow.Author.Needs.{needs}
 use Rattle.arbitration.proofs.run.run.Statement.{statement}

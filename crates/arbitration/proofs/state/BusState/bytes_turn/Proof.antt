@@ -6,8 +6,8 @@ use native.Mathlib.Omega.{arith}
 use lib.Dec.{eqb}
 use lib.ListN.{length, getD, take}
 use Rattle.arbitration_rules.specs.Run.{through}
-use Rattle.arbitration.specs.Rows.{messagesIn}
-use Rattle.arbitration.proofs.Held.{in-lengths}
+use Rattle.arbitration_messages.specs.Rows.{messagesIn}
+use Rattle.arbitration_messages.proofs.Held.{in-lengths}
 use Rattle.arbitration.proofs.Sending.{Sending, sending-start, sending-next, sending-room, sending-levels}
 use Rattle.arbitration.proofs.Sending.{sending-more, sending-ended, sending-done}
 use borrow.Author.Needs.{needs}

@@ -1,0 +1,4 @@
+pub mod Compared
+pub mod Least
+pub mod Acknowledged
+pub mod Stopped

@@ -1,0 +1,127 @@
+-- The loop passes messages that the one at the index does not begin; it stops at the first that it begins.
+use Prim.Native.Nat.{_-_, _<_, _≤_}
+use mathlib.Core.Path.{sym, _∙_}
+use mathlib.Core.List.{[]}
+use native.Mathlib.Omega.{arith}
+use lib.ListN.{length, getD}
+use Rattle.arbitration_rules.specs.Outcome.{begins}
+use Rattle.arbitration_messages.specs.Rows.{messagesIn}
+use Rattle.arbitration_messages.proofs.Lengths.{good-at}
+use Rattle.arbitration_messages.proofs.Search.{Passed, passed-start, passed-more, found-any, none-any}
+use Rattle.arbitration_messages.proofs.Held.{in-length, in-at}
+use borrow.Author.Needs.{needs}
+use Rattle.arbitration_order.proofs.order.begins_any.Statement.{statement}
+use Rattle.arbitration_order.proofs.order.begins_any.Tie as tie
+
+abbrev Inv-loop : tie.InvT-loop
+Inv-loop lengths index rows count i₀ i =
+    (i ≤ length lengths) × Passed (begins (getD (messagesIn lengths rows) index [])) (messagesIn lengths rows) i
+
+abbrev μ-loop : tie.MeasureT-loop
+μ-loop lengths index rows count i₀ i = length lengths - i
+
+mul-count : tie.Need-mul-count Inv-loop μ-loop
+mul-count c = search needs
+
+shared-slice-read-count : tie.Need-shared-slice-read-count Inv-loop μ-loop
+shared-slice-read-count c = search needs
+
+cast-count : tie.Need-cast-count Inv-loop μ-loop
+cast-count c = omega (arith, c .shared-slice-known2 .given (c .before .before .args .index))
+
+loop-holds : tie.Need-loop-holds Inv-loop μ-loop
+loop-holds c = (search needs, passed-start _ _)
+
+mul-other-count : tie.Need-mul-other-count Inv-loop μ-loop
+mul-other-count c = search needs
+
+shared-slice-read-other-count : tie.Need-shared-slice-read-other-count Inv-loop μ-loop
+shared-slice-read-other-count c = search needs
+
+cast-other-count : tie.Need-cast-other-count Inv-loop μ-loop
+cast-other-count c = omega (arith, c .shared-slice-known3 .given (c .before .before .loop .i))
+
+mul-begins : tie.Need-mul-begins Inv-loop μ-loop
+mul-begins c = search needs
+
+array-copy-out-begins : tie.Need-array-copy-out-begins Inv-loop μ-loop
+array-copy-out-begins c = search needs
+
+mul-begins-2 : tie.Need-mul-begins-2 Inv-loop μ-loop
+mul-begins-2 c = search needs
+
+array-copy-out-begins-2 : tie.Need-array-copy-out-begins-2 Inv-loop μ-loop
+array-copy-out-begins-2 c = search needs
+
+begins-requires : tie.Need-begins-requires Inv-loop μ-loop
+begins-requires c κs =
+    let a = c .before .before .before .before .before .before .before in (
+      good-at (a .args .lengths .now) _ (a .pre .0 .fit) (a .pre .1) .1,
+      good-at (a .args .lengths .now) _
+          (a .pre .0 .fit) (c .before .before .before .loop-test .taken) .1,
+    )
+
+returns : tie.Need-returns Inv-loop μ-loop
+returns c =
+    let a = c .before .before .before .before .before .before .before .before .before in
+    let l = c .before .before .before .before .before .before .loop in
+    let list = a .args .lengths .now in
+    let rows = a .args .t1 in
+    let few : length list ≤ length rows = omega (arith, a .pre .0 .few) in
+    let less : l .i < length list = omega arith in
+    let inside : l .i < length (messagesIn list rows) = rw (in-length list rows few) less in
+    let own = in-at list rows (a .args .index) (a .pre .1) (omega arith) in
+    let other = in-at list rows (l .i) less (omega arith) in
+    found-any _ _ _ [] (l .inv .1) inside (rw (own, other) (sym (c .before .begins .ensures) ∙ c .if1 .taken))
+
+add-i : tie.Need-add-i Inv-loop μ-loop
+add-i c = search needs
+
+loop-less : tie.Need-loop-less Inv-loop μ-loop
+loop-less c = search needs
+
+loop-again : tie.Need-loop-again Inv-loop μ-loop
+loop-again c =
+    let a = c .before .before .before .before .before .before .before .before .before in
+    let l = c .before .before .before .before .before .before .loop in
+    let list = a .args .lengths .now in
+    let rows = a .args .t1 in
+    let few : length list ≤ length rows = omega (arith, a .pre .0 .few) in
+    let less : l .i < length list = omega arith in
+    let inside : l .i < length (messagesIn list rows) = rw (in-length list rows few) less in
+    let own = in-at list rows (a .args .index) (a .pre .1) (omega arith) in
+    let other = in-at list rows (l .i) less (omega arith) in (
+      search needs,
+      passed-more _ _ _ [] (l .inv .1) inside
+          (rw (own, other) (sym (c .before .begins .ensures) ∙ c .if1 .left)),
+    )
+
+returns-2 : tie.Need-returns-2 Inv-loop μ-loop
+returns-2 c =
+    let a = c .before .before .before .before in
+    let few : length (a .args .lengths .now) ≤ length (a .args .t1) = omega (arith, a .pre .0 .few) in
+    none-any _ _ _ (c .before .loop .inv .1) (rw (in-length _ _ few) (c .loop-test .left))
+
+pub begins-any-spec : {M : Type 1} → statement M
+begins-any-spec =
+    tie.close
+    (tie.spec
+    Inv-loop
+    μ-loop
+    mul-count
+    shared-slice-read-count
+    cast-count
+    loop-holds
+    mul-other-count
+    shared-slice-read-other-count
+    cast-other-count
+    mul-begins
+    array-copy-out-begins
+    mul-begins-2
+    array-copy-out-begins-2
+    begins-requires
+    returns
+    add-i
+    loop-less
+    loop-again
+    returns-2)
