@@ -1,10 +1,10 @@
 // The words of the command line after the command.
-use crate::numbers::is_number;
-use crate::numbers::least_number;
-use crate::numbers::value;
-use crate::output::Output;
-use crate::output::trouble;
 use check::same;
+use rig_lines::numbers::is_number;
+use rig_lines::numbers::least_number;
+use rig_lines::numbers::value;
+use rig_lines::output::Output;
+use rig_lines::output::trouble;
 
 pub(crate) struct Arguments {
     // which argument names the file; 0: none does

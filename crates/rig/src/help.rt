@@ -1,9 +1,9 @@
 // rig help: how to use it.
 use crate::arguments;
-use crate::output::say;
-use crate::output::trouble;
 use check::same;
 use libc::STDOUT_FILENO;
+use rig_lines::output::say;
+use rig_lines::output::trouble;
 
 // Help is written out whole.
 fn write(text: &[u8]) {

@@ -1,30 +1,13 @@
 // rig: rehearses loads of I2C boards, reads and draws bus traces, and steps a USI module.
 // The last line of output says how it went: `ok`, `refused` with a number, or `error`.
 mod arguments; // arguments.rt: the words of the command line
-mod boards; // boards.rt: who won and who lost
-mod clash; // clash.rt: loads rehearsed
-mod command; // command.rt: the commands of a session
-mod decode; // decode.rt: a trace and its events
-mod encode; // encode.rt: an event list drawn as a trace
-mod event; // event.rt: events in words
-mod files; // files.rt: files by name
 mod help; // help.rt: how to use it
-mod input; // input.rt: lines of input
-mod load; // load.rt: a load
-mod numbers; // numbers.rt: numbers that a text says
-mod outcome; // outcome.rt: how a rehearsal went
-mod output; // output.rt: lines of output
-mod parts; // parts.rt: how much of a slice to lend
-mod refusals; // refusals.rt: refusals in words
-mod session; // session.rt: a module driven by commands
-mod store; // store.rt: numbers kept in a lent slice
-mod trace; // trace.rt: a trace as lines
-mod waveform; // waveform.rt: the lines of the bus as text
 
 use arguments::Arguments;
 use check::same;
-use files::Opened;
-use input::Source;
+use rig_lines::files;
+use rig_lines::files::Opened;
+use rig_lines::input::Source;
 
 enum Task {
     Clash,
@@ -65,10 +48,10 @@ fn read_arguments(task: Task) -> Arguments {
 
 fn run_on(task: Task, given: Arguments, source: Source) {
     match task {
-        Task::Clash => clash::run(source, given.brief, given.room),
-        Task::Decode => decode::run(source, given.room),
-        Task::Encode => encode::run(source, given.room),
-        Task::Session => session::run(source),
+        Task::Clash => rig_clash::run(source, given.brief, given.room),
+        Task::Decode => rig_bus::decode::run(source, given.room),
+        Task::Encode => rig_bus::encode::run(source, given.room),
+        Task::Session => rig_session::run(source),
         _ => {}
     }
 }
