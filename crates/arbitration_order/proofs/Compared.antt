@@ -11,7 +11,6 @@ use lib.Dec.{ltb, leb·suc-suc}
 use lib.ListN.{length, getD, drop, drop-of-length-le}
 use lib.Seq.{drop-cons}
 use Rattle.arbitration_rules.specs.Outcome.{begins}
-use Rattle.arbitration_order.specs.declared.order.Compared.{Compared}
 use Rattle.arbitration_order.specs.Order.{comparedOf}
 
 or-end : (a : Bool) → a || false ≡ a

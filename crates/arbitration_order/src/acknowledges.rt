@@ -1,4 +1,4 @@
-// Acknowledges (01: answers): how many there must be, and the first that is not 0.
+// Acknowledges (01: answers): how many there must be, and the first byte that is not acknowledged.
 ghost use mathlib.Core.Path.{_≡_};
 ghost use Prim.Native.Nat.{_≤_};
 ghost use lib.Dec.{ltb};
