@@ -86,11 +86,6 @@ module _ (lengths : List ℕ) (rows : List (List ℕ)) (rowed : Rowed lengths ro
       ∙ ap (λ (list : List (List ℕ)). getD list i []) (rowed .same)
       ∙ map-at (messagesIn lengths rows) i inside
 
-  pub byte-at : (j : ℕ) → getD (getD rows i []) j 0 ≡ getD (getD (messagesIn lengths rows) i []) j 0
-  byte-at j =
-      let message = getD (messagesIn lengths rows) i [] in
-      ap (λ (row : List ℕ). getD row j 0) row-at ∙ padded-at message (maxLength - length message) j
-
   pub length-at : length (getD (messagesIn lengths rows) i []) ≡ getD lengths i 0
   length-at =
       let count = getD lengths i 0 in

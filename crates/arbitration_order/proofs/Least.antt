@@ -10,7 +10,8 @@ use borrow.Author.Tests.{eqb-true, eqb-false, ltb-false}
 use lib.Dec.{eqb, ltb}
 use lib.ListN.{length, getD, take, drop, drop-of-length-le}
 use lib.Seq.{drop-cons}
-use Rattle.arbitration_rules.specs.Outcome.{any, atMost, lesser, least, leastFrom, carriedCount, allAcknowledged}
+use Rattle.arbitration_rules.specs.Outcome.{any, atMost, lesser, least, leastFrom, begins, carriedCount}
+use Rattle.arbitration_rules.specs.Outcome.{allAcknowledged, unsettled}
 use Rattle.arbitration_messages.specs.Rows.{first}
 use Rattle.arbitration_order.specs.Order.{notAcknowledged}
 use Rattle.arbitration_messages.proofs.Lengths.{or-false}
@@ -39,10 +40,10 @@ module _ (messages : List (List ℕ)) (best i : ℕ) (running : Best messages be
     best-changed after = record { within = less; same = rw add-one (rw after at next) }
 
 -- the first byte of a message that is not acknowledged, else its length
-abbrev refusedAt : List ℕ → List ℕ → ℕ
+abbrev pub refusedAt : List ℕ → List ℕ → ℕ
 refusedAt message acknowledges = first notAcknowledged (take (length message) acknowledges)
 
-pub carried-refused : (message acknowledges : List ℕ) → refusedAt message acknowledges < length message
+carried-refused : (message acknowledges : List ℕ) → refusedAt message acknowledges < length message
     → length message ≤ length acknowledges → refusedAt message acknowledges + 1 ≡ carriedCount message acknowledges
 carried-refused [] acknowledges some enough = absurd (not-suc-le-zero some)
 carried-refused (byte ∷ bytes) [] some enough = absurd (not-suc-le-zero enough)
@@ -57,7 +58,7 @@ carried-refused (byte ∷ bytes) (acknowledge ∷ acknowledges) some enough =
     cases true some rest = refl
     cases false some rest = let same = rest (le-of-suc-le-suc some) in omega arith
 
-pub carried-whole : (message acknowledges : List ℕ) → length message ≤ refusedAt message acknowledges
+carried-whole : (message acknowledges : List ℕ) → length message ≤ refusedAt message acknowledges
     → length message ≤ length acknowledges → length message ≡ carriedCount message acknowledges
 carried-whole [] acknowledges all enough = refl
 carried-whole (byte ∷ bytes) [] all enough = absurd (not-suc-le-zero enough)
@@ -89,7 +90,7 @@ carried-within (byte ∷ bytes) (acknowledge ∷ acknowledges) =
 abbrev above : ℕ → Bool
 above acknowledge = ltb 1 acknowledge
 
-pub acknowledged-not : (message acknowledges : List ℕ) → any above acknowledges ≡ false
+acknowledged-not : (message acknowledges : List ℕ) → any above acknowledges ≡ false
     → refusedAt message acknowledges < length message → length message ≤ length acknowledges
     → allAcknowledged message acknowledges ≡ false
 acknowledged-not [] acknowledges bits some enough = absurd (not-suc-le-zero some)
@@ -106,7 +107,7 @@ acknowledged-not (byte ∷ bytes) (acknowledge ∷ acknowledges) bits some enoug
     cases true one some rest = rw (eqb-true acknowledge 1 one)
     cases false other some rest = rw (rest (le-of-suc-le-suc some)) (and-end (eqb acknowledge 0))
 
-pub acknowledged-all : (message acknowledges : List ℕ) → any above acknowledges ≡ false
+acknowledged-all : (message acknowledges : List ℕ) → any above acknowledges ≡ false
     → length message ≤ refusedAt message acknowledges → length message ≤ length acknowledges
     → allAcknowledged message acknowledges ≡ true
 acknowledged-all [] acknowledges bits all enough = refl
@@ -127,3 +128,24 @@ acknowledged-all (byte ∷ bytes) (acknowledge ∷ acknowledges) bits all enough
         let none = eqb-false acknowledge 1 other in
         let zero-is : acknowledge ≡ 0 = omega arith in
         rw (zero-is, rest (le-of-suc-le-suc all))
+
+-- what the acknowledges make of the least message: it is cut short, or sent whole
+module _ (messages : List (List ℕ)) (acknowledges : List ℕ) (bits : any above acknowledges ≡ false)
+    (enough : length (least messages) ≤ length acknowledges) where
+  pub cut-short : refusedAt (least messages) acknowledges < length (least messages)
+      → (unsettled messages acknowledges ≡ false)
+      × (refusedAt (least messages) acknowledges + 1 ≡ carriedCount (least messages) acknowledges)
+  unfolding unsettled
+  cut-short some = (
+    rw (acknowledged-not (least messages) acknowledges bits some enough),
+    carried-refused (least messages) acknowledges some enough,
+  )
+
+  pub sent-whole : length (least messages) ≤ refusedAt (least messages) acknowledges
+      → (unsettled messages acknowledges ≡ any (begins (least messages)) messages)
+      × (length (least messages) ≡ carriedCount (least messages) acknowledges)
+  unfolding unsettled
+  sent-whole all = (
+    rw (acknowledged-all (least messages) acknowledges bits all enough),
+    carried-whole (least messages) acknowledges all enough,
+  )

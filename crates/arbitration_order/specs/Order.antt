@@ -1,17 +1,16 @@
--- Two messages compared: how many bytes they have in common from the first on.
-use Prim.Native.Nat.{ℕ, suc, _<_}
+-- Two messages compared, and the least of several.
+use Prim.Native.Nat.{ℕ, _<_}
 use mathlib.Core.Path.{_≡_}
-use mathlib.Core.Bool.{Bool, cond}
-use mathlib.Core.List.{List, [], _∷_}
+use mathlib.Core.Bool.{Bool}
+use mathlib.Core.List.{List, []}
 use lib.Dec.{eqb}
 use lib.ListN.{length, getD}
-use Rattle.arbitration_rules.specs.Outcome.{least}
+use Rattle.arbitration_rules.specs.Outcome.{atMost, begins, least}
 use Rattle.arbitration_messages.specs.Rows.{messagesIn}
+use Rattle.arbitration_order.specs.declared.order.Compared.{Compared}
 
-abbrev pub common : List ℕ → List ℕ → ℕ
-common [] others = 0
-common (byte ∷ bytes) [] = 0
-common (byte ∷ bytes) (other ∷ others) = cond (eqb byte other) (suc (common bytes others)) 0
+abbrev pub comparedOf : List ℕ → List ℕ → Compared
+comparedOf message other = record { precedes = atMost message other; begins = begins message other }
 
 -- a byte that is not acknowledged (answer 1)
 abbrev pub notAcknowledged : ℕ → Bool

@@ -10,10 +10,13 @@ use Rattle.arbitration_order.specs.declared.Settled.{Settled}
 abbrev pub stopped : ℕ → ℕ → Settled
 stopped number place = record { refusal = number; place = place; k = 0 }
 
+abbrev pub settledAt : ℕ → Settled
+settledAt k = record { refusal = 0; place = 0; k = k }
+
 -- 15 and 16 by whether each applies, and k
 abbrev pub secondOf : (acknowledges torn : Bool) (k : ℕ) → Settled
 secondOf acknowledges torn k =
-    cond acknowledges (stopped 15 0) (cond torn (stopped 16 0) (record { refusal = 0; place = 0; k = k }))
+    cond acknowledges (stopped 15 0) (cond torn (stopped 16 0) (settledAt k))
 
 -- 12, 13 and 14 by whether each applies, with the places of 13 and 14, before them
 abbrev pub decided : (count sizes read acknowledges torn : Bool) (badPlace readPlace k : ℕ) → Settled

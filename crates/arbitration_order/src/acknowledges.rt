@@ -1,16 +1,15 @@
-// Acknowledges (01: answers): whether they fit the messages, and what they leave of the least one.
+// Acknowledges (01: answers): how many there must be, and the first byte that is not acknowledged.
 ghost use mathlib.Core.Path.{_≡_};
-ghost use mathlib.Core.List.{List};
-ghost use Prim.Native.Nat.{ℕ, _≤_};
+ghost use Prim.Native.Nat.{_≤_};
 ghost use lib.Dec.{ltb};
 ghost use lib.ListN.{length, take};
-ghost use Rattle.arbitration_rules.specs.Outcome.{any, carriedCount};
-ghost use Rattle.arbitration_rules.specs.Reply.{longest as longestOf, badAcknowledges};
+ghost use Rattle.arbitration_rules.specs.Outcome.{any};
+ghost use Rattle.arbitration_rules.specs.Reply.{longest as longestOf};
 ghost use Rattle.arbitration_messages.specs.Rows.{first};
 ghost use Rattle.arbitration_order.specs.Order.{notAcknowledged};
 
 // The greatest of the lengths.
-fn longest(lengths: &[u32]) -> usize
+pub(crate) fn longest(lengths: &[u32]) -> usize
     ensures { λ r. ⌜ r ≡ longestOf (now (lengths .entry)) ⌝ }
 {
     let mut most: usize = 0;
@@ -26,7 +25,7 @@ fn longest(lengths: &[u32]) -> usize
 }
 
 // Some acknowledge is above 1.
-fn any_above_one(acks: &[u8]) -> bool
+pub(crate) fn any_above_one(acks: &[u8]) -> bool
     ensures { λ r. ⌜ r ≡ any (λ acknowledge. ltb 1 acknowledge) (now (acks .entry)) ⌝ }
 {
     let mut i: usize = 0;
@@ -37,13 +36,6 @@ fn any_above_one(acks: &[u8]) -> bool
         i += 1;
     }
     false
-}
-
-// The number of acknowledges is wrong, or one is above 1 (15).
-pub(crate) fn bad_acknowledges(lengths: &[u32], acks: &[u8]) -> bool
-    ensures { λ r. ⌜ r ≡ badAcknowledges (now (lengths .entry)) (now (acks .entry)) ⌝ }
-{
-    (acks.len() != longest(lengths)) | any_above_one(acks)
 }
 
 // The first of so many bytes that is not acknowledged, else their number.
@@ -59,16 +51,4 @@ pub(crate) fn first_refused(count: usize, acks: &[u8]) -> usize
         i += 1;
     }
     i
-}
-
-// k: how many bytes are carried of a least message of so many bytes.
-pub(crate) fn carried_count(count: usize, acks: &[u8]) -> usize
-    requires { ⌜ count ≤ length (now acks) ⌝ }
-    ensures { λ r. ⌜ ((message : List ℕ) → length message ≡ count → r ≡ carriedCount message (now (acks .entry))) ⌝ }
-{
-    let refused = first_refused(count, acks);
-    if refused < count {
-        return refused + 1;
-    }
-    count
 }

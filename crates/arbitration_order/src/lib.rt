@@ -1,6 +1,6 @@
 // What messages and acknowledges decide before a run: whether it is refused, and how many bytes it carries.
 ghost use mathlib.Core.Path.{_≡_};
-ghost use Rattle.arbitration_order.specs.Settle.{settled};
+ghost use Rattle.arbitration_order.specs.Settle.{stopped, settledAt, settled};
 
 mod acknowledges;
 mod order;
@@ -13,38 +13,46 @@ pub struct Settled {
     pub k: usize,
 }
 
+fn refused(number: u8, place: usize) -> Settled
+    ensures { λ r. ⌜ r ≡ stopped number place ⌝ }
+{
+    Settled {
+        refusal: number,
+        place,
+        k: 0,
+    }
+}
+
+fn carrying(k: usize) -> Settled
+    ensures { λ r. ⌜ r ≡ settledAt k ⌝ }
+{
+    Settled {
+        refusal: 0,
+        place: 0,
+        k,
+    }
+}
+
 // The first of 12, 13, 14, 15 and 16 that applies, else k.
 pub fn settle(bytes: &[u8], lengths: &[u32], acks: &[u8]) -> Settled
     ensures { λ r. ⌜ r ≡ settled (now (bytes .entry)) (now (lengths .entry)) (now (acks .entry)) ⌝ }
 {
     let malformed = arbitration_messages::first_refusal(bytes, lengths);
     if malformed.number != 0 {
-        return Settled {
-            refusal: malformed.number,
-            place: malformed.place,
-            k: 0,
-        };
+        return refused(malformed.number, malformed.place);
     }
-    if acknowledges::bad_acknowledges(lengths, acks) {
-        return Settled {
-            refusal: 15,
-            place: 0,
-            k: 0,
-        };
+    if (acks.len() != acknowledges::longest(lengths)) | acknowledges::any_above_one(acks) {
+        return refused(15, 0);
     }
     let rows = arbitration_messages::rows(bytes, lengths);
     let least = order::least(rows, lengths);
-    if order::unsettled(rows, lengths, least, acks) {
-        return Settled {
-            refusal: 16,
-            place: 0,
-            k: 0,
-        };
+    let count = lengths[least] as usize;
+    let end = acknowledges::first_refused(count, acks);
+    if end < count {
+        return carrying(end + 1);
     }
-    let k = acknowledges::carried_count(lengths[least] as usize, acks);
-    Settled {
-        refusal: 0,
-        place: 0,
-        k,
+    if order::begins_any(rows, lengths, least) {
+        return refused(16, 0);
     }
+    carrying(count)
 }

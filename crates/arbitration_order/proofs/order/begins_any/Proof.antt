@@ -1,6 +1,6 @@
 -- The loop passes messages that the one at the index does not begin; it stops at the first that it begins.
 use Prim.Native.Nat.{_-_, _<_, _≤_}
-use mathlib.Core.Path.{sym, _∙_}
+use mathlib.Core.Path.{sym, ap, _∙_}
 use mathlib.Core.List.{[]}
 use native.Mathlib.Omega.{arith}
 use lib.ListN.{length, getD}
@@ -9,6 +9,7 @@ use Rattle.arbitration_messages.specs.Rows.{messagesIn}
 use Rattle.arbitration_messages.proofs.Lengths.{good-at}
 use Rattle.arbitration_messages.proofs.Search.{Passed, passed-start, passed-more, found-any, none-any}
 use Rattle.arbitration_messages.proofs.Held.{in-length, in-at}
+use Rattle.arbitration_order.specs.declared.order.Compared.{Compared}
 use borrow.Author.Needs.{needs}
 use Rattle.arbitration_order.proofs.order.begins_any.Statement.{statement}
 use Rattle.arbitration_order.proofs.order.begins_any.Tie as tie
@@ -41,20 +42,20 @@ shared-slice-read-other-count c = search needs
 cast-other-count : tie.Need-cast-other-count Inv-loop μ-loop
 cast-other-count c = omega (arith, c .shared-slice-known3 .given (c .before .before .loop .i))
 
-mul-begins : tie.Need-mul-begins Inv-loop μ-loop
-mul-begins c = search needs
+mul-compare : tie.Need-mul-compare Inv-loop μ-loop
+mul-compare c = search needs
 
-array-copy-out-begins : tie.Need-array-copy-out-begins Inv-loop μ-loop
-array-copy-out-begins c = search needs
+array-copy-out-compare : tie.Need-array-copy-out-compare Inv-loop μ-loop
+array-copy-out-compare c = search needs
 
-mul-begins-2 : tie.Need-mul-begins-2 Inv-loop μ-loop
-mul-begins-2 c = search needs
+mul-compare-2 : tie.Need-mul-compare-2 Inv-loop μ-loop
+mul-compare-2 c = search needs
 
-array-copy-out-begins-2 : tie.Need-array-copy-out-begins-2 Inv-loop μ-loop
-array-copy-out-begins-2 c = search needs
+array-copy-out-compare-2 : tie.Need-array-copy-out-compare-2 Inv-loop μ-loop
+array-copy-out-compare-2 c = search needs
 
-begins-requires : tie.Need-begins-requires Inv-loop μ-loop
-begins-requires c κs =
+compare-requires : tie.Need-compare-requires Inv-loop μ-loop
+compare-requires c κs =
     let a = c .before .before .before .before .before .before .before in (
       good-at (a .args .lengths .now) _ (a .pre .0 .fit) (a .pre .1) .1,
       good-at (a .args .lengths .now) _
@@ -72,7 +73,7 @@ returns c =
     let inside : l .i < length (messagesIn list rows) = rw (in-length list rows few) less in
     let own = in-at list rows (a .args .index) (a .pre .1) (omega arith) in
     let other = in-at list rows (l .i) less (omega arith) in
-    found-any _ _ _ [] (l .inv .1) inside (rw (own, other) (sym (c .before .begins .ensures) ∙ c .if1 .taken))
+    found-any _ _ _ [] (l .inv .1) inside (rw (own, other) (sym (ap (λ (r : Compared). r .begins) (c .before .compare .ensures)) ∙ c .if1 .taken))
 
 add-i : tie.Need-add-i Inv-loop μ-loop
 add-i c = search needs
@@ -93,7 +94,7 @@ loop-again c =
     let other = in-at list rows (l .i) less (omega arith) in (
       search needs,
       passed-more _ _ _ [] (l .inv .1) inside
-          (rw (own, other) (sym (c .before .begins .ensures) ∙ c .if1 .left)),
+          (rw (own, other) (sym (ap (λ (r : Compared). r .begins) (c .before .compare .ensures)) ∙ c .if1 .left)),
     )
 
 returns-2 : tie.Need-returns-2 Inv-loop μ-loop
@@ -115,11 +116,11 @@ begins-any-spec =
     mul-other-count
     shared-slice-read-other-count
     cast-other-count
-    mul-begins
-    array-copy-out-begins
-    mul-begins-2
-    array-copy-out-begins-2
-    begins-requires
+    mul-compare
+    array-copy-out-compare
+    mul-compare-2
+    array-copy-out-compare-2
+    compare-requires
     returns
     add-i
     loop-less

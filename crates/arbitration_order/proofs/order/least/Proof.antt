@@ -1,6 +1,6 @@
 -- The loop's invariant: the best so far is the least of the messages passed.
 use Prim.Native.Nat.{_-_, _<_, _≤_}
-use mathlib.Core.Path.{sym, _∙_}
+use mathlib.Core.Path.{sym, ap, _∙_}
 use mathlib.Core.Logic.{⊎-elim}
 use native.Mathlib.Omega.{arith}
 use borrow.Author.Tests.{not-true, not-false}
@@ -8,6 +8,7 @@ use lib.ListN.{length}
 use Rattle.arbitration_messages.specs.Rows.{messagesIn}
 use Rattle.arbitration_messages.proofs.Lengths.{good-at}
 use Rattle.arbitration_messages.proofs.Held.{in-length, in-at}
+use Rattle.arbitration_order.specs.declared.order.Compared.{Compared}
 use Rattle.arbitration_order.proofs.Least.{Best, best-start, best-kept, best-changed, best-done}
 use borrow.Author.Needs.{needs}
 use Rattle.arbitration_order.proofs.order.least.Statement.{statement}
@@ -43,20 +44,20 @@ shared-slice-read-other-count c = search needs
 cast-other-count : tie.Need-cast-other-count Inv-loop μ-loop
 cast-other-count c = omega (arith, c .shared-slice-known3 .given (c .before .before .before .loop .i))
 
-mul-at-most : tie.Need-mul-at-most Inv-loop μ-loop
-mul-at-most c = search needs
+mul-compare : tie.Need-mul-compare Inv-loop μ-loop
+mul-compare c = search needs
 
-array-copy-out-at-most : tie.Need-array-copy-out-at-most Inv-loop μ-loop
-array-copy-out-at-most c = search needs
+array-copy-out-compare : tie.Need-array-copy-out-compare Inv-loop μ-loop
+array-copy-out-compare c = search needs
 
-mul-at-most-2 : tie.Need-mul-at-most-2 Inv-loop μ-loop
-mul-at-most-2 c = search needs
+mul-compare-2 : tie.Need-mul-compare-2 Inv-loop μ-loop
+mul-compare-2 c = search needs
 
-array-copy-out-at-most-2 : tie.Need-array-copy-out-at-most-2 Inv-loop μ-loop
-array-copy-out-at-most-2 c = search needs
+array-copy-out-compare-2 : tie.Need-array-copy-out-compare-2 Inv-loop μ-loop
+array-copy-out-compare-2 c = search needs
 
-at-most-requires : tie.Need-at-most-requires Inv-loop μ-loop
-at-most-requires c κs =
+compare-requires : tie.Need-compare-requires Inv-loop μ-loop
+compare-requires c κs =
     let a = c .before .before .before .before .before .before .before in
     let l = c .before .before .before .before .before .loop in (
       good-at (a .args .lengths .now) _ (a .pre .0 .fit) (l .inv .0) .1,
@@ -72,8 +73,8 @@ loop-less c = search needs
 
 loop-again : tie.Need-loop-again Inv-loop μ-loop
 loop-again c =
-    let a = c .before .before .before .before .before .before .before .before .before in
-    let l = c .before .before .before .before .before .before .before .loop in
+    let a = c .before .before .before .before .before .before .before .before .before .before in
+    let l = c .before .before .before .before .before .before .before .before .loop in
     let list = a .args .lengths .now in
     let rows = a .args .t1 in
     let few : length list ≤ length rows = omega (arith, a .pre .0 .few) in
@@ -81,7 +82,7 @@ loop-again c =
     let inside : l .i < length (messagesIn list rows) = rw (in-length list rows few) less in
     let own = in-at list rows (l .best) (l .inv .0) (omega arith) in
     let other = in-at list rows (l .i) less (omega arith) in
-    let is = c .before .at-most .ensures in
+    let is = ap (λ (r : Compared). r .precedes) (c .before .before .compare .ensures) in
     ⊎-elim
     (λ w.
     rw (w .1)
@@ -114,11 +115,11 @@ least-spec =
     mul-other-count
     shared-slice-read-other-count
     cast-other-count
-    mul-at-most
-    array-copy-out-at-most
-    mul-at-most-2
-    array-copy-out-at-most-2
-    at-most-requires
+    mul-compare
+    array-copy-out-compare
+    mul-compare-2
+    array-copy-out-compare-2
+    compare-requires
     add-i
     loop-less
     loop-again

@@ -7,8 +7,8 @@ use lib.Seq.{length-take-le, getD-take}
 use Rattle.arbitration_order.proofs.Compared.{Shared, shared-start, shared-more, shared-differ, shared-end}
 use Rattle.arbitration_order.proofs.Compared.{shared-other-end}
 use borrow.Author.Needs.{needs}
-use Rattle.arbitration_order.proofs.order.common.Statement.{statement}
-use Rattle.arbitration_order.proofs.order.common.Tie as tie
+use Rattle.arbitration_order.proofs.order.compare.Statement.{statement}
+use Rattle.arbitration_order.proofs.order.compare.Tie as tie
 
 abbrev Inv-loop : tie.InvT-loop
 Inv-loop count other-count message other i₀ i = Shared (take count message) (take other-count other) i
@@ -26,11 +26,11 @@ returns c =
     let others : length (take (a .other-count) (a .t3)) ≡ a .other-count = length-take-le _ _ (omega arith) in
     shared-other-end _ _ _ (c .before .before .loop .inv) (rw own (omega arith)) (rw others (omega arith))
 
-array-read-if2 : tie.Need-array-read-if2 Inv-loop μ-loop
-array-read-if2 c = search needs
+array-read-byte : tie.Need-array-read-byte Inv-loop μ-loop
+array-read-byte c = search needs
 
-array-read-if2-2 : tie.Need-array-read-if2-2 Inv-loop μ-loop
-array-read-if2-2 c = search needs
+array-read-another : tie.Need-array-read-another Inv-loop μ-loop
+array-read-another c = search needs
 
 returns-2 : tie.Need-returns-2 Inv-loop μ-loop
 returns-2 c =
@@ -39,9 +39,10 @@ returns-2 c =
     let own : length (take (a .count) (a .t1)) ≡ a .count = length-take-le _ _ (omega arith) in
     let others : length (take (a .other-count) (a .t3)) ≡ a .other-count = length-take-le _ _ (omega arith) in
     let less : l .i < a .other-count = omega (arith, l .inv .within-other) in
-    shared-differ _ _ _ (l .inv) (rw own (omega arith)) (rw others less)
-    (rw (getD-take (a .count) (a .t1) (l .i) 0 (omega arith), getD-take (a .other-count) (a .t3) (l .i) 0 less)
-    (c .if2 .taken))
+    let byte = getD-take (a .count) (a .t1) (l .i) 0 (omega arith) in
+    let another = getD-take (a .other-count) (a .t3) (l .i) 0 less in
+    rw (byte, another) at
+    (shared-differ _ _ _ (l .inv) (rw own (omega arith)) (rw others less) (rw (byte, another) (c .if2 .taken)))
 
 add-i : tie.Need-add-i Inv-loop μ-loop
 add-i c = search needs
@@ -63,19 +64,22 @@ loop-again c =
 returns-3 : tie.Need-returns-3 Inv-loop μ-loop
 returns-3 c =
     let a = c .before .before .args in
+    let l = c .before .loop in
     let own : length (take (a .count) (a .t1)) ≡ a .count = length-take-le _ _ (omega arith) in
-    shared-end _ _ _ (c .before .loop .inv) (rw own (omega arith))
+    let others : length (take (a .other-count) (a .t3)) ≡ a .other-count = length-take-le _ _ (omega arith) in
+    let end : l .i ≡ a .count = omega (arith, l .inv .within) in
+    rw (others, end) at (shared-end _ _ _ (l .inv) (rw own (omega arith)))
 
-pub common-spec : {M : Type 1} → statement M
-common-spec =
+pub compare-spec : {M : Type 1} → statement M
+compare-spec =
     tie.close
     (tie.spec
     Inv-loop
     μ-loop
     loop-holds
     returns
-    array-read-if2
-    array-read-if2-2
+    array-read-byte
+    array-read-another
     returns-2
     add-i
     loop-less
