@@ -1,6 +1,7 @@
 // rig help: how to use it.
 use crate::arguments;
-use check::same;
+use crate::task::Task;
+use crate::task::named;
 use libc::STDOUT_FILENO;
 use rig_lines::output::say;
 use rig_lines::output::trouble;
@@ -85,24 +86,16 @@ example: printf 'write USICNT 08\\nread USICTL1\\n' | ./rig session
     );
 }
 
-fn topic(word: &[u8]) -> bool {
-    if same(word, b"clash") {
-        clash();
-        return true;
+// Help on a command; answers whether there is such a command.
+fn topic(task: Task) -> bool {
+    match task {
+        Task::Clash => clash(),
+        Task::Decode => decode(),
+        Task::Encode => encode(),
+        Task::Session => session(),
+        _ => return false,
     }
-    if same(word, b"decode") {
-        decode();
-        return true;
-    }
-    if same(word, b"encode") {
-        encode();
-        return true;
-    }
-    if same(word, b"session") {
-        session();
-        return true;
-    }
-    false
+    true
 }
 
 // Help on the command that an argument names.
@@ -113,7 +106,7 @@ fn show(argument: usize) -> bool {
     }
     let mut space = io::buffer();
     let n = os::arg(argument, &mut space);
-    topic(&space[..n])
+    topic(named(&space[..n]))
 }
 
 pub(crate) fn run() {

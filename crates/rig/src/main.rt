@@ -2,40 +2,13 @@
 // The last line of output says how it went: `ok`, `refused` with a number, or `error`.
 mod arguments; // arguments.rt: the words of the command line
 mod help; // help.rt: how to use it
+mod task; // task.rt: the commands by name
 
 use arguments::Arguments;
-use check::same;
 use rig_lines::files;
 use rig_lines::files::Opened;
 use rig_lines::input::Source;
-
-enum Task {
-    Clash,
-    Decode,
-    Encode,
-    Session,
-    Help,
-    Unknown,
-}
-
-fn named(word: &[u8]) -> Task {
-    if same(word, b"clash") {
-        return Task::Clash;
-    }
-    if same(word, b"decode") {
-        return Task::Decode;
-    }
-    if same(word, b"encode") {
-        return Task::Encode;
-    }
-    if same(word, b"session") {
-        return Task::Session;
-    }
-    if same(word, b"help") {
-        return Task::Help;
-    }
-    Task::Unknown
-}
+use task::Task;
 
 fn read_arguments(task: Task) -> Arguments {
     match task {
@@ -49,8 +22,8 @@ fn read_arguments(task: Task) -> Arguments {
 fn run_on(task: Task, given: Arguments, source: Source) {
     match task {
         Task::Clash => rig_clash::run(source, given.brief, given.room),
-        Task::Decode => rig_bus::decode::run(source, given.room),
-        Task::Encode => rig_bus::encode::run(source, given.room),
+        Task::Decode => rig_decode::run(source, given.room),
+        Task::Encode => rig_encode::run(source, given.room),
         Task::Session => rig_session::run(source),
         _ => {}
     }
@@ -70,7 +43,7 @@ fn run(task: Task) {
 fn main() {
     let mut space = io::buffer();
     let n = os::arg(1, &mut space);
-    let task = named(&space[..n]);
+    let task = task::named(&space[..n]);
     match task {
         Task::Unknown => help::unknown(),
         Task::Help => help::run(),

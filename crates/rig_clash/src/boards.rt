@@ -67,9 +67,7 @@ pub(crate) fn show_losers(
 fn loser(out: Output, board: usize, position: u16, lost: bool, first: bool) -> Output {
     if lost {
         return out.between(first)
-            .number(board as u64)
-            .words(b" at ")
-            .number(position as u64);
+            .form(b"# at #", &[board as u64, position as u64]);
     }
     out
 }

@@ -9,7 +9,7 @@ use rig_lines::input::Line;
 use rig_lines::input::Source;
 use rig_lines::numbers::more;
 use rig_lines::output;
-use rig_lines::output::Output;
+use rig_lines::output::done;
 use rig_lines::output::trouble;
 use rig_lines::parts;
 use rig_lines::refusals;
@@ -185,10 +185,7 @@ impl Rehearsal {
         if self.refusals > 0 {
             return refusals::count(self.number, self.refusals, self.loads, b" loads", self.line);
         }
-        Output::new()
-            .words(b"ok ")
-            .count(self.loads, b"load")
-            .print();
+        done(self.loads, b"load");
     }
 }
 

@@ -1,8 +1,7 @@
 // A load: what each board sends, and the acknowledges.
 use crate::boards;
-use rig_lines::numbers::Byte;
 use rig_lines::numbers::hex_byte;
-use text::Number;
+use rig_lines::numbers::value;
 use text::after_word;
 use text::first_word;
 
@@ -16,6 +15,8 @@ pub(crate) const BOARDS: usize = boards::BOARDS + 1;
 pub(crate) const BYTES: usize = 512;
 
 pub(crate) const ACKS: usize = 64;
+
+const LARGEST_BYTE: u64 = 255;
 
 // A length from which on it is not counted; the library refuses it.
 const LONG: u32 = 4096;
@@ -104,10 +105,11 @@ impl Load {
     }
 
     fn with_byte_word(self, word: &[u8]) -> Load {
-        match hex_byte(word) {
-            Byte::Value(b) => self.with_byte(b),
-            Byte::Malformed => self.with_malformed(),
+        let byte = value(hex_byte(word));
+        if byte > LARGEST_BYTE {
+            return self.with_malformed();
         }
+        self.with_byte(byte as u8)
     }
 
     fn with_bytes(self, line: &[u8]) -> Load {
@@ -146,16 +148,11 @@ impl Load {
     }
 
     fn with_ack_word(self, word: &[u8]) -> Load {
-        match text::decimal(word) {
-            Number::Value(v) => {
-                if v > 255 {
-                    return self.with_malformed();
-                }
-                self.with_ack(v as u8)
-            }
-            Number::TooLarge => self.with_malformed(),
-            Number::Bad => self.with_malformed(),
+        let ack = value(text::decimal(word));
+        if ack > LARGEST_BYTE {
+            return self.with_malformed();
         }
+        self.with_ack(ack as u8)
     }
 
     // `ack A A ..`

@@ -26,8 +26,7 @@ fn header(load: Load) -> Output {
     Output::new()
         .words(b"load ")
         .words(&name[..length])
-        .words(b", line ")
-        .number(load.line)
+        .form(b", line #", &[load.line])
 }
 
 fn acknowledge(out: Output, ack: u8) -> Output {

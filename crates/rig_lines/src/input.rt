@@ -1,9 +1,16 @@
 // Lines of a file or of standard input, however many, read piece by piece.
+ghost use mathlib.Core.Path.{_≡_};
+ghost use Prim.Native.Nat.{min, _≤_};
+ghost use lib.ListN.{length, take};
+ghost use Rattle.rig_lines.specs.Bytes.{plain, every};
+ghost use Rattle.rig_lines.specs.Input.{begun, nextNumber, afterRead as readAfter, Refilled, NextByte};
+ghost use Rattle.rig_lines.specs.Input.{judgedLine, judgedLast, Took, commentAt, contentOf};
 use crate::files;
 use crate::numbers::more;
 use crate::output::fault;
 use crate::output::is_control;
 use crate::parts;
+use text::put_byte;
 
 // The longest line, and room for it with one byte more, which shows that a line is longer.
 pub const LONGEST: usize = 4096;
@@ -26,9 +33,9 @@ pub struct Source {
     pub end: usize,
     // the number of the line taken last
     pub line: u64,
-    // the input has ended or failed; errno where it failed, else 0
+    // the input has ended or failed; the error's number where it failed, else 0
     pub done: bool,
-    pub errno: i32,
+    pub errno: u64,
 }
 
 // What taking a line finds: its length, or why there is none.
@@ -50,7 +57,9 @@ enum Next {
     End(Source),
 }
 
-pub fn begin(fd: i32, argument: usize) -> Source {
+pub fn begin(fd: i32, argument: usize) -> Source
+    ensures { λ r. ⌜ r ≡ begun fd argument ⌝ }
+{
     Source {
         fd,
         argument,
@@ -62,8 +71,23 @@ pub fn begin(fd: i32, argument: usize) -> Source {
     }
 }
 
+// A source with a new piece of n bytes; none ends the input.
+fn after_read(mut from: Source, n: usize, errno: u64) -> Source
+    ensures { λ r. ⌜ r ≡ readAfter n errno from ⌝ }
+{
+    from.at = 0;
+    from.end = n;
+    if n == 0 {
+        from.done = true;
+        from.errno = errno;
+    }
+    from
+}
+
 // Reads once, where the last piece is used up and the input has not ended.
-fn refilled(piece: &mut [u8], mut from: Source) -> Source {
+fn refilled(piece: &mut [u8], from: Source) -> Source
+    ensures { λ r. ⌜ Refilled (now (piece .entry)) from (now (piece .exit)) r ⌝ }
+{
     if from.at < from.end {
         return from;
     }
@@ -71,17 +95,13 @@ fn refilled(piece: &mut [u8], mut from: Source) -> Source {
         return from;
     }
     let got = libc::read(from.fd, piece);
-    let errno = os::errno();
-    from.at = 0;
-    from.end = io::count(got, piece);
-    from.done = got <= 0;
-    if got < 0 {
-        from.errno = errno;
-    }
-    from
+    let errno = files::error_number(got < 0);
+    after_read(from, io::count(got, piece), errno)
 }
 
-fn next_byte(piece: &mut [u8], from: Source) -> Next {
+fn next_byte(piece: &mut [u8], from: Source) -> Next
+    ensures { λ r. ⌜ NextByte (now (piece .entry)) from (now (piece .exit)) r ⌝ }
+{
     let mut after = refilled(piece, from);
     let at = after.at;
     if at < after.end {
@@ -93,20 +113,18 @@ fn next_byte(piece: &mut [u8], from: Source) -> Next {
     Next::End(after)
 }
 
-// The line with one byte more, as far as there is room.
-fn kept(line: &mut [u8], n: usize, b: u8) -> usize {
-    if n < line.len() {
-        line[n] = b;
-        return n + 1;
-    }
-    n
+fn is_plain(b: u8) -> bool
+    ensures { λ r. ⌜ r ≡ plain b ⌝ }
+{
+    !(is_control(b) & (b != TAB) & (b != RETURN))
 }
 
-fn is_text(line: &[u8]) -> bool {
+fn is_text(line: &[u8]) -> bool
+    ensures { λ r. ⌜ r ≡ every plain (now (line .entry)) ⌝ }
+{
     let mut i = 0;
     while i < line.len() {
-        let b = line[i];
-        if is_control(b) & (b != TAB) & (b != RETURN) {
+        if !is_plain(line[i]) {
             return false;
         }
         i += 1;
@@ -115,19 +133,22 @@ fn is_text(line: &[u8]) -> bool {
 }
 
 // What a line of n bytes is.
-fn judged(line: &[u8], n: usize) -> Line {
+fn judged(line: &[u8], n: usize) -> Line
+    ensures { λ r. ⌜ r ≡ judgedLine (now (line .entry)) n ⌝ }
+{
     if n >= line.len() {
         return Line::TooLong;
     }
-    let part = parts::bytes(n, line);
-    if !is_text(&line[..part]) {
+    if !is_text(&line[..n]) {
         return Line::NoText;
     }
     Line::Text(n)
 }
 
 // What the end of the input leaves: a last line without a newline, or none.
-fn judged_last(line: &[u8], n: usize, errno: i32) -> Line {
+fn judged_last(line: &[u8], n: usize, errno: u64) -> Line
+    ensures { λ r. ⌜ r ≡ judgedLast errno (now (line .entry)) n ⌝ }
+{
     if errno != 0 {
         return Line::Failed;
     }
@@ -137,14 +158,18 @@ fn judged_last(line: &[u8], n: usize, errno: i32) -> Line {
     judged(line, n)
 }
 
-fn counted(mut from: Source) -> Source {
+fn counted(mut from: Source) -> Source
+    ensures { λ r. ⌜ r ≡ nextNumber from ⌝ }
+{
     from.line = more(from.line);
     from
 }
 
 // Takes the next line whole, also one that is too long.
 // Nothing says that a line ends, so turns are counted down from a number that no line uses up.
-pub fn next_line(piece: &mut [u8], line: &mut [u8], from: Source) -> Taken {
+pub fn next_line(piece: &mut [u8], line: &mut [u8], from: Source) -> Taken
+    ensures { λ r. ⌜ Took (now (piece .entry)) (now (line .entry)) from (now (piece .exit)) (now (line .exit)) r ⌝ }
+{
     let mut from = counted(from);
     let mut n: usize = 0;
     let mut turns = u64::MAX;
@@ -165,7 +190,7 @@ pub fn next_line(piece: &mut [u8], line: &mut [u8], from: Source) -> Taken {
                         source: after,
                     };
                 }
-                n = kept(line, n, b);
+                n = put_byte(line, n, b);
                 from = after;
             }
         }
@@ -189,7 +214,10 @@ pub fn complain(found: Line, from: Source) {
 }
 
 // Where a comment begins, or the length of a line that has none.
-fn comment_at(line: &[u8]) -> usize {
+fn comment_at(line: &[u8]) -> usize
+    ensures { λ r. ⌜ r ≡ commentAt (now (line .entry)) ⌝ }
+    ensures { λ r. ⌜ r ≤ length (now (line .entry)) ⌝ }
+{
     let mut i = 0;
     while i < line.len() {
         if line[i] == b'#' {
@@ -201,9 +229,11 @@ fn comment_at(line: &[u8]) -> usize {
 }
 
 // The first n bytes of a line, up to a comment.
-pub fn content(line: &[u8], n: usize) -> &[u8] {
+pub fn content(line: &[u8], n: usize) -> &[u8]
+    ensures { λ r. ⌜ now r ≡ contentOf (take n (now (line .entry))) ⌝ }
+{
     let part = parts::bytes(n, line);
     let whole = &line[..part];
-    let end = parts::bytes(comment_at(whole), whole);
+    let end = comment_at(whole);
     &whole[..end]
 }

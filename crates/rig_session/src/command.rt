@@ -1,6 +1,6 @@
 // The commands of a session: a name, and numbers in hexadecimal.
 use check::same;
-use text::Number;
+use rig_lines::numbers::value;
 use text::after_word;
 use text::first_word;
 use usi::Usi;
@@ -18,21 +18,27 @@ pub(crate) enum Command {
     Help,
     Unknown,
     // a known name with the wrong words after it
-    Malformed(Form),
+    Malformed(usize),
 }
 
-// What was expected.
-pub(crate) enum Form {
-    Power,
-    Read,
-    Write,
-    ReadWord,
-    WriteWord,
-    Sample,
-    Tick,
-    Lines,
-    Help,
-}
+// What was expected, by its place in a list.
+const POWER: usize = 0;
+
+const READ: usize = 1;
+
+const WRITE: usize = 2;
+
+const READ_WORD: usize = 3;
+
+const WRITE_WORD: usize = 4;
+
+const SAMPLE: usize = 5;
+
+const TICK: usize = 6;
+
+const LINES: usize = 7;
+
+const HELP: usize = 8;
 
 const BYTE: u64 = 0xff;
 
@@ -40,11 +46,7 @@ const WORD: u64 = 0xffff;
 
 // The number that a word says, and one above every limit where it says none.
 fn number(word: &[u8]) -> u64 {
-    match text::hex(word) {
-        Number::Value(v) => v,
-        Number::TooLarge => u64::MAX,
-        Number::Bad => u64::MAX,
-    }
+    value(text::hex(word))
 }
 
 fn upper(b: u8) -> u8 {
@@ -100,81 +102,87 @@ fn power(rest: &[u8]) -> Command {
         return Command::Power(0, 0);
     }
     let low = number(first_word(rest));
-    let more = after_word(rest);
-    let high = number(first_word(more));
-    if first_word(after_word(more)).len() > 0 {
-        return Command::Malformed(Form::Power);
-    }
+    let high = second(rest);
     if low <= BYTE {
         if high <= BYTE {
             return Command::Power(low as u8, high as u8);
         }
     }
-    Command::Malformed(Form::Power)
+    Command::Malformed(POWER)
+}
+
+// Whether a word stands alone.
+fn is_last(words: &[u8]) -> bool {
+    first_word(after_word(words)).len() == 0
+}
+
+// The address that stands alone, and one above every limit where none does.
+fn lone_address(rest: &[u8]) -> u64 {
+    if is_last(rest) {
+        return address(first_word(rest));
+    }
+    u64::MAX
 }
 
 fn read(rest: &[u8]) -> Command {
-    let at = address(first_word(rest));
-    if first_word(after_word(rest)).len() == 0 {
-        if at <= WORD {
-            return Command::Read(at as u16);
-        }
+    let at = lone_address(rest);
+    if at <= WORD {
+        return Command::Read(at as u16);
     }
-    Command::Malformed(Form::Read)
+    Command::Malformed(READ)
 }
 
 fn read_word(rest: &[u8]) -> Command {
-    let at = address(first_word(rest));
-    if first_word(after_word(rest)).len() == 0 {
-        if at <= WORD {
-            return Command::ReadWord(at as u16);
-        }
+    let at = lone_address(rest);
+    if at <= WORD {
+        return Command::ReadWord(at as u16);
     }
-    Command::Malformed(Form::ReadWord)
+    Command::Malformed(READ_WORD)
+}
+
+// The last of two words as a number, and one above every limit where more words follow.
+fn second(rest: &[u8]) -> u64 {
+    let more = after_word(rest);
+    if is_last(more) {
+        return number(first_word(more));
+    }
+    u64::MAX
 }
 
 fn write(rest: &[u8]) -> Command {
     let at = address(first_word(rest));
-    let more = after_word(rest);
-    let value = number(first_word(more));
-    if first_word(after_word(more)).len() > 0 {
-        return Command::Malformed(Form::Write);
-    }
+    let value = second(rest);
     if at <= WORD {
         if value <= BYTE {
             return Command::Write(at as u16, value as u8);
         }
     }
-    Command::Malformed(Form::Write)
+    Command::Malformed(WRITE)
 }
 
 fn write_word(rest: &[u8]) -> Command {
     let at = address(first_word(rest));
-    let more = after_word(rest);
-    let value = number(first_word(more));
-    if first_word(after_word(more)).len() > 0 {
-        return Command::Malformed(Form::WriteWord);
-    }
+    let value = second(rest);
     if at <= WORD {
         if value <= WORD {
             return Command::WriteWord(at as u16, value as u16);
         }
     }
-    Command::Malformed(Form::WriteWord)
+    Command::Malformed(WRITE_WORD)
 }
 
 fn sample(rest: &[u8]) -> Command {
     let level = number(first_word(rest));
-    if first_word(after_word(rest)).len() == 0 {
+    if is_last(rest) {
         if level <= BYTE {
             return Command::Sample(level as u8);
         }
     }
-    Command::Malformed(Form::Sample)
+    Command::Malformed(SAMPLE)
 }
 
 // A command that stands alone.
-fn alone(rest: &[u8], command: Command, form: Form) -> Command {
+fn alone(rest: &[u8], command: Command, form: usize) -> Command {
     if first_word(rest).len() > 0 {
         return Command::Malformed(form);
     }
@@ -184,13 +192,13 @@ fn alone(rest: &[u8], command: Command, form: Form) -> Command {
 // A command without numbers.
 fn parse_plain(name: &[u8], rest: &[u8]) -> Command {
     if same(name, b"tick") {
-        return alone(rest, Command::Tick, Form::Tick);
+        return alone(rest, Command::Tick, TICK);
     }
     if same(name, b"lines") {
-        return alone(rest, Command::Lines, Form::Lines);
+        return alone(rest, Command::Lines, LINES);
     }
     if same(name, b"help") {
-        return alone(rest, Command::Help, Form::Help);
+        return alone(rest, Command::Help, HELP);
     }
     if name.len() == 0 {
         return Command::Nothing;

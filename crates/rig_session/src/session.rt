@@ -1,18 +1,20 @@
 // rig session: commands to one USI module, each answered by one line at once.
 use crate::command;
 use crate::command::Command;
-use crate::command::Form;
 use rig_lines::input;
 use rig_lines::input::Line;
 use rig_lines::input::Source;
 use rig_lines::numbers::more;
 use rig_lines::output::Output;
+use rig_lines::output::done;
 use rig_lines::output::say;
+use rig_lines::output::tell;
 use rig_lines::output::trouble;
 use rig_lines::refusals;
 use usi::Read;
 use usi::Step;
 use usi::Usi;
+use usi_text::put_module;
 
 struct Session {
     device: Usi,
@@ -93,7 +95,7 @@ impl Session {
     fn step(self, step: Step) -> Session {
         match step {
             Step::Next(device) => {
-                Output::new().words(b"ok ").module(device).print();
+                show_module(device);
                 self.with_device(device)
             }
             Step::Refused(number, _) => self.refused(number),
@@ -103,10 +105,7 @@ impl Session {
     fn read(self, read: Read) -> Session {
         match read {
             Read::Value(value) => {
-                Output::new()
-                    .words(b"ok ")
-                    .byte((value % 256) as u8)
-                    .print();
+                tell(b"ok %", &[value as u64]);
                 self.with_device(self.device)
             }
             Read::Refused(number) => self.refused(number),
@@ -116,7 +115,7 @@ impl Session {
     fn read_word(self, read: Read) -> Session {
         match read {
             Read::Value(value) => {
-                Output::new().words(b"ok ").word(value).print();
+                tell(b"ok %%", &[(value / 256) as u64, value as u64]);
                 self.with_device(self.device)
             }
             Read::Refused(number) => self.refused(number),
@@ -137,18 +136,25 @@ impl Session {
         self.with_device(self.device)
     }
 
-    fn malformed(self, form: Form) -> Session {
-        match form {
-            Form::Power => self.fault(b"expected power or power LL HH"),
-            Form::Read => self.fault(b"expected read AAA"),
-            Form::Write => self.fault(b"expected write AAA VV"),
-            Form::ReadWord => self.fault(b"expected readw AAA"),
-            Form::WriteWord => self.fault(b"expected writew AAA VVVV"),
-            Form::Sample => self.fault(b"expected sample L"),
-            Form::Tick => self.fault(b"expected tick"),
-            Form::Lines => self.fault(b"expected lines"),
-            Form::Help => self.fault(b"expected help"),
-        }
+    // Answers with the form that was expected: command.rt's places, one to a line.
+    fn malformed(self, form: usize) -> Session {
+        Output::new()
+            .words(b"error expected ")
+            .line(
+                b"power or power LL HH
+read AAA
+write AAA VV
+readw AAA
+writew AAA VVVV
+sample L
+tick
+lines
+help
+",
+                form,
+            )
+            .print();
+        self.with_fault()
     }
 
     // Runs a command and answers it.
@@ -176,7 +182,10 @@ impl Session {
     // The last line.
     fn summary(self) {
         if self.faults > 0 {
-            return count_faults(self.faults, self.commands, self.first_fault);
+            return tell(
+                b"error # of # commands not understood, the first on line #",
+                &[self.faults, self.commands, self.first_fault],
+            );
         }
         if self.refusals > 0 {
             return refusals::count(
@@ -187,10 +196,7 @@ impl Session {
                 self.first_refusal,
             );
         }
-        Output::new()
-            .words(b"ok ")
-            .count(self.commands, b"command")
-            .print();
+        done(self.commands, b"command");
     }
 }
 
@@ -202,15 +208,11 @@ fn pull(out: Output, low: bool) -> Output {
     out.words(b"released")
 }
 
-fn count_faults(faults: u64, commands: u64, line: u64) {
-    Output::new()
-        .words(b"error ")
-        .number(faults)
-        .words(b" of ")
-        .number(commands)
-        .words(b" commands not understood, the first on line ")
-        .number(line)
-        .print();
+fn show_module(device: Usi) {
+    let line = Output::new().words(b"ok ");
+    let mut bytes = line.bytes;
+    let length = put_module(&mut bytes, line.length, device);
+    Output { bytes, length }.print();
 }
 
 // Answers what taking a line found.

@@ -1,12 +1,14 @@
--- `rig_lines::input::next_line` is safe and ends: the turns that are left fall.
-use mathlib.Core.Path.{_≡_}
+-- `rig_lines::input::next_line` meets its contract. The invariant: some bytes of the line are taken.
+use mathlib.Core.Path.{_≡_, refl}
 use lib.ListN.{length}
+use Rattle.rig_lines.proofs.Taking.{Taking, taking-none, taking-more, taking-whole, taking-last, taking-endless}
 use borrow.Author.Needs.{needs}
 use Rattle.rig_lines.proofs.input.next_line.Statement.{statement}
 use Rattle.rig_lines.proofs.input.next_line.Tie as tie
 
 abbrev Inv-loop : tie.InvT-loop
-Inv-loop piece₀ line₀ from₀ n₀ turns₀ piece line from n turns = (length piece ≡ length piece₀) × (length line ≡ length line₀)
+Inv-loop piece₀ line₀ from₀ n₀ turns₀ piece line from n turns =
+    (length piece ≡ length piece₀) × (length line ≡ length line₀) × Taking piece₀ line₀ from₀ piece line from n turns
 
 abbrev μ-loop : tie.MeasureT-loop
 μ-loop piece₀ line₀ from₀ n₀ turns₀ piece line from n turns = turns
@@ -15,7 +17,7 @@ counted-requires : tie.Need-counted-requires Inv-loop μ-loop
 counted-requires c κs = search needs
 
 loop-holds : tie.Need-loop-holds Inv-loop μ-loop
-loop-holds c = search needs
+loop-holds c = (search needs, search needs, taking-none _ _ _)
 
 next-byte-requires : tie.Need-next-byte-requires Inv-loop μ-loop
 next-byte-requires c κs = search needs
@@ -33,7 +35,9 @@ same-length-2 : tie.Need-same-length-2 Inv-loop μ-loop
 same-length-2 c = search needs
 
 returns : tie.Need-returns Inv-loop μ-loop
-returns c = search needs
+returns c =
+    let came = c .before .before .before .after .given .1 in
+    taking-last _ _ _ (c .before .before .before .before .before .before .before .before .before .before .before .counted .ensures) (c .before .before .before .before .before .before .before .before .before .before .loop .inv .2) _ _ came (c .before .before .before .before .before .before .before .next-byte .ensures) (c .judged-last .ensures)
 
 enum-known-b : tie.Need-enum-known-b Inv-loop μ-loop
 enum-known-b c = search needs
@@ -48,10 +52,12 @@ same-length-4 : tie.Need-same-length-4 Inv-loop μ-loop
 same-length-4 c = search needs
 
 returns-2 : tie.Need-returns-2 Inv-loop μ-loop
-returns-2 c = search needs
+returns-2 c =
+    let came = c .before .before .before .before .b .given .1 in
+    taking-whole _ _ _ (c .before .before .before .before .before .before .before .before .before .before .before .before .counted .ensures) (c .before .before .before .before .before .before .before .before .before .before .before .loop .inv .2) _ _ _ came (c .before .before .if1 .taken) (c .before .before .before .before .before .before .before .before .next-byte .ensures) (c .judged .ensures)
 
-kept-requires : tie.Need-kept-requires Inv-loop μ-loop
-kept-requires c κs = search needs
+put-byte-requires : tie.Need-put-byte-requires Inv-loop μ-loop
+put-byte-requires c κs = search needs
 
 sub-turns : tie.Need-sub-turns Inv-loop μ-loop
 sub-turns c = search needs
@@ -60,7 +66,11 @@ loop-less : tie.Need-loop-less Inv-loop μ-loop
 loop-less c = search needs
 
 loop-again : tie.Need-loop-again Inv-loop μ-loop
-loop-again c = search needs
+loop-again c =
+    let turn = c .before .before .before .before .before .before .before .before .before .before .before .before .before in
+    let came = c .before .before .before .before .before .before .b .given .1 in
+    let took = taking-more _ _ _ _ _ came (c .before .before .before .before .if1 .left) (c .before .before .before .before .before .before .before .before .before .before .next-byte .ensures) (c .before .before .put-byte .ensures) (c .before .before .before .before .before .before .before .before .before .before .before .before .loop-test .taken) (turn .loop .inv .2) in
+    (search needs, search needs, took)
 
 same-length-5 : tie.Need-same-length-5 Inv-loop μ-loop
 same-length-5 c = search needs
@@ -69,7 +79,9 @@ same-length-6 : tie.Need-same-length-6 Inv-loop μ-loop
 same-length-6 c = search needs
 
 returns-3 : tie.Need-returns-3 Inv-loop μ-loop
-returns-3 c = search needs
+returns-3 c =
+    let none : c .before .loop .turns ≡ 0 = search needs in
+    taking-endless _ _ _ (c .before .before .counted .ensures) (c .before .loop .inv .2) _ none refl refl
 
 pub next-line-spec : {M : Type 1} → statement M
 next-line-spec =
@@ -90,7 +102,7 @@ next-line-spec =
     same-length-3
     same-length-4
     returns-2
-    kept-requires
+    put-byte-requires
     sub-turns
     loop-less
     loop-again

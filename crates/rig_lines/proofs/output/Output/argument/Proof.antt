@@ -1,4 +1,5 @@
--- `rig_lines::output::Output::argument` is safe and ends.
+-- `rig_lines::output::Output::argument` meets its contract. The invariant: the bytes passed are put.
+use Rattle.rig_lines.proofs.Ends.{Showing, showing-none, showing-more, showing-done}
 use Prim.Native.Nat.{_-_}
 use lib.ListN.{length}
 use borrow.Author.Needs.{needs}
@@ -6,13 +7,13 @@ use Rattle.rig_lines.proofs.output.Output.argument.Statement.{statement
 use Rattle.rig_lines.proofs.output.Output.argument.Tie as tie
 
 abbrev Inv-loop : tie.InvT-loop
-Inv-loop word out₀ i₀ out i = Unit {0}
+Inv-loop word out₀ i₀ out i = Showing word out₀ i out
 
 abbrev μ-loop : tie.MeasureT-loop
 μ-loop word out₀ i₀ out i = length word - i
 
 loop-holds : tie.Need-loop-holds Inv-loop μ-loop
-loop-holds c = search needs
+loop-holds c = showing-none _ _
 
 shared-slice-read-shown : tie.Need-shared-slice-read-shown Inv-loop μ-loop
 shared-slice-read-shown c = search needs
@@ -30,10 +31,13 @@ loop-less : tie.Need-loop-less Inv-loop μ-loop
 loop-less c = search needs
 
 loop-again : tie.Need-loop-again Inv-loop μ-loop
-loop-again c = search needs
+loop-again c =
+    let turn = c .before .before .before .before in
+    showing-more _ _ (turn .loop .i) _ (c .before .before .before .loop-test .taken) (c .before .shown .ensures)
+    (c .character .ensures) (turn .loop .inv)
 
 returns : tie.Need-returns Inv-loop μ-loop
-returns c = search needs
+returns c = showing-done _ _ (c .before .loop .i) (c .loop-test .left) (c .before .loop .inv)
 
 pub argument-spec : {M : Type 1} → statement M
 argument-spec =

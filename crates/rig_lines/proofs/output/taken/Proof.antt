@@ -1,0 +1,17 @@
+-- `rig_lines::output::taken` meets its contract.
+use Rattle.bits.proofs.Branches.{branches}
+use Rattle.rig_lines.specs.Output.{marks}
+use borrow.Author.Needs.{needs}
+use Rattle.rig_lines.proofs.output.taken.Statement.{statement}
+use Rattle.rig_lines.proofs.output.taken.Tie as tie
+
+returns : tie.Need-returns
+unfolding marks
+returns c = (search branches, search needs)
+
+returns-2 : tie.Need-returns-2
+unfolding marks
+returns-2 c = (search branches, search needs)
+
+pub taken-spec : {M : Type 1} → statement M
+taken-spec = tie.close (tie.spec returns returns-2)

@@ -1,0 +1,7 @@
+pub mod Bytes
+pub mod Output
+pub mod Numbers
+pub mod Store
+pub mod Input
+pub mod Opening
+pub mod Refusals
