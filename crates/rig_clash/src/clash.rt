@@ -1,25 +1,28 @@
 // rig clash: rehearses each load of a file, where boards start to send at once.
 use crate::load;
-use crate::load::Load;
-use crate::outcome;
-use arbitration::Arbitrated;
 use check::same;
 use rig_lines::input;
 use rig_lines::input::Line;
 use rig_lines::input::Source;
+use rig_lines::input::Taken;
 use rig_lines::numbers::more;
 use rig_lines::output;
 use rig_lines::output::done;
 use rig_lines::output::trouble;
 use rig_lines::parts;
 use rig_lines::refusals;
+use rig_outcome::load::BYTE;
+use rig_outcome::load::FRAME;
+use rig_outcome::load::LONGEST;
+use rig_outcome::load::Load;
+use rig_outcome::load::NAME;
 use text::after_word;
 use text::first_word;
 
 // Room for the bytes carried, and for the levels.
-const CARRIED: usize = outcome::LONGEST;
+const CARRIED: usize = LONGEST;
 
-const LEVELS: usize = outcome::FRAME + outcome::BYTE * CARRIED;
+const LEVELS: usize = FRAME + BYTE * CARRIED;
 
 // A line on standard error after so many loads.
 const PROGRESS: u64 = 100;
@@ -47,7 +50,7 @@ impl Rehearsal {
             source,
             brief,
             room,
-            load: Load::none(),
+            load: load::none(),
             loads: 0,
             refusals: 0,
             number: 0,
@@ -122,17 +125,17 @@ impl Rehearsal {
         let name = first_word(rest);
         let extra = first_word(after_word(rest)).len() > 0;
         let before = self.finished();
-        if (name.len() == 0) | (name.len() > load::NAME) | extra {
+        if (name.len() == 0) | (name.len() > NAME) | extra {
             return before.fault(b"expected load NAME, one word of at most 32 bytes");
         }
         let line = before.source.line;
-        before.with_load(Load::named(name, line))
+        before.with_load(load::named(name, line))
     }
 
     fn with_board(self, rest: &[u8]) -> Rehearsal {
         let line = self.source.line;
         let load = self.load;
-        let next = load.with_board(rest, line);
+        let next = load::with_board(load, rest, line);
         if next.malformed {
             return self.fault(b"expected bytes of one or two hexadecimal digits");
         }
@@ -144,7 +147,7 @@ impl Rehearsal {
         if load.acknowledged {
             return self.fault(b"a second ack line in one load");
         }
-        let next = load.with_acks(rest);
+        let next = load::with_acks(load, rest);
         if next.malformed {
             return self.fault(b"expected acknowledges 0 or 1");
         }
@@ -194,7 +197,7 @@ fn ack_count(load: Load) -> usize {
     if load.acknowledged {
         return load.ack_count;
     }
-    load.longest() as usize
+    load::longest(load) as usize
 }
 
 // Rehearses a load and shows how it went; answers the refusal's number, or 0.
@@ -219,43 +222,20 @@ fn rehearse_in(load: Load, brief: bool, room: usize, carried: &mut [u8], levels:
         carried,
         &mut levels[..lent],
     );
-    shown(load, brief, reply, carried, levels)
-}
-
-// Shows a reply; answers the refusal's number, or 0.
-fn shown(load: Load, brief: bool, reply: Arbitrated, carried: &[u8], levels: &[u8]) -> u8 {
-    if reply.refusal > 0 {
-        if brief {
-            outcome::refuse_brief(load, reply.refusal, reply.place);
-        } else {
-            outcome::refuse(load, reply.refusal, reply.place);
-        }
-    } else {
-        if brief {
-            outcome::show_brief(load, reply, carried);
-        } else {
-            outcome::show(load, reply, carried, levels);
-        }
-    }
+    rig_outcome::show(load, brief, reply, carried, levels);
     reply.refusal
 }
 
-fn followed(rehearsal: Rehearsal, line: &[u8], found: Line) -> Rehearsal {
-    match found {
-        Line::Text(n) => rehearsal.with_line(input::content(line, n)),
-        Line::End => rehearsal.finished().ended(),
-        Line::TooLong => rehearsal.failed(found),
-        Line::NoText => rehearsal.failed(found),
-        Line::Failed => rehearsal.failed(found),
-    }
-}
-
-fn turn(piece: &mut [u8], line: &mut [u8], rehearsal: Rehearsal) -> Rehearsal {
-    let from = rehearsal.source;
-    let taken = input::next_line(piece, line, from);
+// Follows what taking a line found.
+fn followed(rehearsal: Rehearsal, taken: Taken, line: &[u8]) -> Rehearsal {
     let found = taken.line;
     let after = taken.source;
-    followed(rehearsal.with_source(after), line, found)
+    let next = rehearsal.with_source(after);
+    match found {
+        Line::Text(n) => next.with_line(input::content(line, n)),
+        Line::End => next.finished().ended(),
+        _ => next.failed(found),
+    }
 }
 
 fn run_all(piece: &mut [u8], line: &mut [u8], begun: Rehearsal) -> Rehearsal {
@@ -265,7 +245,9 @@ fn run_all(piece: &mut [u8], line: &mut [u8], begun: Rehearsal) -> Rehearsal {
         if !rehearsal.more {
             return rehearsal;
         }
-        rehearsal = turn(piece, line, rehearsal);
+        let from = rehearsal.source;
+        let taken = input::next_line(piece, line, from);
+        rehearsal = followed(rehearsal, taken, line);
         turns -= 1;
     }
     rehearsal

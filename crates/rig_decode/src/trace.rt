@@ -5,6 +5,7 @@ use rig_lines::bus_numbers::LIMIT;
 use rig_lines::input;
 use rig_lines::input::Line;
 use rig_lines::input::Source;
+use rig_lines::input::Taken;
 use rig_lines::numbers::is_number;
 use rig_lines::numbers::value;
 use rig_lines::output;
@@ -155,49 +156,23 @@ fn stored(
     }
 }
 
+// Follows what taking a line found.
 fn followed(
     reading: Reading,
+    taken: Taken,
     line: &[u8],
-    found: Line,
     stamps: &mut [u32],
     levels: &mut [u8],
     lines: &mut [u64],
 ) -> Reading {
-    match found {
-        Line::Text(n) => stored(
-            reading,
-            parse(input::content(line, n)),
-            stamps,
-            levels,
-            lines,
-        ),
-        Line::End => reading.ended(),
-        Line::TooLong => reading.failed(found),
-        Line::NoText => reading.failed(found),
-        Line::Failed => reading.failed(found),
-    }
-}
-
-fn turn(
-    piece: &mut [u8],
-    line: &mut [u8],
-    reading: Reading,
-    stamps: &mut [u32],
-    levels: &mut [u8],
-    lines: &mut [u64],
-) -> Reading {
-    let from = reading.source;
-    let taken = input::next_line(piece, line, from);
     let found = taken.line;
     let after = taken.source;
-    followed(
-        reading.with_source(after),
-        line,
-        found,
-        stamps,
-        levels,
-        lines,
-    )
+    let next = reading.with_source(after);
+    match found {
+        Line::Text(n) => stored(next, parse(input::content(line, n)), stamps, levels, lines),
+        Line::End => next.ended(),
+        _ => next.failed(found),
+    }
 }
 
 pub(crate) fn read_all(
@@ -214,7 +189,9 @@ pub(crate) fn read_all(
         if !reading.more {
             return reading;
         }
-        reading = turn(piece, line, reading, stamps, levels, lines);
+        let from = reading.source;
+        let taken = input::next_line(piece, line, from);
+        reading = followed(reading, taken, line, stamps, levels, lines);
         turns -= 1;
     }
     reading

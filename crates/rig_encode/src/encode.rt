@@ -8,6 +8,7 @@ use rig_lines::bus_numbers::LIMIT;
 use rig_lines::input;
 use rig_lines::input::Line;
 use rig_lines::input::Source;
+use rig_lines::input::Taken;
 use rig_lines::numbers::is_number;
 use rig_lines::numbers::least_number;
 use rig_lines::numbers::value;
@@ -179,22 +180,16 @@ fn ends_in_colon(word: &[u8]) -> bool {
     word[n - 1] == b':'
 }
 
-fn followed(listing: Listing, line: &[u8], found: Line, events: &mut [u16]) -> Listing {
-    match found {
-        Line::Text(n) => listing.with_line(events, input::content(line, n)),
-        Line::End => listing.ended(),
-        Line::TooLong => listing.failed(found),
-        Line::NoText => listing.failed(found),
-        Line::Failed => listing.failed(found),
-    }
-}
-
-fn turn(piece: &mut [u8], line: &mut [u8], listing: Listing, events: &mut [u16]) -> Listing {
-    let from = listing.source;
-    let taken = input::next_line(piece, line, from);
+// Follows what taking a line found.
+fn followed(listing: Listing, taken: Taken, line: &[u8], events: &mut [u16]) -> Listing {
     let found = taken.line;
     let after = taken.source;
-    followed(listing.with_source(after), line, found, events)
+    let next = listing.with_source(after);
+    match found {
+        Line::Text(n) => next.with_line(events, input::content(line, n)),
+        Line::End => next.ended(),
+        _ => next.failed(found),
+    }
 }
 
 fn read_all(piece: &mut [u8], line: &mut [u8], source: Source, events: &mut [u16]) -> Listing {
@@ -204,7 +199,9 @@ fn read_all(piece: &mut [u8], line: &mut [u8], source: Source, events: &mut [u16
         if !listing.more {
             return listing;
         }
-        listing = turn(piece, line, listing, events);
+        let from = listing.source;
+        let taken = input::next_line(piece, line, from);
+        listing = followed(listing, taken, line, events);
         turns -= 1;
     }
     listing

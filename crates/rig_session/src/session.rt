@@ -4,6 +4,7 @@ use crate::command::Command;
 use rig_lines::input;
 use rig_lines::input::Line;
 use rig_lines::input::Source;
+use rig_lines::input::Taken;
 use rig_lines::numbers::more;
 use rig_lines::output::Output;
 use rig_lines::output::done;
@@ -216,29 +217,23 @@ fn show_module(device: Usi) {
 }
 
 // Answers what taking a line found.
-fn answered(session: Session, line: &[u8], found: Line) -> Session {
-    match found {
-        Line::Text(n) => session.run(command::parse(input::content(line, n))),
-        Line::TooLong => session.fault(b"longer than 4096 bytes"),
-        Line::NoText => session.fault(b"a byte that is no text"),
-        Line::End => {
-            session.summary();
-            session.ended()
-        }
-        Line::Failed => {
-            let from = session.source;
-            input::complain(found, from);
-            session.ended()
-        }
-    }
-}
-
-fn turn(piece: &mut [u8], line: &mut [u8], session: Session) -> Session {
-    let from = session.source;
-    let taken = input::next_line(piece, line, from);
+fn answered(session: Session, taken: Taken, line: &[u8]) -> Session {
     let found = taken.line;
     let after = taken.source;
-    answered(session.with_source(after), line, found)
+    let next = session.with_source(after);
+    match found {
+        Line::Text(n) => next.run(command::parse(input::content(line, n))),
+        Line::TooLong => next.fault(b"longer than 4096 bytes"),
+        Line::NoText => next.fault(b"a byte that is no text"),
+        Line::End => {
+            next.summary();
+            next.ended()
+        }
+        Line::Failed => {
+            input::complain(found, after);
+            next.ended()
+        }
+    }
 }
 
 fn run_all(piece: &mut [u8], line: &mut [u8], source: Source) {
@@ -248,7 +243,9 @@ fn run_all(piece: &mut [u8], line: &mut [u8], source: Source) {
         if !session.more {
             return;
         }
-        session = turn(piece, line, session);
+        let from = session.source;
+        let taken = input::next_line(piece, line, from);
+        session = answered(session, taken, line);
         turns -= 1;
     }
 }

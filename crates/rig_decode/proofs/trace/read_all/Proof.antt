@@ -1,5 +1,6 @@
 -- `rig_decode::trace::read_all` is safe and ends: the turns that are left fall.
 use mathlib.Core.Path.{_≡_}
+use native.Mathlib.Omega.{arith}
 use lib.ListN.{length}
 use borrow.Author.Needs.{needs}
 use Rattle.rig_decode.proofs.trace.read_all.Statement.{statement}
@@ -37,8 +38,11 @@ same-length-5 c = search needs
 returns : tie.Need-returns Inv-loop μ-loop
 returns c = search needs
 
-turn-requires : tie.Need-turn-requires Inv-loop μ-loop
-turn-requires c κs = search needs
+next-line-requires : tie.Need-next-line-requires Inv-loop μ-loop
+next-line-requires c κs = search needs
+
+followed-requires : tie.Need-followed-requires Inv-loop μ-loop
+followed-requires c κs = search needs
 
 sub-turns : tie.Need-sub-turns Inv-loop μ-loop
 sub-turns c = search needs
@@ -47,7 +51,8 @@ loop-less : tie.Need-loop-less Inv-loop μ-loop
 loop-less c = search needs
 
 loop-again : tie.Need-loop-again Inv-loop μ-loop
-loop-again c = search needs
+loop-again c =
+    omega (arith, c .before .before .before .before .before .before .followed .kept, c .before .before .before .before .before .before .before .before .before .before .before .before .before .before .before .next-line .kept, c .before .before .before .before .before .before .before .before .before .before .before .before .before .before .before .before .before .before .before .before .before .before .loop .inv)
 
 same-length-6 : tie.Need-same-length-6 Inv-loop μ-loop
 same-length-6 c = search needs
@@ -81,7 +86,8 @@ read-all-spec =
     same-length-4
     same-length-5
     returns
-    turn-requires
+    next-line-requires
+    followed-requires
     sub-turns
     loop-less
     loop-again

@@ -29,8 +29,11 @@ same-length-3 c = search needs
 returns : tie.Need-returns Inv-loop μ-loop
 returns c = search needs
 
-turn-requires : tie.Need-turn-requires Inv-loop μ-loop
-turn-requires c κs = search needs
+next-line-requires : tie.Need-next-line-requires Inv-loop μ-loop
+next-line-requires c κs = search needs
+
+followed-requires : tie.Need-followed-requires Inv-loop μ-loop
+followed-requires c κs = search needs
 
 sub-turns : tie.Need-sub-turns Inv-loop μ-loop
 sub-turns c = search needs
@@ -65,7 +68,8 @@ read-all-spec =
     same-length-2
     same-length-3
     returns
-    turn-requires
+    next-line-requires
+    followed-requires
     sub-turns
     loop-less
     loop-again

@@ -1,0 +1,161 @@
+// What the rehearsal of a load shows.
+use crate::boards;
+use crate::load::BYTE;
+use crate::load::FRAME;
+use crate::load::LONGEST;
+use crate::load::Load;
+use crate::load::MOST_BOARDS;
+use crate::waveform;
+use arbitration::Arbitrated;
+use rig_lines::output::Output;
+use rig_lines::output::say;
+use rig_lines::output::tell;
+use rig_lines::parts;
+use rig_lines::refusals;
+use rig_lines::store;
+use usi::Usi;
+
+// The load's name and line.
+fn header(load: Load) -> Output {
+    let name = load.name;
+    let length = parts::bytes(load.name_length, &name);
+    Output::new()
+        .words(b"load ")
+        .words(&name[..length])
+        .form(b", line #", &[load.line])
+}
+
+fn acknowledge(out: Output, ack: u8) -> Output {
+    if ack == 0 {
+        return out.words(b" ACK");
+    }
+    out.words(b" NACK")
+}
+
+fn carried_byte(out: Output, carried: &[u8], acks: &[u8], i: usize) -> Output {
+    if i < carried.len() {
+        if i < acks.len() {
+            return acknowledge(out.between(i == 0).byte(carried[i]), acks[i]);
+        }
+    }
+    out
+}
+
+fn carried_bytes(out: Output, carried: &[u8], acks: &[u8], count: usize) -> Output {
+    let mut line = out;
+    let mut i = 0;
+    while i < count {
+        line = carried_byte(line, carried, acks, i);
+        i += 1;
+    }
+    line
+}
+
+// The bytes carried, each with its acknowledge.
+fn transfer(out: Output, carried: &[u8], load: Load, count: usize) -> Output {
+    let acks = load.acks;
+    carried_bytes(out.words(b"carried "), carried, &acks, count)
+}
+
+fn show_module(board: usize, module: Usi) {
+    let numbers = [
+        board as u64,
+        module.usictl0 as u64,
+        module.usictl1 as u64,
+        module.usickctl as u64,
+        module.usicnt as u64,
+        module.usisrl as u64,
+        module.usisrh as u64,
+    ];
+    tell(
+        b"  board # USICTL0=% USICTL1=% USICKCTL=% USICNT=% USISRL=% USISRH=%",
+        &numbers,
+    );
+}
+
+fn show_modules(modules: [Usi; MOST_BOARDS], boards: usize) {
+    let mut i: usize = 0;
+    while i < MOST_BOARDS {
+        if i < boards {
+            show_module(i, modules[i]);
+        }
+        i += 1;
+    }
+}
+
+// How many levels are recorded for so many bytes.
+fn recorded(count: usize) -> usize {
+    if count > LONGEST {
+        return 0;
+    }
+    FRAME + BYTE * count
+}
+
+// Who won and who lost.
+fn show_boards(contending: [bool; MOST_BOARDS], positions: [u16; MOST_BOARDS], count: usize) {
+    boards::winners(Output::new().words(b"  won "), b"board ", contending, count).print();
+    if !boards::show_losers(contending, positions, count) {
+        say(b"  lost none");
+    }
+}
+
+// The whole outcome of a load.
+fn show_whole(load: Load, reply: Arbitrated, carried: &[u8], levels: &[u8]) {
+    let contending = reply.contending;
+    let positions = reply.positions;
+    let modules = reply.modules;
+    header(load).print();
+    show_boards(contending, positions, load.boards);
+    transfer(Output::new().words(b"  "), carried, load, reply.k).print();
+    show_modules(modules, load.boards);
+    waveform::show(levels, parts::bytes(recorded(reply.k), levels));
+}
+
+// The outcome in one line.
+fn show_brief(load: Load, reply: Arbitrated, carried: &[u8]) {
+    let contending = reply.contending;
+    let positions = reply.positions;
+    let won = boards::winners(header(load).words(b": won "), b"", contending, load.boards);
+    let lost = boards::losers(won.words(b"; lost "), contending, positions, load.boards);
+    transfer(lost.words(b"; "), carried, load, reply.k).print();
+}
+
+// The line of the board that a refusal's place names.
+fn line_of(load: Load, place: usize) -> u64 {
+    let lines = load.lines;
+    store::line_at(&lines, place)
+}
+
+fn refusal(out: Output, load: Load, number: u8, place: usize) -> Output {
+    match number {
+        13 | 14 => refusals::refusal_at(out, number, place, line_of(load, place)),
+        _ => refusals::refusal(out, number),
+    }
+}
+
+// A refused load.
+fn refuse(load: Load, number: u8, place: usize) {
+    header(load).print();
+    refusal(Output::new().words(b"  "), load, number, place).print();
+}
+
+fn refuse_brief(load: Load, number: u8, place: usize) {
+    refusal(header(load).words(b": "), load, number, place).print();
+}
+
+// Shows how the rehearsal of a load went.
+pub fn show(load: Load, brief: bool, reply: Arbitrated, carried: &[u8], levels: &[u8]) {
+    if reply.refusal > 0 {
+        if brief {
+            refuse_brief(load, reply.refusal, reply.place);
+        } else {
+            refuse(load, reply.refusal, reply.place);
+        }
+    } else {
+        if brief {
+            show_brief(load, reply, carried);
+        } else {
+            show_whole(load, reply, carried, levels);
+        }
+    }
+}
