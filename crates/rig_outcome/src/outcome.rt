@@ -6,7 +6,7 @@ use crate::load::LONGEST;
 use crate::load::Load;
 use crate::load::MOST_BOARDS;
 use crate::waveform;
-use arbitration::Arbitrated;
+use arbitration_rules::Arbitrated;
 use rig_lines::output::Output;
 use rig_lines::output::say;
 use rig_lines::output::tell;
