@@ -1,6 +1,6 @@
 // Lines of a file or of standard input, however many, read piece by piece.
 ghost use mathlib.Core.Path.{_≡_};
-ghost use Prim.Native.Nat.{min, _≤_};
+ghost use Prim.Native.Nat.{_≤_};
 ghost use lib.ListN.{length, take};
 ghost use Rattle.rig_lines.specs.Bytes.{plain, every};
 ghost use Rattle.rig_lines.specs.Input.{begun, nextNumber, afterRead as readAfter, Refilled, NextByte};

@@ -1,5 +1,5 @@
 // Numbers that a text says, counts, and the lesser of two.
-ghost use Prim.Native.Nat.{_≤_, min};
+ghost use Prim.Native.Nat.{min};
 ghost use mathlib.Core.Path.{_≡_};
 ghost use Rattle.rig_lines.specs.Numbers.{valueIn, saysNumber, byteIn, oneMore};
 use text::Number;

@@ -2,7 +2,6 @@
 ghost use mathlib.Core.Path.{_≡_};
 ghost use Rattle.rig_lines.specs.Refusals.{withWords, refused, refusedAt};
 use crate::output::Output;
-use crate::output::tell;
 
 // What a refusal says, by its number: each stands in a line of its own, after the line of 0, which is none.
 fn words(out: Output, number: u8) -> Output
