@@ -1,12 +1,12 @@
 #!/usr/bin/env python3
 """Our register table against TI's own headers (Debian package msp430mcu).
 
-Reads addresses and bit positions from crates/usi_rules/specs/Registers.antt and compares them with every header that
+Reads addresses and bit positions from crates/usi_registers/specs/Registers.antt and compares them with every header that
 declares a USI. Exit status 1 at the first difference, 2 where the headers are not installed."""
 import glob, os, re, sys
 
 top = os.path.join(os.path.dirname(os.path.abspath(__file__)), "..")
-table = open(os.path.join(top, "crates/usi_rules/specs/Registers.antt"), encoding="utf-8").read()
+table = open(os.path.join(top, "crates/usi_registers/specs/Registers.antt"), encoding="utf-8").read()
 
 
 def declared(header):

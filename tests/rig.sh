@@ -147,6 +147,7 @@ lists() {
 }
 
 loads() {
+    local longest
     input "load a" && expect 1 "refused 12: 1 of 1 loads refused, the first on line 1" clash -
     (echo load a && for i in 1 2 3 4 5 6 7 8 9 10; do echo board 90; done) >in
     expect 1 "refused 12: 1 of 1 loads refused, the first on line 1" clash -
@@ -154,6 +155,14 @@ loads() {
     (echo load a && echo board 90 && printf 'board' && yes ' 90' | head -n 33 | tr -d '\n' && echo) >in
     expect 1 "refused 13: 1 of 1 loads refused, the first on line 1" clash -
     grep -qx "  refused 13 place 1 (line 3): a board has no bytes or more than 32" out || failed "words of 13"
+    # one board or one acknowledge too many is the library's to refuse, and all that it takes is kept
+    (echo load a && for i in 1 2 3 4 5 6 7 8 9; do echo board 90; done) >in
+    expect 1 "refused 12: 1 of 1 loads refused, the first on line 1" clash -
+    longest=$(printf 'board' && yes ' 90' | head -n 32 | tr -d '\n')
+    (echo load a && echo "$longest" && printf 'ack' && yes ' 0' | head -n 33 | tr -d '\n' && echo) >in
+    expect 1 "refused 15: 1 of 1 loads refused, the first on line 1" clash -
+    (echo load a && for i in 1 2 3 4 5 6 7 8; do echo "$longest"; done) >in
+    expect 0 "ok 1 load" clash -
     input "load a" "board 90" "board 91" && expect 1 "refused 14: 1 of 1 loads refused, the first on line 1" clash -
     grep -qx "  refused 14 place 1 (line 3): a board's first byte is odd, a read" out || failed "words of 14"
     input "load a" "board 90" "ack 2" && expect 1 "refused 15: 1 of 1 loads refused, the first on line 1" clash -

@@ -1,6 +1,7 @@
-//! The C functions of the proved library's archive, each with a safe wrapper.
+//! The C functions of the proved library's archive, each with a safe wrapper; and the same on guarded memory.
 
 use crate::packed::{Asked, Interface, Lent};
+use std::fmt::Debug;
 
 extern "C" {
     fn usi_power_up(usisrl: u8, usisrh: u8) -> u64;
@@ -42,8 +43,8 @@ extern "C" {
         levels_len: usize,
         modules: *mut u64,
         modules_len: usize,
-        positions: *mut u16,
-        positions_len: usize,
+        seats: *mut u32,
+        seats_len: usize,
     ) -> u64;
 }
 
@@ -112,7 +113,7 @@ impl Interface for Archive {
         }
     }
 
-    fn arbitrate(&self, asked: &Asked, lent: &mut Lent) -> u64 {
+    fn arbitrate(&self, asked: &Asked, lent: Lent) -> u64 {
         unsafe {
             arbitrate(
                 asked.bytes.as_ptr(),
@@ -127,9 +128,88 @@ impl Interface for Archive {
                 lent.levels.len(),
                 lent.modules.as_mut_ptr(),
                 lent.modules.len(),
-                lent.positions.as_mut_ptr(),
-                lent.positions.len(),
+                lent.seats.as_mut_ptr(),
+                lent.seats.len(),
             )
         }
+    }
+}
+
+/// The proved library, which is lent every buffer between guards; a call that writes one panics.
+pub struct Guarded;
+
+/// How many elements stand before and behind a buffer.
+const GUARDS: usize = 32;
+
+/// Copies a buffer between guards, lends it to `call`, looks at the guards and copies it back.
+fn guarded<T: Copy + PartialEq + Debug, Answer>(
+    buffer: &mut [T],
+    guard: T,
+    call: impl FnOnce(&mut [T]) -> Answer,
+) -> Answer {
+    let mut memory = vec![guard; buffer.len() + 2 * GUARDS];
+    let inside = GUARDS..GUARDS + buffer.len();
+    memory[inside.clone()].copy_from_slice(buffer);
+    let answer = call(&mut memory[inside.clone()]);
+    assert_eq!(memory[..inside.start], [guard; GUARDS], "written before a buffer");
+    assert_eq!(memory[inside.end..], [guard; GUARDS], "written behind a buffer");
+    buffer.copy_from_slice(&memory[inside]);
+    answer
+}
+
+impl Interface for Guarded {
+    fn power_up(&self, usisrl: u8, usisrh: u8) -> u64 {
+        Archive.power_up(usisrl, usisrh)
+    }
+
+    fn write(&self, module: u64, address: u16, value: u8) -> u64 {
+        Archive.write(module, address, value)
+    }
+
+    fn write_word(&self, module: u64, address: u16, value: u16) -> u64 {
+        Archive.write_word(module, address, value)
+    }
+
+    fn sample(&self, module: u64, level: u8) -> u64 {
+        Archive.sample(module, level)
+    }
+
+    fn tick(&self, module: u64) -> u64 {
+        Archive.tick(module)
+    }
+
+    fn read(&self, module: u64, address: u16) -> u32 {
+        Archive.read(module, address)
+    }
+
+    fn read_word(&self, module: u64, address: u16) -> u32 {
+        Archive.read_word(module, address)
+    }
+
+    fn lines(&self, module: u64) -> u8 {
+        Archive.lines(module)
+    }
+
+    fn decode(&self, stamps: &[u32], levels: &[u8], events: &mut [u16]) -> u64 {
+        guarded(events, 0xA5A5, |events| Archive.decode(stamps, levels, events))
+    }
+
+    fn encode(&self, events: &[u16], start: u32, gap: u32, stamps: &mut [u32], levels: &mut [u8]) -> u64 {
+        guarded(stamps, 0xA5A5_A5A5, |stamps| {
+            guarded(levels, 0xA5, |levels| Archive.encode(events, start, gap, stamps, levels))
+        })
+    }
+
+    fn arbitrate(&self, asked: &Asked, lent: Lent) -> u64 {
+        let Lent { carried, levels, modules, seats } = lent;
+        guarded(carried, 0xA5, |carried| {
+            guarded(levels, 0x5A, |levels| {
+                guarded(modules, 0xA5A5_A5A5_A5A5_A5A5, |modules| {
+                    guarded(seats, 0x5A5A_5A5A, |seats| {
+                        Archive.arbitrate(asked, Lent { carried, levels, modules, seats })
+                    })
+                })
+            })
+        })
     }
 }

@@ -3,15 +3,13 @@
 //! A module is one number: six registers from bit 0 up, the hidden state in bits 48 to 54; a step's answer has
 //! the refusal number in bits 56 to 63.
 
-use crate::arbitration::{self, Run, MASTERS};
+use crate::arbitration::{runner, Request, Run, MASTERS};
 use crate::bus;
 use crate::module::Module;
-use crate::refusal::Refusal;
+use crate::refusal::{Reason, Refusal};
 
 /// The bits of a packed module.
 pub const MODULE: u64 = (1 << 55) - 1;
-/// The answer of `arbitrate` where a table is too short.
-pub const SHORT_TABLE: u64 = 255;
 
 /// What `arbitrate` is asked.
 #[derive(Clone, Debug)]
@@ -21,13 +19,33 @@ pub struct Asked {
     pub acks: Vec<u8>,
 }
 
-/// What is lent to `arbitrate`.
+/// What a caller of `arbitrate` has to lend.
 #[derive(Clone, PartialEq, Eq, Debug)]
-pub struct Lent {
+pub struct Buffers {
     pub carried: Vec<u8>,
     pub levels: Vec<u8>,
     pub modules: Vec<u64>,
-    pub positions: Vec<u16>,
+    /// Of each master twice its position, and 1 more while it contends.
+    pub seats: Vec<u32>,
+}
+
+/// The same, lent.
+pub struct Lent<'a> {
+    pub carried: &'a mut [u8],
+    pub levels: &'a mut [u8],
+    pub modules: &'a mut [u64],
+    pub seats: &'a mut [u32],
+}
+
+impl Buffers {
+    pub fn lend(&mut self) -> Lent<'_> {
+        Lent {
+            carried: &mut self.carried,
+            levels: &mut self.levels,
+            modules: &mut self.modules,
+            seats: &mut self.seats,
+        }
+    }
 }
 
 /// The C functions; each implementation is one side of a comparison.
@@ -42,7 +60,7 @@ pub trait Interface {
     fn lines(&self, module: u64) -> u8;
     fn decode(&self, stamps: &[u32], levels: &[u8], events: &mut [u16]) -> u64;
     fn encode(&self, events: &[u16], start: u32, gap: u32, stamps: &mut [u32], levels: &mut [u8]) -> u64;
-    fn arbitrate(&self, asked: &Asked, lent: &mut Lent) -> u64;
+    fn arbitrate(&self, asked: &Asked, lent: Lent) -> u64;
 }
 
 /// The model of this crate.
@@ -140,25 +158,36 @@ impl Interface for Model {
         bus::encode(events, start, gap, stamps, levels).map_or_else(refused, |count| (count as u64) << 8)
     }
 
-    fn arbitrate(&self, asked: &Asked, lent: &mut Lent) -> u64 {
-        if lent.modules.len() < MASTERS || lent.positions.len() < MASTERS {
-            return SHORT_TABLE;
+    fn arbitrate(&self, asked: &Asked, lent: Lent) -> u64 {
+        let run = match Request::new(&asked.bytes, &asked.lengths, &asked.acks)
+            .and_then(|asked| runner::run(&asked))
+        {
+            Ok(run) => run,
+            Err(refusal) => return refused(refusal),
+        };
+        if !has_room(&run, &lent) {
+            return refused(Reason::ShortBuffer.refusal());
         }
-        let (carried, levels) = (&mut lent.carried, &mut lent.levels);
-        let reply = arbitration::arbitrate(&asked.bytes, &asked.lengths, &asked.acks, carried, levels);
-        fill_tables(reply.as_ref().ok(), lent);
-        reply.map_or_else(refused, |run| {
-            let remaining = run.outcome.remaining.iter().rev();
-            let remaining = remaining.fold(0, |mask, &bit| mask << 1 | u64::from(bit));
-            (run.outcome.carried.len() as u64) << 24 | remaining << 32
-        })
+        fill(&run, lent);
+        (run.outcome.carried.len() as u64) << 24
     }
 }
 
-/// The final modules and the positions; modules as powered up and positions 0 at a refusal.
-fn fill_tables(run: Option<&Run>, lent: &mut Lent) {
-    let modules = run.map_or([Module::power_up(0, 0); MASTERS], |run| run.modules);
-    let positions = run.map_or([0; MASTERS], |run| run.outcome.positions);
-    lent.modules[..MASTERS].copy_from_slice(&modules.map(|module| pack(&module)));
-    lent.positions[..MASTERS].copy_from_slice(&positions);
+/// Every lent slice is as long as the reply needs: the tables have an entry for each of the most masters.
+fn has_room(run: &Run, lent: &Lent) -> bool {
+    lent.carried.len() >= run.outcome.carried.len()
+        && lent.levels.len() >= run.outcome.levels.len()
+        && lent.modules.len() >= MASTERS
+        && lent.seats.len() >= MASTERS
+}
+
+/// The reply in the lent slices, whose rest stays.
+fn fill(run: &Run, lent: Lent) {
+    let outcome = &run.outcome;
+    lent.carried[..outcome.carried.len()].copy_from_slice(&outcome.carried);
+    lent.levels[..outcome.levels.len()].copy_from_slice(&outcome.levels);
+    for master in 0..MASTERS {
+        lent.modules[master] = pack(&run.modules[master]);
+        lent.seats[master] = 2 * u32::from(outcome.positions[master]) + u32::from(outcome.remaining[master]);
+    }
 }

@@ -1,124 +1,266 @@
 -- What arbitrate promises, at each of its three returns.
-use Prim.Native.Nat.{ℕ, _≤_}
-use mathlib.Core.Path.{_≡_, sym, ap, _∙_}
-use mathlib.Core.Bool.{true, false}
-use mathlib.Core.List.{List}
+use Prim.Native.Nat.{ℕ, _-_, _≤_}
+use mathlib.Core.Path.{_≡_, refl, sym, ap, _∙_}
+use mathlib.Core.Bool.{Bool, true, false}
+use mathlib.Core.List.{List, [], _∷_, _++_, map, zipWith}
 use native.Mathlib.Omega.{arith}
-use borrow.Author.Tests.{ne-eqb}
-use lib.ListN.{length}
+use lib.Dec.{ltb}
+use borrow.Author.Tests.{ne-eqb, eq-eqb, ltb-false}
+use lib.ListN.{length, take, drop, replicate, length-map, length-replicate}
+use lib.Seq.{take-append-seam}
+use Rattle.laws.specs.declared.Refusal.{Refusal}
+use Rattle.laws.specs.Buffer.{filled}
+use Rattle.laws.specs.Refusals.{check, given, none, refusedAt, orElse}
+use Rattle.laws.proofs.Bools.{neither}
+use Rattle.laws.proofs.Loops.{drop-replicate}
+use Rattle.laws.proofs.Refusals.{in-parts}
+use Rattle.usi.specs.declared.Usi.{Usi}
+use Rattle.usi.specs.Module.{powerUp}
 use Rattle.arbitration_rules.specs.declared.Arbitrated.{Arbitrated}
-use Rattle.arbitration_rules.specs.Limits.{maxMasters, maxLength}
-use Rattle.arbitration_rules.specs.Outcome.{outcome}
-use Rattle.arbitration_rules.specs.Reply.{messagesOf, shortBuffer, refused}
-use Rattle.arbitration_rules.specs.Reply.{arbitrated, carriedAfter, levelsAfter}
-use Rattle.arbitration_rules.specs.Run.{Bus, run}
+use Rattle.arbitration_rules.specs.declared.Seat.{Seat}
+use Rattle.arbitration_rules.specs.Limits.{maxMasters}
+use Rattle.arbitration_rules.specs.Masters.{Master}
+use Rattle.arbitration_rules.specs.Outcome.{Fate, outcome, least, carriedCount, levelCount}
+use Rattle.arbitration_rules.specs.Reply.{messagesOf, messageChecks, shortBuffer, refusal, absent, refused, padded}
+use Rattle.arbitration_rules.specs.Reply.{seatOf, answered, arbitrated, carriedAfter, levelsAfter}
+use Rattle.arbitration_rules.specs.Run.{Bus, run, fateOf, observed}
 use Rattle.arbitration_rules.proofs.Carry.{Bytes}
-use Rattle.arbitration_rules.proofs.Demand.{demand3}
-use Rattle.arbitration_messages.specs.Refusals.{rowsOf}
-use Rattle.arbitration_messages.specs.Rows.{Rowed, messagesIn}
-use Rattle.arbitration_messages.proofs.Lengths.{good-count}
-use Rattle.arbitration_messages.proofs.Unrefused.{rows-messages, rows-rowed}
-use Rattle.arbitration_order.specs.declared.Settled.{Settled}
-use Rattle.arbitration_order.specs.Settle.{settled}
-use Rattle.arbitration_order.proofs.Stopped.{Accepts, accepts, messages-pass, k-fits}
-use Rattle.arbitration.specs.declared.run.Ended.{Ended}
-use Rattle.arbitration.specs.State.{Room, Ran}
-use Rattle.arbitration.specs.Gathered.{replyOf}
-use Rattle.arbitration.specs.Shown.{shown}
-use Rattle.arbitration.proofs.Refused.{Agrees, settled-agrees, short-agrees, not-refused, roomy}
-use Rattle.arbitration.proofs.Answered.{answered-is, carried-kept, levels-kept, shown-is}
-use Rattle.arbitration.proofs.Accepted.{given, run-room}
+use Rattle.arbitration_rules.proofs.Accepted.{message-numbered, answered-outcome, refused-by-16}
+use Rattle.arbitration_run.specs.Members as members
+use Rattle.arbitration_run.specs.Rows.{rowsOf}
+use Rattle.arbitration_run.specs.Sequence.{first}
+use Rattle.arbitration_turns.specs.Turns.{Turn, Reached}
+use Rattle.arbitration_turns.proofs.Ran as ran
+use Rattle.arbitration_checks.specs.Settled.{settled}
+use Rattle.arbitration.specs.declared.table.Ended.{Ended}
+use Rattle.arbitration.specs.Shown as shows
+use Rattle.arbitration.specs.Shown.{shown, OnlyUndecided, Short, repliedBy}
+use Rattle.arbitration.proofs.Given.{found, settled-none, settled-some, few, whole, short, carried-length}
+use Rattle.arbitration.proofs.Given.{levels-length, short-is}
 
-module _ (bytes lengths acknowledges entry exit levels levelsExit : List ℕ) (reply : Arbitrated) where
+module _ (bytes lengths acknowledges entry levels : List ℕ) where
+  abbrev messages : List (List ℕ)
+  messages = messagesOf lengths bytes
+
   -- the clauses of the contract
-  abbrev pub Clauses : Type 0
-  Clauses =
-      (reply ≡ arbitrated bytes lengths acknowledges (length entry) (length levels))
-      × ((exit ≡ carriedAfter bytes lengths acknowledges (reply .refusal) entry)
-      × ((levelsExit ≡ levelsAfter bytes lengths acknowledges (reply .refusal) levels)
-      × (reply .refusal ≡ 0
-      → shown (length lengths) reply exit levelsExit ≡ outcome (messagesOf lengths bytes) acknowledges)))
+  pub record Clauses (exit levelsExit : List ℕ) (reply : Arbitrated) : Type 0 where
+    pub replies : reply ≡ arbitrated bytes lengths acknowledges (length entry) (length levels)
+    pub carried : exit ≡ carriedAfter bytes lengths acknowledges (reply .refusal) entry
+    pub recorded : levelsExit ≡ levelsAfter bytes lengths acknowledges (reply .refusal) levels
+    pub follows : reply .refusal .number ≡ 0
+        → shown (length lengths) reply exit levelsExit ≡ outcome messages acknowledges
+    pub refuses : OnlyUndecided bytes lengths acknowledges (length entry) (length levels) (reply .refusal)
 
--- a refused reply, and the buffers as they were
-refused-clauses : (bytes lengths acknowledges entry levels : List ℕ) (number at : ℕ) (reply : Arbitrated)
-    → (number ≡ 0 → ⊥) → reply ≡ refused number at
-    → Agrees bytes lengths acknowledges (length entry) (length levels) number at
-    → Clauses bytes lengths acknowledges entry entry levels levels reply
-unfolding arbitrated carriedAfter levelsAfter refused
-refused-clauses bytes lengths acknowledges entry levels number at reply some is agrees =
-    let still : reply .refusal ≡ 0 → ⊥ = λ none. some (sym (ap (λ (r : Arbitrated). r .refusal) is) ∙ none) in (
-      rw (agrees .same, ne-eqb number 0 some, agrees .place-is) is,
-      (
-        rw (ne-eqb (reply .refusal) 0 still),
-        (rw (ne-eqb (reply .refusal) 0 still), λ none. absurd (still none)),
-      ),
-    )
+  abbrev whatApplies : Refusal
+  whatApplies = refusal bytes lengths acknowledges (length entry) (length levels)
 
-module _ (bytes lengths acknowledges : List ℕ) (found : Settled) (same : found ≡ settled bytes lengths acknowledges)
-  where
-    pub refused-before : (entry levels : List ℕ) (reply : Arbitrated) → (found .refusal ≡ 0 → ⊥)
-        → reply ≡ refused (found .refusal) (found .place)
-        → Clauses bytes lengths acknowledges entry entry levels levels reply
-    refused-before entry levels reply some is =
-        let agrees = settled-agrees bytes lengths acknowledges (length entry) (length levels) (rw same at some) in
-        refused-clauses bytes lengths acknowledges entry levels (found .refusal) (found .place) reply some is
-        (rw same agrees)
+  only-undecided : OnlyUndecided bytes lengths acknowledges (length entry) (length levels) whatApplies
+  only-undecided count sizes reading answers enough =
+      refused-by-16 bytes lengths acknowledges (length entry) (length levels) count sizes reading answers enough
 
-    -- past 12 to 16
-    module _ (none : found .refusal ≡ 0) where
-      passed : Accepts bytes lengths acknowledges (found .k)
-      passed = rw same (accepts bytes lengths acknowledges (rw same at none))
+  -- a refused reply, and the buffers as they were
+  refused-clauses : (stopped : Refusal) (reply : Arbitrated) → whatApplies ≡ stopped → (stopped .number ≡ 0 → ⊥)
+      → reply ≡ refused stopped → Clauses entry levels reply
+  unfolding arbitrated carriedAfter levelsAfter refused
+  refused-clauses stopped reply applies some is =
+      let same : reply .refusal ≡ stopped = ap (λ (r : Arbitrated). r .refusal) is in
+      let not-none = ne-eqb (stopped .number) 0 some in
+      record {
+        replies = rw (applies, not-none) is;
+        carried = rw (same, not-none);
+        recorded = rw (same, not-none);
+        follows = λ unrefused. absurd (some (sym (ap (λ (r : Refusal). r .number) same) ∙ unrefused));
+        refuses =
+            λ count sizes reading answers enough.
+            same ∙ sym applies ∙ only-undecided count sizes reading answers enough;
+      }
 
-      pub small-k : found .k ≤ maxLength
-      small-k = k-fits bytes lengths acknowledges (found .k) passed
+  abbrev room : Bool
+  room = shortBuffer (run messages acknowledges) (length entry) (length levels)
 
-      pub refused-short : (entry levels : List ℕ) (reply : Arbitrated)
-          → shortBuffer (found .k) (length entry) (length levels) ≡ true → reply ≡ refused 8 0
-          → Clauses bytes lengths acknowledges entry entry levels levels reply
-      refused-short entry levels reply short is =
-          refused-clauses bytes lengths acknowledges entry levels 8 0 reply (λ e. omega arith) is
-          (short-agrees bytes lengths acknowledges (length entry) (length levels) (found .k) passed short)
+  -- what applies: one of 12 to 16, or else 8
+  applies-is : whatApplies ≡ orElse (found bytes lengths acknowledges) (given (check 8 room ∷ []))
+  unfolding refusal
+  applies-is =
+      in-parts (messageChecks bytes lengths acknowledges) (check 8 room ∷ [])
+      (message-numbered bytes lengths acknowledges)
 
-      -- past 8, with the rows cut
-      module _ (rows : List (List ℕ)) (cut : rows ≡ rowsOf bytes lengths) (entry levels : List ℕ)
-          (enough : shortBuffer (found .k) (length entry) (length levels) ≡ false) (small : Bytes bytes) where
-        messages-are : messagesIn lengths rows ≡ messagesOf lengths bytes
-        messages-are =
-            rw cut (rows-messages bytes lengths (messages-pass bytes lengths acknowledges (found .k) passed))
+  pub refused-before : (reply : Arbitrated) → (settled bytes lengths acknowledges .refusal .number ≡ 0 → ⊥)
+      → reply ≡ refused (settled bytes lengths acknowledges .refusal) → Clauses entry levels reply
+  refused-before reply some is =
+      let same = settled-some bytes lengths acknowledges some in
+      refused-clauses (settled bytes lengths acknowledges .refusal) reply
+      (applies-is ∙ rw (← same, ne-eqb (settled bytes lengths acknowledges .refusal .number) 0 some)) some is
 
-        pub runnable : Rowed lengths rows
-            × Room (run (messagesIn lengths rows) acknowledges) acknowledges entry levels
-        runnable =
-            let room = roomy (found .k) (length entry) (length levels) enough in (
-              rw cut (rows-rowed bytes lengths (messages-pass bytes lengths acknowledges (found .k) passed)),
-              rw messages-are
-                  (run-room bytes lengths acknowledges (found .k) small passed entry levels (room .0) (room .1)),
+  -- past 12 to 16
+  module _ (small : Bytes bytes) (passes : settled bytes lengths acknowledges .refusal .number ≡ 0) where
+    abbrev k : ℕ
+    k = settled bytes lengths acknowledges .count
+
+    two : (found bytes lengths acknowledges .number ≡ 0) × (k ≡ carriedCount (least messages) acknowledges)
+    two = settled-none bytes lengths acknowledges passes
+
+    room-is : Short k (length entry) (length levels) ≡ room
+    room-is = rw (two .1) (short-is bytes lengths acknowledges small (two .0) (length entry) (length levels))
+
+    applies-8 : whatApplies ≡ given (check 8 room ∷ [])
+    applies-8 = applies-is ∙ rw (eq-eqb (found bytes lengths acknowledges .number) 0 (two .0))
+
+    pub refused-short : (reply : Arbitrated) → Short k (length entry) (length levels) ≡ true
+        → reply ≡ refused (refusedAt 8 0) → Clauses entry levels reply
+    refused-short reply too-short is =
+        refused-clauses (refusedAt 8 0) reply (applies-8 ∙ rw (← room-is, too-short)) (λ e. omega arith) is
+
+    -- the run
+    module _ (enough : Short k (length entry) (length levels) ≡ false) where
+      unrefused : whatApplies ≡ none
+      unrefused = applies-8 ∙ rw (← room-is, enough)
+
+      abbrev bus : Bus
+      bus = run messages acknowledges
+
+      roomy : (length (bus .carried) ≤ length entry) × (length (bus .levels) ≤ length levels)
+      roomy =
+          let both = neither (ltb (length entry) k) (ltb (length levels) (levelCount k)) enough in
+          let carried = carried-length bytes lengths acknowledges small (two .0) in
+          let recorded = levels-length bytes lengths acknowledges small (two .0) in (
+            omega (arith, carried, two .1, ltb-false (length entry) k (both .0)),
+            omega (arith, recorded, ap levelCount (two .1), ltb-false (length levels) (levelCount k) (both .1)),
+          )
+
+      module _ (ended : Ended) (exit levelsExit : List ℕ)
+          (reached : Reached (length lengths) (rowsOf messages) acknowledges
+          (record {
+            sequencer = first lengths;
+            table = replicate maxMasters (powerUp 0 0);
+            carried = entry;
+            levels = levels;
+          })
+          (record {
+            sequencer = ended .sequencer;
+            table = ended .modules;
+            carried = exit;
+            levels = levelsExit;
+          })) where
+        abbrev final : Turn
+        final =
+            record { sequencer = ended .sequencer; table = ended .modules; carried = exit; levels = levelsExit }
+
+        abbrev eight : List Usi
+        eight = replicate maxMasters (powerUp 0 0)
+
+        masters-few : length lengths ≤ maxMasters
+        masters-few = few bytes lengths acknowledges small (two .0)
+
+        table-enough : length lengths ≤ length eight
+        table-enough = omega (arith, masters-few, length-replicate maxMasters (powerUp 0 0))
+
+        many : length (bus .masters) ≡ length lengths
+        many =
+            ran.as-many-masters bytes lengths acknowledges masters-few
+            (short bytes lengths acknowledges small (two .0))
+            (whole bytes lengths acknowledges small (two .0)) eight table-enough entry levels (roomy .0) (roomy .1)
+            final
+            reached
+
+        sent-is : ended .sequencer .sent ≡ length (bus .carried)
+        sent-is =
+            ran.sent-is bytes lengths acknowledges masters-few (short bytes lengths acknowledges small (two .0))
+            (whole bytes lengths acknowledges small (two .0)) eight table-enough entry levels (roomy .0) (roomy .1)
+            final
+            reached
+
+        carried-is : exit ≡ filled (bus .carried) entry
+        carried-is =
+            ran.carried-is bytes lengths acknowledges masters-few (short bytes lengths acknowledges small (two .0))
+            (whole bytes lengths acknowledges small (two .0)) eight table-enough entry levels (roomy .0) (roomy .1)
+            final
+            reached
+
+        levels-are : levelsExit ≡ filled (bus .levels) levels
+        levels-are =
+            ran.levels-are bytes lengths acknowledges masters-few (short bytes lengths acknowledges small (two .0))
+            (whole bytes lengths acknowledges small (two .0)) eight table-enough entry levels (roomy .0) (roomy .1)
+            final
+            reached
+
+        modules-are : ended .modules ≡ padded (powerUp 0 0) (map (λ (m : Master). m .usi) (bus .masters))
+        modules-are =
+            let size = length-map (bus .masters) (λ (m : Master). m .usi) in
+            let left : maxMasters - length lengths
+            ≡ maxMasters - length (map (λ (m : Master). m .usi) (bus .masters)) = omega (arith, size, many) in
+            ran.table-is bytes lengths acknowledges masters-few (short bytes lengths acknowledges small (two .0))
+            (whole bytes lengths acknowledges small (two .0)) eight table-enough entry levels (roomy .0) (roomy .1)
+            final
+            reached
+            ∙ ap (λ (rest : List Usi). map (λ (m : Master). m .usi) (bus .masters) ++ rest)
+            (drop-replicate (powerUp 0 0) maxMasters (length lengths) masters-few
+            ∙ ap (λ (n : ℕ). replicate n (powerUp 0 0)) left)
+
+        seats-are : members.seats (ended .sequencer .members .contending) (ended .sequencer .members .positions)
+            (length lengths)
+            ≡ padded absent (map seatOf (bus .masters))
+        seats-are =
+            let left : maxMasters - length lengths ≡ maxMasters - length (map seatOf (bus .masters)) =
+            omega (arith, length-map (bus .masters) seatOf, many) in
+            ran.seats-are bytes lengths acknowledges masters-few (short bytes lengths acknowledges small (two .0))
+            (whole bytes lengths acknowledges small (two .0)) eight table-enough entry levels (roomy .0) (roomy .1)
+            final
+            reached
+            ∙ ap (λ (n : ℕ). map seatOf (bus .masters) ++ replicate n absent) left
+
+        replied : repliedBy ended (length lengths) ≡ answered bus
+        unfolding repliedBy answered
+        replied = rw (modules-are, sent-is, seats-are)
+
+        -- what demand 3 compares
+        fates-are : (masters : List Master) (modules : List Usi) (seats : List Seat)
+            → take (length masters)
+            (zipWith shows.fateOf (map (λ (m : Master). m .usi) masters ++ modules) (map seatOf masters ++ seats))
+            ≡ map fateOf masters
+        unfolding zipWith
+        fates-are [] modules seats = refl
+        fates-are (master ∷ masters) modules seats =
+            ap (λ (fates : List Fate). fateOf master ∷ fates) (fates-are masters modules seats)
+
+        shown-is : shown (length lengths) (answered bus) exit levelsExit ≡ observed bus
+        unfolding shown observed answered
+        shown-is =
+            let k-is : levelCount (length (bus .carried)) ≡ length (bus .levels) =
+            ap levelCount (carried-length bytes lengths acknowledges small (two .0))
+            ∙ sym (levels-length bytes lengths acknowledges small (two .0)) in
+            rw (
+              carried-is,
+              levels-are,
+              k-is,
+              take-append-seam (bus .carried) (drop (length (bus .carried)) entry),
+              take-append-seam (bus .levels) (drop (length (bus .levels)) levels),
+              ← many,
+              fates-are (bus .masters)
+                  (replicate (maxMasters - length (map (λ (m : Master). m .usi) (bus .masters))) (powerUp 0 0))
+                  (replicate (maxMasters - length (map seatOf (bus .masters))) absent),
             )
 
-        pub answered-clauses : (ended : Ended) (exit levelsExit : List ℕ) (reply : Arbitrated)
-            → Ran (run (messagesIn lengths rows) acknowledges) (length lengths) ended entry exit levels levelsExit
-            → (reply ≡ replyOf (ended .state .masters) (ended .k)) × (length (ended .state .masters) ≡ maxMasters)
-            → Clauses bytes lengths acknowledges entry exit levels levelsExit reply
-        unfolding arbitrated carriedAfter levelsAfter replyOf
-        answered-clauses ended exit levelsExit reply over gathered =
-            let bus : Bus = run (messagesOf lengths bytes) acknowledges in
-            let ran : Ran bus (length lengths) ended entry exit levels levelsExit = rw messages-are at over in
-            let few = good-count lengths (passed .count) .1 in
-            let eight = gathered .1 in
-            let all = answered-is bus (length lengths) ended entry exit levels levelsExit ran few eight in
-            let is = gathered .0 ∙ all in
-            let zero : reply .refusal ≡ 0 = ap (λ (r : Arbitrated). r .refusal) (gathered .0) in
-            let arbitration = given bytes lengths acknowledges (found .k) small passed in
-            let through =
-            not-refused bytes lengths acknowledges (length entry) (length levels) (found .k) passed enough in (
-              rw through is,
-              (
-                rw zero (carried-kept bus (length lengths) ended entry exit levels levelsExit ran few eight),
-                (
-                  rw zero (levels-kept bus (length lengths) ended entry exit levels levelsExit ran few eight),
-                  λ unrefused.
-                      shown-is bus (length lengths) ended entry exit levels levelsExit ran few eight reply is
-                      ∙ demand3 (messagesOf lengths bytes) acknowledges arbitration,
-                ),
-              ),
-            )
+        pub ran-clauses : (reply : Arbitrated) → reply ≡ repliedBy ended (length lengths)
+            → Clauses exit levelsExit reply
+        unfolding arbitrated carriedAfter levelsAfter
+        ran-clauses reply is =
+            let same : reply ≡ answered bus = is ∙ replied in
+            let no-refusal : reply .refusal ≡ none = ap (λ (r : Arbitrated). r .refusal) same ∙ answered-none in
+            let zero : whatApplies .number ≡ 0 = ap (λ (r : Refusal). r .number) unrefused in
+            record {
+              replies = rw (unrefused) same;
+              carried = rw (no-refusal) carried-is;
+              recorded = rw (no-refusal) levels-are;
+              follows =
+                  λ unrefused-so.
+                  ap (λ (r : Arbitrated). shown (length lengths) r exit levelsExit) same
+                  ∙ shown-is
+                  ∙ answered-outcome bytes lengths acknowledges (length entry) (length levels) small zero;
+              refuses =
+                  λ count sizes reading answers room-enough.
+                  no-refusal ∙ sym unrefused ∙ only-undecided count sizes reading answers room-enough;
+            }
+          where
+            answered-none : answered bus .refusal ≡ none
+            answered-none = unfold answered in refl

@@ -1,29 +1,62 @@
--- What demand 3 compares, as a reply and the two buffers show it: of the final modules only AL.
+-- What a caller sees of an arbitration, for its contract.
 use Prim.Native.Nat.{ℕ}
-use mathlib.Core.Bool.{Bool}
-use mathlib.Core.List.{List, [], _∷_}
+use mathlib.Core.Path.{_≡_}
+use mathlib.Core.Bool.{Bool, cond, false, _||_}
+use mathlib.Core.List.{List, zipWith}
+use lib.Dec.{ltb}
 use lib.ListN.{take}
 use Rattle.bits.specs.Positions.{on}
-use Rattle.usi_rules.specs.Registers.{USIAL}
+use Rattle.laws.specs.declared.Refusal.{Refusal}
+use Rattle.laws.specs.Refusals.{refusedAt, none}
+use Rattle.laws.specs.Search.{any}
+use Rattle.usi_registers.specs.Registers.{USIAL}
 use Rattle.usi.specs.declared.Usi.{Usi}
 use Rattle.arbitration_rules.specs.declared.Arbitrated.{Arbitrated}
-use Rattle.arbitration_rules.specs.Outcome.{Fate, Outcome}
-use Rattle.arbitration_rules.specs.Reply.{levelCount}
+use Rattle.arbitration_rules.specs.declared.Seat.{Seat}
+use Rattle.arbitration_rules.specs.Outcome.{Fate, Outcome, levelCount, undecided}
+use Rattle.arbitration_rules.specs.Reply.{messagesOf, badCount, badLengths, reads, badAcknowledges, shortBuffer}
+use Rattle.arbitration_rules.specs.Run.{run}
+use Rattle.arbitration_run.specs.Members.{seats}
+use Rattle.arbitration.specs.declared.table.Ended.{Ended}
 
--- the fate of each master: whether it is still in, its position, and its AL
-abbrev pub fatesOf : List Usi → List Bool → List ℕ → List Fate
-fatesOf [] contending positions = []
-fatesOf (usi ∷ modules) [] positions = []
-fatesOf (usi ∷ modules) (still ∷ contending) [] = []
-fatesOf (usi ∷ modules) (still ∷ contending) (position ∷ positions) =
-    record { contending = still; position = position; arbitrationLost = on (usi .usictl1) USIAL }
-    ∷ fatesOf modules contending positions
-
--- the k bytes, the 5 + 18k levels, and the fates of the masters that have a message
-unfoldable pub shown : ℕ → Arbitrated → List ℕ → List ℕ → Outcome
-shown count reply carried levels =
+-- the fate of a master: whether it is still in, its position, and its AL
+abbrev pub fateOf : Usi → Seat → Fate
+fateOf usi seat =
     record {
-      carried = take (reply .k) carried;
-      levels = take (levelCount (reply .k)) levels;
-      fates = take count (fatesOf (reply .modules) (reply .contending) (reply .positions));
+      contending = seat .contending;
+      position = seat .position;
+      arbitrationLost = on (usi .usictl1) USIAL;
+    }
+
+-- what demand 3 compares, as a reply and the two buffers show it: k, the k bytes, the 5 + 18k levels, and the fates of
+-- the masters that have a message
+unfoldable pub shown : ℕ → Arbitrated → List ℕ → List ℕ → Outcome
+shown masters reply carried levels =
+    record {
+      count = reply .count;
+      carried = take (reply .count) carried;
+      levels = take (levelCount (reply .count)) levels;
+      fates = take masters (zipWith fateOf (reply .modules) (reply .seats));
+    }
+
+-- where none of 12, 13, 14, 15 and 8 applies, the reply is refused exactly when 16 applies
+abbrev pub OnlyUndecided : List ℕ → List ℕ → List ℕ → ℕ → ℕ → Refusal → Type 0
+OnlyUndecided bytes lengths acknowledges carriedRoom levelRoom found =
+    badCount lengths ≡ false → badLengths bytes lengths ≡ false → any reads (messagesOf lengths bytes) ≡ false
+    → badAcknowledges lengths acknowledges ≡ false
+    → shortBuffer (run (messagesOf lengths bytes) acknowledges) carriedRoom levelRoom ≡ false
+    → found ≡ cond (undecided (messagesOf lengths bytes) acknowledges) (refusedAt 16 0) none
+
+-- a buffer is too short for so many bytes
+abbrev pub Short : ℕ → ℕ → ℕ → Bool
+Short count carriedRoom levelRoom = ltb carriedRoom count || ltb levelRoom (levelCount count)
+
+-- the reply of a run that ended so
+unfoldable pub repliedBy : Ended → ℕ → Arbitrated
+repliedBy ended count =
+    record {
+      refusal = none;
+      modules = ended .modules;
+      count = ended .sequencer .sent;
+      seats = seats (ended .sequencer .members .contending) (ended .sequencer .members .positions) count;
     }

@@ -1,50 +1,45 @@
-// The reply: of a run, and of a refusal.
+// The reply: of a refusal, and of a run.
 ghost use mathlib.Core.Path.{_≡_};
-ghost use lib.ListN.{length};
-ghost use Rattle.arbitration_rules.specs.Limits.{maxMasters};
 ghost use Rattle.arbitration_rules.specs.Reply.{refused as refusedReply};
-ghost use Rattle.arbitration.specs.Gathered.{replyOf};
+ghost use Rattle.arbitration.specs.Shown.{repliedBy};
+use crate::table::Ended;
 use arbitration_rules::Arbitrated;
 use arbitration_rules::MAX_MASTERS;
-use arbitration_rules::Master;
+use arbitration_rules::Seat;
+use laws::Refusal;
 use usi::Usi;
 
-// A refused reply.
-pub(crate) fn refused(number: u8, place: usize) -> Arbitrated
-    ensures { λ r. ⌜ r ≡ refusedReply number place ⌝ }
+// A refused reply: modules as powered up, nobody in.
+pub(crate) fn refused(refusal: Refusal) -> Arbitrated
+    ensures { λ r. ⌜ r ≡ refusedReply refusal ⌝ }
 {
+    let empty = Seat {
+        contending: false,
+        position: 0,
+    };
     Arbitrated {
-        refusal: number,
-        place,
-        modules: [Usi::power_up(0, 0); 8],
-        k: 0,
-        contending: [false; 8],
-        positions: [0u16; 8],
+        refusal,
+        modules: [Usi::power_up(0, 0); MAX_MASTERS],
+        count: 0,
+        seats: [empty; MAX_MASTERS],
     }
 }
 
-// The reply of a run that carried k bytes.
-pub(crate) fn answered(masters: [Master; 8], k: usize) -> Arbitrated
-    ensures { λ r. ⌜ (r ≡ replyOf masters k) × (length masters ≡ maxMasters) ⌝ }
+// The reply of a run of so many masters.
+pub(crate) fn answered(ended: Ended, count: usize) -> Arbitrated
+    ensures { λ r. ⌜ r ≡ repliedBy ended count ⌝ }
 {
-    let mut modules = [Usi::power_up(0, 0); 8];
-    let mut contending = [false; 8];
-    let mut positions = [0u16; 8];
-    let mut i: usize = 0;
-    while i < MAX_MASTERS {
-        let master = masters[i];
-        let usi = master.usi;
-        modules[i] = usi;
-        contending[i] = master.contending;
-        positions[i] = master.position;
-        i += 1;
-    }
+    let modules = ended.modules;
+    let sequencer = ended.sequencer;
+    let members = sequencer.members;
+    let seats = members.seats(count);
     Arbitrated {
-        refusal: 0,
-        place: 0,
+        refusal: Refusal {
+            number: 0,
+            place: 0,
+        },
         modules,
-        k,
-        contending,
-        positions,
+        count: sequencer.sent,
+        seats,
     }
 }

@@ -11,9 +11,9 @@ use lib.Dec.{eqb, lit<}
 use lib.ListN.{length}
 use borrow.Author.Tests.{eq-eqb, ne-eqb}
 use Rattle.bits.proofs.Masks.{on-bit}
-use Rattle.usi_rules.specs.Rules.{firstBit, shifted}
-use Rattle.bus_draw.specs.Encode.{byteBits}
-use Rattle.bus_theorems.proofs.Bits.{numberFrom, number-of-bits}
+use Rattle.usi_i2c.specs.Rules.{firstBit, shifted}
+use Rattle.encode.specs.Encode.{byteBits}
+use Rattle.trace_theorems.proofs.Bits.{numberFrom, number-of-bits}
 
 -- the number that bits make
 abbrev pub number : List Bool → ℕ
@@ -59,7 +59,8 @@ module _ (bit : Bool) (rest : List Bool) (seven : length rest ≡ 7) where
 
   high : number (bit ∷ rest) ≡ boolByte bit * 128 + number rest
   high =
-      number-after (0 + boolByte bit) rest ∙ ap (λ (k : ℕ). (0 + boolByte bit) * 2 ^ k + number rest) seven ∙ either bit
+      number-after (0 + boolByte bit) rest ∙ ap (λ (k : ℕ). (0 + boolByte bit) * 2 ^ k + number rest) seven ∙ either
+      bit
     where
       either : (bit : Bool) → (0 + boolByte bit) * 128 + number rest ≡ boolByte bit * 128 + number rest
       either true = refl
@@ -76,7 +77,8 @@ module _ (bit : Bool) (rest : List Bool) (seven : length rest ≡ 7) where
 
   pub shift-is : (next : Bool) → shifted (number (bit ∷ rest)) next ≡ number (rest ++ next ∷ [])
   shift-is next =
-      ap (λ (x : ℕ). x + boolByte next) (ap (λ (x : ℕ). x * 2 % 256) high ∙ either bit) ∙ sym (number-snoc 0 rest next)
+      ap (λ (x : ℕ). x + boolByte next) (ap (λ (x : ℕ). x * 2 % 256) high ∙ either bit) ∙ sym
+      (number-snoc 0 rest next)
     where
       either : (bit : Bool) → (boolByte bit * 128 + number rest) * 2 % 256 ≡ 2 * number rest
       either true = omega (arith, small)
@@ -101,7 +103,8 @@ at-most-length (true ∷ bits) (false ∷ others) h = absurd h
 at-most-length (false ∷ bits) (true ∷ others) h = ap suc h
 at-most-length (false ∷ bits) (false ∷ others) h = ap suc (at-most-length bits others h)
 
-at-most : (bits others : List Bool) → length others ≡ length bits → number bits ≤ number others → BitsAtMost bits others
+at-most : (bits others : List Bool) → length others ≡ length bits → number bits ≤ number others → BitsAtMost bits
+    others
 at-most [] [] size less = tt
 at-most [] (other ∷ others) size less = absurd (omega arith)
 at-most (bit ∷ bits) [] size less = absurd (omega arith)

@@ -8,17 +8,16 @@ use mathlib.Core.List.{List, [], _∷_, _++_, map, map-map, append-assoc, append
 use mir.Val.{boolByte}
 use lib.ListN.{length, length-append}
 use Rattle.usi.specs.declared.Usi.{Usi}
-use Rattle.bus.specs.Levels.{sda}
-use Rattle.bus_draw.specs.Encode.{drawBit, drawBits}
-use Rattle.bus_theorems.proofs.Bits.{numberFrom}
-use Rattle.arbitration_rules.specs.declared.Master.{Master}
-use Rattle.arbitration_rules.specs.declared.Operation.the-variants.{Judge}
-use Rattle.arbitration_rules.specs.Masters.{withUsi, judged}
-use Rattle.arbitration_rules.specs.Outcome.{any}
-use Rattle.arbitration_rules.specs.Run.{Bus, levelOf, every, taken as bitTaken, dataTurn, dataTurns}
-use Rattle.arbitration_rules.proofs.Lists.{Everyone, Someone, everyone-so, someone-so, everyone-map}
-use Rattle.arbitration_rules.proofs.Lists.{someone-map}
-use Rattle.arbitration_rules.proofs.Lists.{map-alike, any-none, any-one}
+use Rattle.levels.specs.Levels.{sda}
+use Rattle.encode.specs.Encode.{drawBit, drawBits}
+use Rattle.trace_theorems.proofs.Bits.{numberFrom}
+use Rattle.arbitration_rules.specs.Masters.{Master, withUsi, judged}
+use Rattle.laws.specs.Search.{any}
+use Rattle.levels.specs.Levels.{levelOf}
+use Rattle.arbitration_rules.specs.Run.{Bus, withMasters}
+use Rattle.arbitration_rules.proofs.Phases.{taken as bitTaken, dataTurn, dataTurns}
+use Rattle.laws.specs.Everyone.{Everyone, Someone}
+use Rattle.laws.proofs.Lists.{everyone-so, someone-so, everyone-map, someone-map, map-alike, any-none, any-one}
 use Rattle.arbitration_rules.proofs.Bits.{BitsAtMost, at-most-length}
 use Rattle.arbitration_rules.proofs.Wire.{busOf, turn-is}
 use Rattle.arbitration_rules.proofs.Roles.{Role, drives, lost, gone, usiOf, masterOf, contends, clocks, pulls}
@@ -54,7 +53,7 @@ module _ (n : ℕ) (taken : List Bool) (eight : suc n + length taken ≡ 8) (at 
       ≡ busOf next false (levelOf true bit) (2 * byte + boolByte bit) (levels ++ drawBit bit) carried
   unfolding dataTurn
   data-turn =
-      ap (λ bus. bitTaken (every (Judge at) bus))
+      ap (λ (bus : Bus). bitTaken (withMasters (map (judged at) (bus .masters)) bus))
       (turn-is (masterOf (suc n) taken before) roles after clocks pulls pull false bit level byte levels carried
       (everyone-so (role-turn n taken eight before bit at) sending) clocked line)
       ∙ ap₂ (λ masters b. busOf masters false (levelOf true bit) (2 * byte + boolByte b) (levels ++ samples) carried)
@@ -161,14 +160,16 @@ pub turns : (bits taken : List Bool) → length bits + length taken ≡ 8
     ≡ inByte 0 (taken ++ bits) (lineAfter line bits) (map (turnsOf at bits) roles) (numberFrom byte bits)
     (levels ++ drawBits bits) carried
 turns [] taken eight at roles line byte levels carried all some =
-    ap₂ (λ bits masters. inByte 0 bits line masters byte levels carried) (sym (append-nil taken)) (sym (map-same roles))
+    ap₂ (λ bits masters. inByte 0 bits line masters byte levels carried) (sym (append-nil taken))
+    (sym (map-same roles))
     ∙ ap end (sym (append-nil levels))
   where
     end : List ℕ → Bus
     end recording = inByte 0 (taken ++ []) line (map (λ role. role) roles) byte recording carried
 turns (bit ∷ bits) taken eight at roles line byte levels carried all some =
     ap (dataTurns (length bits) (suc at)) first
-    ∙ turns bits (taken ++ bit ∷ []) longer (suc at) later (shows bit) (2 * byte + boolByte bit) (levels ++ drawBit bit)
+    ∙ turns bits (taken ++ bit ∷ []) longer (suc at) later (shows bit) (2 * byte + boolByte bit)
+    (levels ++ drawBit bit)
     carried
     (everyone-map (turnOf at bit) (everyone-so (within-turn at bit bits) all))
     (someone-map (turnOf at bit) (someone-so (leads-turn at bit bits) some))
@@ -182,7 +183,8 @@ turns (bit ∷ bits) taken eight at roles line byte levels carried all some =
 
     end : List Bool → List Role → List ℕ → Bus
     end got masters recording =
-        inByte 0 got (lineAfter (shows bit) bits) masters (numberFrom (2 * byte + boolByte bit) bits) recording carried
+        inByte 0 got (lineAfter (shows bit) bits) masters (numberFrom (2 * byte + boolByte bit) bits) recording
+        carried
 
     first : dataTurn at (inByte (length (bit ∷ bits)) taken line roles byte levels carried)
         ≡ inByte (length bits) (taken ++ bit ∷ []) (shows bit) later (2 * byte + boolByte bit) (levels ++ drawBit bit)

@@ -2,17 +2,18 @@
 -- frame.
 use Prim.Native.Nat.{ℕ, zero, suc, _+_, _*_, _≤_, _<_, min}
 use native.Mathlib.Omega.{arith}
-use mathlib.Core.Path.{_≡_, refl, ap, sym, _∙_}
+use mathlib.Core.Path.{_≡_, refl, ap, _∙_}
 use mathlib.Core.Bool.{Bool, cond, true, false}
-use mathlib.Core.List.{List, [], _∷_, _++_, append-assoc}
+use mathlib.Core.List.{List, [], _∷_, _++_}
 use lib.Dec.{eqb}
 use borrow.Author.Tests.{lt-ltb}
 use lib.ListN.{length, take, length-append, length-take}
-use Rattle.bus_draw.specs.Events.{stopEvent}
-use Rattle.bus_draw.specs.Encode.{byteBits, drawEvent, drawEvents, drawing}
-use Rattle.arbitration_rules.specs.Outcome.{carriedCount, byteEvents, frame}
-use Rattle.arbitration_rules.specs.Reply.{levelCount}
-use Rattle.arbitration_rules.proofs.Lists.{Everyone, nobody, also}
+use Rattle.trace.specs.Events.{stopEvent}
+use Rattle.encode.specs.Encode.{drawEvent, drawEvents, drawing}
+use Rattle.encode.proofs.EventLists.{draw-append}
+use Rattle.encode.proofs.Samples.{byte-length}
+use Rattle.arbitration_rules.specs.Outcome.{carriedCount, byteEvents, frame, levelCount}
+use Rattle.laws.specs.Everyone.{Everyone, nobody, also}
 
 -- the carried bytes are as many as k says, and no more than the message has
 pub carried-count : (message acknowledges : List ℕ)
@@ -40,28 +41,18 @@ carried-too all zero = nobody
 carried-too nobody (suc count) = nobody
 carried-too (also first rest) (suc count) = also first (carried-too rest count)
 
-events-append : (events more : List ℕ) → drawEvents (events ++ more) ≡ drawEvents events ++ drawEvents more
-events-append [] more = refl
-events-append (event ∷ events) more =
-    ap (λ (levels : List ℕ). drawEvent event ++ levels) (events-append events more)
-    ∙ sym (append-assoc (drawEvent event) (drawEvents events) (drawEvents more))
-
 -- a frame: START, the bytes, STOP
 pub frame-drawn : (bytes acknowledges : List ℕ)
     → drawing (frame bytes acknowledges) ≡ 3 ∷ 1 ∷ (drawEvents (byteEvents bytes acknowledges) ++ 0 ∷ 1 ∷ 3 ∷ [])
 unfolding frame drawEvent
 frame-drawn bytes acknowledges =
-    ap (λ (levels : List ℕ). 3 ∷ 1 ∷ levels) (events-append (byteEvents bytes acknowledges) (stopEvent ∷ []))
+    ap (λ (levels : List ℕ). 3 ∷ 1 ∷ levels) (draw-append (byteEvents bytes acknowledges) (stopEvent ∷ []))
 
 -- it has 5 + 18k levels
-byte-levels : (event : ℕ) → event < 512 → length (drawEvent event) ≡ 18
-unfolding drawEvent byteBits
-byte-levels event small = rw (lt-ltb event 512 small)
-
 more-levels : (event : ℕ) (events : List ℕ) (count : ℕ) → event < 512 → length (drawEvents events) ≡ 18 * count
     → length (drawEvents (event ∷ events)) ≡ 18 * suc count
 more-levels event events count small counted =
-    length-append (drawEvent event) (drawEvents events) ∙ omega (arith, byte-levels event small)
+    length-append (drawEvent event) (drawEvents events) ∙ omega (arith, byte-length event (lt-ltb event 512 small))
 
 bytes-levels : {bytes acknowledges : List ℕ} → Everyone (λ byte. byte < 256) bytes
     → Everyone (λ acknowledge. acknowledge ≤ 1) acknowledges

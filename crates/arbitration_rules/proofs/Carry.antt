@@ -8,13 +8,14 @@ use lib.Dec.{eqb, leb, lit<}
 use lib.ListN.{length}
 use lib.Seq.{getD-append-seam}
 use borrow.Author.Tests.{le-leb, lt-leb}
-use Rattle.bus_draw.specs.Encode.{drawEvent}
-use Rattle.arbitration_rules.specs.declared.Master.{Master}
-use Rattle.arbitration_rules.specs.Outcome.{any, atMost}
-use Rattle.arbitration_rules.specs.Run.{Bus, byteTurn, through}
-use Rattle.arbitration_rules.proofs.Lists.{Everyone, nobody, also, Someone, this, another, everyone-so}
-use Rattle.arbitration_rules.proofs.Lists.{someone-so}
-use Rattle.arbitration_rules.proofs.Lists.{map-alike, any-none, any-one, any-map, zipWith-map}
+use Rattle.encode.specs.Encode.{drawEvent}
+use Rattle.arbitration_rules.specs.Masters.{Master}
+use Rattle.laws.specs.Search.{any}
+use Rattle.arbitration_rules.specs.Outcome.{atMost}
+use Rattle.arbitration_rules.specs.Run.{Bus, through}
+use Rattle.arbitration_rules.proofs.Phases.{byteTurn}
+use Rattle.laws.specs.Everyone.{Everyone, nobody, also, Someone, this, another}
+use Rattle.laws.proofs.Lists.{everyone-so, someone-so, map-alike, any-none, any-one, any-map, zipWith-map}
 use Rattle.arbitration_rules.proofs.Wire.{busOf}
 use Rattle.arbitration_rules.proofs.Standing.{Standing, standingAfter}
 use Rattle.arbitration_rules.proofs.Pause.{Pause, afterByte, isIn, masterAt, pullAt, levelAt, takenAt}
@@ -100,7 +101,8 @@ module _ (messages : List (List ℕ)) (carried : List ℕ) (byte : ℕ) (more : 
       after pull masters drawing = busOf masters pull (levelAt pause) byte (levels ++ drawing) (carried ++ byte ∷ [])
 
   -- at an index, which is how many bytes have been carried
-  pub carry-at : (index acknowledge : ℕ) → length carried ≡ index → acknowledge ≤ 1 → (before : Pause) (levels : List ℕ)
+  pub carry-at : (index acknowledge : ℕ) → length carried ≡ index → acknowledge ≤ 1 → (before : Pause)
+      (levels : List ℕ)
       → byteTurn messages index acknowledge (paused messages before carried levels)
       ≡ paused messages (afterByte byte (ninthBit acknowledge)) (carried ++ byte ∷ [])
       (levels ++ drawEvent (byte + 256 * acknowledge))

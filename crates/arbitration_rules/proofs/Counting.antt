@@ -9,8 +9,9 @@ use lib.Dec.{eqb}
 use lib.Bits.{bitOr, and-mask, and-high}
 use borrow.Author.Tests.{ne-eqb}
 use Rattle.bits.specs.Positions.{off, raise, clear}
-use Rattle.usi_rules.specs.Registers.{USIIFG, USI16B, USICNTx}
-use Rattle.usi_rules.specs.Rules.{bitCount, counting, countDown, endFlags}
+use Rattle.usi_registers.specs.Registers.{USIIFG, USI16B, USICNTx}
+use Rattle.usi_registers.specs.Rules.{bitCount, counting}
+use Rattle.usi_i2c.specs.Rules.{countDown, endFlags}
 
 -- the field CNT is the count
 count-is : (n : ℕ) → n < 32 → bitCount n ≡ n

@@ -5,11 +5,15 @@ use mathlib.Core.Path.{_≡_, refl, ap, ap₂, sym, _∙_}
 use mathlib.Core.Bool.{true, false, not}
 use mathlib.Core.List.{List, [], _∷_, _++_, map, map-map}
 use lib.ListN.{length, take, drop, take-append-drop}
-use Rattle.bus_draw.specs.Encode.{drawEvents, drawing}
-use Rattle.arbitration_rules.specs.declared.Master.{Master}
+use Rattle.encode.specs.Encode.{drawEvents, drawing}
+use Rattle.arbitration_rules.specs.Masters.{Master}
 use Rattle.arbitration_rules.specs.Outcome.{least, carriedCount, carriedOf, byteEvents, frame, outcome}
-use Rattle.arbitration_rules.specs.Run.{Bus, levelOf, bytesTurn, stopped, run, fateOf, observed}
-use Rattle.arbitration_rules.proofs.Lists.{Everyone, Someone, everyone, everyone-so, someone-so, map-alike}
+use Rattle.arbitration_rules.specs.Outcome.{Fate, Outcome, lossFrom, fate}
+use Rattle.levels.specs.Levels.{levelOf}
+use Rattle.arbitration_rules.specs.Run.{Bus, run, fateOf, observed}
+use Rattle.arbitration_rules.proofs.Phases.{bytesTurn, stopped, run-is}
+use Rattle.laws.specs.Everyone.{Everyone, Someone}
+use Rattle.laws.proofs.Lists.{everyone, everyone-so, someone-so, map-alike}
 use Rattle.arbitration_rules.proofs.Wire.{busOf}
 use Rattle.arbitration_rules.proofs.Pause.{afterStart, isIn, standingAs}
 use Rattle.arbitration_rules.proofs.Ends.{start-is, finalUsi, stop-is}
@@ -17,7 +21,7 @@ use Rattle.arbitration_rules.proofs.Against.{against, owner-in}
 use Rattle.arbitration_rules.proofs.LeastMessage.{least-at-most, least-among, least-too}
 use Rattle.arbitration_rules.proofs.Carry.{Bytes, Contest, paused}
 use Rattle.arbitration_rules.proofs.Loop.{Carried, carries}
-use Rattle.arbitration_rules.proofs.Carried.{frame-drawn}
+use Rattle.arbitration_rules.proofs.Carried.{carried-count, frame-drawn}
 use Rattle.arbitration_rules.proofs.Fates.{final-fate}
 
 -- a message that can be sent: bytes, at least one, and an acknowledge for each
@@ -52,7 +56,6 @@ run-ends : (messages : List (List ℕ)) (acknowledges winner : List ℕ) → Con
     → Sendable acknowledges winner
     → Everyone (λ acknowledge. acknowledge ≤ 1) acknowledges
     → Ended (run messages acknowledges) messages (take (carriedCount winner acknowledges) winner) acknowledges
-unfolding run
 run-ends messages acknowledges [] contest sendable bits = absurd (omega (arith, sendable .some))
 run-ends messages acknowledges (byte ∷ more) contest sendable bits =
     record {
@@ -77,7 +80,8 @@ run-ends messages acknowledges (byte ∷ more) contest sendable bits =
         ≡ busOf final false 3 (over .last) (3 ∷ 1 ∷ (drawEvents (byteEvents carried acknowledges) ++ 0 ∷ 1 ∷ 3 ∷ []))
         carried
     whole =
-        ap (λ bus. stopped (bytesTurn messages acknowledges 0 bus)) (start-is messages (contest .sent))
+        run-is messages acknowledges
+        ∙ ap (λ bus. stopped (bytesTurn messages acknowledges 0 bus)) (start-is messages (contest .sent))
         ∙ ap stopped (over .is)
         ∙ stop-is messages (against 0 carried) (over .last) (over .ninth) (not (over .ninth))
         (levelOf true (over .ninth))
@@ -107,19 +111,32 @@ ended messages acknowledges given =
     run-ends messages acknowledges (least messages) (contest messages given) (least-sendable messages given)
     (given .bits)
 
-pub demand3 : (messages : List (List ℕ)) (acknowledges : List ℕ) → Arbitration messages acknowledges
+-- the carried bytes are k
+pub carried-length : (messages : List (List ℕ)) (acknowledges : List ℕ)
+    → length (carriedOf messages acknowledges) ≡ carriedCount (least messages) acknowledges
+unfolding carriedOf
+carried-length messages acknowledges = carried-count (least messages) acknowledges
+
+-- what a run shows is what follows from messages and acknowledges alone
+pub run-shows-outcome : (messages : List (List ℕ)) (acknowledges : List ℕ) → Arbitration messages acknowledges
     → observed (run messages acknowledges) ≡ outcome messages acknowledges
 unfolding observed outcome
-demand3 messages acknowledges given =
+run-shows-outcome messages acknowledges given =
     let end = ended messages acknowledges given in
-    ap₂
-    (λ carried levels.
-    record { carried = carried; levels = levels; fates = map fateOf (run messages acknowledges .masters) })
-    (end .bytes) (end .levels)
-    ∙ ap (λ fates. record { carried = carried; levels = drawing (frame carried acknowledges); fates = fates })
-    (ap (map fateOf) (end .masters)
+    let fates : map fateOf (run messages acknowledges .masters) ≡ fatesOf carried =
+    ap (map fateOf) (end .masters)
     ∙ map-map fateOf (λ message. standingAs finalUsi (against 0 carried message)) messages
-    ∙ map-alike (everyone (λ message. final-fate 0 carried message) messages))
+    ∙ map-alike (everyone (λ message. final-fate 0 carried message) messages) in
+    ap₂ (λ bytes levels. shows (length bytes) bytes levels (map fateOf (run messages acknowledges .masters)))
+    (end .bytes) (end .levels)
+    ∙ ap₂ (λ count now. shows count carried (drawing (frame carried acknowledges)) now)
+    (carried-length messages acknowledges) fates
   where
     carried : List ℕ
     carried = carriedOf messages acknowledges
+
+    fatesOf : List ℕ → List Fate
+    fatesOf carried = map (λ message. fate (lossFrom 0 carried message)) messages
+
+    shows : ℕ → List ℕ → List ℕ → List Fate → Outcome
+    shows count bytes levels fates = record { count = count; carried = bytes; levels = levels; fates = fates }

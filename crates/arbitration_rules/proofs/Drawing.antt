@@ -4,8 +4,8 @@ use native.Mathlib.Omega.{arith}
 use mathlib.Core.Path.{_≡_, sym}
 use mathlib.Core.Bool.{true, false}
 use mathlib.Core.List.{[], _∷_, _++_}
-use Rattle.bus_draw.specs.Encode.{byteBits, drawBits, drawEvent}
-use Rattle.bus_draw.proofs.Drawn.{draw-byte}
+use Rattle.encode.specs.Encode.{byteBits, drawBits, drawEvent}
+use Rattle.encode.proofs.Drawn.{draw-byte}
 use Rattle.arbitration_rules.proofs.Round.{ninthBit}
 
 pub byte-drawn : (byte acknowledge : ℕ) → byte < 256 → acknowledge ≤ 1

@@ -4,17 +4,18 @@ use mathlib.Core.Path.{_≡_, refl, ap, _∙_}
 use mathlib.Core.Bool.{Bool, true, false, not}
 use mathlib.Core.List.{List, [], _∷_, _++_, map, append-assoc}
 use lib.Dec.{lit<}
-use Rattle.usi_rules.specs.Registers.{USICTL0, USICTL1, USICKCTL, USICNT, USISRL}
-use Rattle.usi_rules.specs.Rules as rules
-use Rattle.usi_rules.specs.Rules.{countFlags, conditionFlags, conditionCount}
+use Rattle.usi_registers.specs.Registers.{USICTL0, USICTL1, USICKCTL, USICNT, USISRL}
+use Rattle.usi_registers.specs.Rules.{countFlags}
+use Rattle.usi_i2c.specs.Rules.{conditionFlags, conditionCount}
 use Rattle.usi.specs.declared.Usi.{Usi}
 use Rattle.usi.specs.Module.{pullsScl, pullsSda}
 use Rattle.usi.specs.Step.{followed, settled, writeByte, edged, fallen, risen, sample}
-use Rattle.arbitration_rules.specs.declared.Master.{Master}
-use Rattle.arbitration_rules.specs.Masters.{withUsi, entering, written}
-use Rattle.arbitration_rules.specs.Outcome.{any}
-use Rattle.arbitration_rules.specs.Run.{Bus, writes, recorded, bitTurn, prepared, started, stopped}
-use Rattle.arbitration_rules.proofs.Lists.{Someone, everyone, someone-so, map-alike, any-none, any-one}
+use Rattle.arbitration_rules.specs.Masters.{Master, withUsi, entering, applied}
+use Rattle.arbitration_rules.proofs.Phases.{writes, recorded, bitTurn, prepared, started, stopped}
+use Rattle.laws.specs.Search.{any}
+use Rattle.arbitration_rules.specs.Run.{Bus}
+use Rattle.laws.specs.Everyone.{Someone}
+use Rattle.laws.proofs.Lists.{everyone, someone-so, map-alike, any-none, any-one}
 use Rattle.arbitration_rules.proofs.Turn.{between, samples, Turns}
 use Rattle.arbitration_rules.proofs.Wire.{busOf, record-all, turn-is, writesOf, writes-all}
 use Rattle.arbitration_rules.proofs.Registers.{driving, released, driving-turn, released-turn}
@@ -71,13 +72,13 @@ module _ {P : List ℕ → Type 0} (messages : List (List ℕ)) (one : Someone P
   same usi level levels = busOf (map (alike usi) messages) false level 0 levels []
 
   first-sample : recorded (same ready 0 []) ≡ same seen 3 (3 ∷ [])
-  unfolding written writeByte settled followed edged sample
+  unfolding applied writeByte settled followed edged sample
   first-sample =
       record-all (alike ready) messages (λ message. ready) false 0 0 [] [] true true (ap not nobody-pulls)
       (ap not nobody-pulls)
 
   pulls-low : writes pullLow (same seen 3 (3 ∷ [])) ≡ same pulling 3 (3 ∷ [])
-  unfolding written writeByte settled followed
+  unfolding applied writeByte settled followed
   pulls-low = writes-all pullLow (alike seen) messages false 3 0 (3 ∷ []) []
 
   start-sample : recorded (same pulling 3 (3 ∷ [])) ≡ same caught 1 (3 ∷ 1 ∷ [])
@@ -88,12 +89,12 @@ module _ {P : List ℕ → Type 0} (messages : List (List ℕ)) (one : Someone P
 
   clears-start : writes clearStart (same caught 1 (3 ∷ 1 ∷ []))
       ≡ busOf (waits afterStart (λ message. stays) messages) false 1 0 (3 ∷ 1 ∷ []) []
-  unfolding written writeByte settled followed
+  unfolding applied writeByte settled followed
   clears-start = writes-all clearStart (alike caught) messages false 1 0 (3 ∷ 1 ∷ []) []
 
   pub start-is : started (prepared messages)
       ≡ busOf (waits afterStart (λ message. stays) messages) false 1 0 (3 ∷ 1 ∷ []) []
-  unfolding started prepared written writeByte settled followed
+  unfolding started prepared applied writeByte settled followed
   start-is =
       ap (λ bus. writes clearStart (recorded (writes pullLow (recorded bus))))
       (writes-all prepare (λ message. entering) messages false 0 0 [] [])
@@ -128,13 +129,13 @@ stop-turn pause (out register latch position) = released-turn register latch (sd
 prepares-stop : (byte : ℕ) (ninth : Bool) (standing : Standing)
     → writesOf sendLow (masterAt (afterByte byte ninth) standing)
     ≡ standingAs (lastBit (afterByte byte ninth)) standing
-unfolding written writeByte settled followed countFlags
+unfolding applied writeByte settled followed countFlags
 prepares-stop byte ninth stays = refl
 prepares-stop byte ninth (out register latch position) = refl
 
 releases : (standing : Standing)
     → writesOf letRise (standingAs lowBit standing) ≡ standingAs letsRise standing
-unfolding written writeByte settled followed
+unfolding applied writeByte settled followed
 releases stays = refl
 releases (out register latch position) = refl
 
@@ -149,7 +150,7 @@ quiet-sda (out register latch position) = refl
 sees-stop : (standing : Standing)
     → writesOf finish (withUsi (samples true true (letsRise standing)) (standingAs letsRise standing))
     ≡ standingAs finalUsi standing
-unfolding written writeByte settled followed conditionFlags conditionCount edged fallen risen sample
+unfolding applied writeByte settled followed conditionFlags conditionCount edged fallen risen sample
 sees-stop stays = refl
 sees-stop (out register latch position) = refl
 
@@ -163,7 +164,8 @@ module _ (messages : List (List ℕ)) (standing : List ℕ → Standing) (byte :
   sends-low : writes sendLow (busOf (waits (afterByte byte ninth) standing messages) pull level old levels carried)
       ≡ allAs (lastBit (afterByte byte ninth)) pull level levels
   sends-low =
-      writes-all sendLow (λ message. masterAt (afterByte byte ninth) (standing message)) messages pull level old levels
+      writes-all sendLow (λ message. masterAt (afterByte byte ninth) (standing message)) messages pull level old
+      levels
       carried
       ∙ ap (λ masters. busOf masters pull level old levels carried)
       (map-alike (everyone (λ message. prepares-stop byte ninth (standing message)) messages))
@@ -189,7 +191,8 @@ module _ (messages : List (List ℕ)) (standing : List ℕ → Standing) (byte :
       ≡ allAs finalUsi false 3 (levels ++ 0 ∷ 1 ∷ [] ++ 3 ∷ [])
   stop-sample =
       ap (writes finish)
-      (record-all (λ message. standingAs letsRise (standing message)) messages (λ message. letsRise (standing message))
+      (record-all (λ message. standingAs letsRise (standing message)) messages
+      (λ message. letsRise (standing message))
       false 1 old (levels ++ 0 ∷ 1 ∷ []) carried true true
       (ap not (any-none (everyone (λ message. quiet-scl (standing message)) messages)))
       (ap not (any-none (everyone (λ message. quiet-sda (standing message)) messages))))

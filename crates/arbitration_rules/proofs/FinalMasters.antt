@@ -9,12 +9,13 @@ use lib.Dec.{eqb}
 use lib.ListN.{length, getD}
 use Rattle.usi.specs.Module.{pullsScl, pullsSda}
 use Rattle.bits.specs.Positions.{isSet}
-use Rattle.bus_draw.specs.Encode.{byteBits}
-use Rattle.arbitration_rules.specs.declared.Master.{Master}
+use Rattle.encode.specs.Encode.{byteBits}
+use Rattle.arbitration_rules.specs.Masters.{Master}
 use Rattle.arbitration_rules.specs.Outcome.{unequalBit, positionIn, lossFrom, carriedOf}
 use Rattle.arbitration_rules.specs.Run.{run}
 use Rattle.arbitration_rules.specs.Final.{finalUsi, finalAs, finalMaster}
-use Rattle.arbitration_rules.proofs.Lists.{Everyone, everyone, everyone-map, map-alike}
+use Rattle.laws.specs.Everyone.{Everyone}
+use Rattle.laws.proofs.Lists.{everyone, everyone-map, map-alike}
 use Rattle.arbitration_rules.proofs.Standing.{out}
 use Rattle.arbitration_rules.proofs.Pause.{standingAs}
 use Rattle.arbitration_rules.proofs.Ends.{finalUsi as usiAtEnd}

@@ -9,21 +9,25 @@ use lib.Dec.{eqb, ltb}
 use lib.ListN.{length, length-append}
 use borrow.Author.Tests.{eq-eqb, eqb-true, le-ltb, lt-ltb}
 use Rattle.bits.specs.Positions.{isSet}
-use Rattle.bus_draw.specs.Encode.{drawEvent}
-use Rattle.arbitration_rules.specs.declared.Master.{Master}
-use Rattle.arbitration_rules.specs.Outcome.{any, least, allAcknowledged, begins, positionIn, unsettled}
-use Rattle.arbitration_rules.specs.Run.{Bus, byteTurn, bytesTurn, prepared, started}
-use Rattle.arbitration_rules.proofs.Lists.{Everyone, also, Someone, everyone-so, someone-so}
-use Rattle.arbitration_rules.proofs.Lists.{any-none, any-one, any-map, zipWith-map}
+use Rattle.encode.specs.Encode.{drawEvent}
+use Rattle.arbitration_rules.specs.Masters.{Master}
+use Rattle.laws.specs.Search.{any}
+use Rattle.arbitration_rules.specs.Outcome.{least, allAcknowledged, begins, positionIn, undecided}
+use Rattle.arbitration_rules.specs.Run as script
+use Rattle.arbitration_rules.specs.Run.{Bus, perform, powered, run}
+use Rattle.arbitration_rules.proofs.Phases.{byteTurn, bytesTurn, prepared, started}
+use Rattle.arbitration_rules.proofs.Phases.{stopped, start-is, stop-is, byte-turn-is, run-is}
+use Rattle.laws.specs.Everyone.{Everyone, also, Someone}
+use Rattle.laws.proofs.Lists.{everyone-so, someone-so, any-none, any-one, any-map, zipWith-map}
 use Rattle.arbitration_rules.proofs.Standing.{Standing, out}
 use Rattle.arbitration_rules.proofs.Pause.{Pause, afterStart, afterByte, isIn, masterAt}
 use Rattle.arbitration_rules.proofs.Round.{waits}
 use Rattle.arbitration_rules.proofs.Against.{against, owner-in}
-use Rattle.arbitration_rules.proofs.Ends.{start-is}
+use Rattle.arbitration_rules.proofs.Ends.{start-is as started-is}
 use Rattle.arbitration_rules.proofs.Carry.{Contest, paused, carry-at, all-sent, more-to-send}
 use Rattle.arbitration_rules.proofs.Loop.{stops-here, continues, longer, on}
 use Rattle.arbitration_rules.proofs.Demand.{Sendable, Arbitration, contest, least-sendable}
-use Rattle.arbitration_rules.proofs.Unsettled.{none-goes-on}
+use Rattle.arbitration_rules.proofs.Undecided.{none-goes-on}
 use Rattle.arbitration_rules.proofs.Together.{behind}
 
 -- step 2 until answer 1 or until nobody still in has bytes to come
@@ -76,33 +80,34 @@ ends-there index (byte ∷ winner) (own ∷ message) apart still =
     go false same still rest = absurd (false≢true still)
 
 -- where the least message is sent, nobody still in has more; before that, its owner has
-module _ (messages : List (List ℕ)) (carried : List ℕ) (count : ℕ) (sent : length carried ≡ count) (pause : Pause) where
-  none-behind : Everyone (λ message. begins carried message ≡ false) messages
-      → behind messages count (waits pause (against 0 carried) messages) ≡ false
-  none-behind apart =
-      behind-is messages (against 0 carried) pause count
-      ∙ any-none (everyone-so (λ message no-more. go message no-more (isIn (against 0 carried message)) refl) apart)
-    where
-      go : (message : List ℕ) → begins carried message ≡ false → (still : Bool)
-          → isIn (against 0 carried message) ≡ still → still && ltb count (length message) ≡ false
-      go message no-more true still =
-          let within : length message ≤ length carried = ends-there 0 carried message no-more still in
-          le-ltb count (length message) (omega arith)
-      go message no-more false still = refl
+module _ (messages : List (List ℕ)) (carried : List ℕ) (count : ℕ) (sent : length carried ≡ count) (pause : Pause)
+  where
+    none-behind : Everyone (λ message. begins carried message ≡ false) messages
+        → behind messages count (waits pause (against 0 carried) messages) ≡ false
+    none-behind apart =
+        behind-is messages (against 0 carried) pause count
+        ∙ any-none (everyone-so (λ message no-more. go message no-more (isIn (against 0 carried message)) refl) apart)
+      where
+        go : (message : List ℕ) → begins carried message ≡ false → (still : Bool)
+            → isIn (against 0 carried message) ≡ still → still && ltb count (length message) ≡ false
+        go message no-more true still =
+            let within : length message ≤ length carried = ends-there 0 carried message no-more still in
+            le-ltb count (length message) (omega arith)
+        go message no-more false still = refl
 
-  owner-behind : (byte : ℕ) (more : List ℕ) → Someone (λ message. message ≡ carried ++ byte ∷ more) messages
-      → behind messages count (waits pause (against 0 carried) messages) ≡ true
-  owner-behind byte more some =
-      behind-is messages (against 0 carried) pause count
-      ∙ any-one (someone-so (λ message same. ap in-and-behind same ∙ owner) some)
-    where
-      in-and-behind : List ℕ → Bool
-      in-and-behind message = isIn (against 0 carried message) && ltb count (length message)
+    owner-behind : (byte : ℕ) (more : List ℕ) → Someone (λ message. message ≡ carried ++ byte ∷ more) messages
+        → behind messages count (waits pause (against 0 carried) messages) ≡ true
+    owner-behind byte more some =
+        behind-is messages (against 0 carried) pause count
+        ∙ any-one (someone-so (λ message same. ap in-and-behind same ∙ owner) some)
+      where
+        in-and-behind : List ℕ → Bool
+        in-and-behind message = isIn (against 0 carried message) && ltb count (length message)
 
-      owner : in-and-behind (carried ++ byte ∷ more) ≡ true
-      owner =
-          ap₂ _&&_ (owner-in 0 carried (byte ∷ more))
-          (lt-ltb count (length (carried ++ byte ∷ more)) (omega (arith, length-append carried (byte ∷ more))))
+        owner : in-and-behind (carried ++ byte ∷ more) ≡ true
+        owner =
+            ap₂ _&&_ (owner-in 0 carried (byte ∷ more))
+            (lt-ltb count (length (carried ++ byte ∷ more)) (omega (arith, length-append carried (byte ∷ more))))
 
 -- so both loops end with the same byte
 same-loop : (messages : List (List ℕ)) (acknowledges : List ℕ) (index : ℕ) (carried : List ℕ) (byte : ℕ)
@@ -140,11 +145,11 @@ same-loop messages (suc (suc acknowledge) ∷ acknowledges) index carried byte m
     (also one ones) apart =
     absurd (omega arith)
 
-pub either-reading : (messages : List (List ℕ)) (acknowledges : List ℕ) → Arbitration messages acknowledges
-    → unsettled messages acknowledges ≡ false
+bytes-same : (messages : List (List ℕ)) (acknowledges : List ℕ) → Arbitration messages acknowledges
+    → undecided messages acknowledges ≡ false
     → bytesTurnAll messages acknowledges 0 (started (prepared messages))
     ≡ bytesTurn messages acknowledges 0 (started (prepared messages))
-either-reading messages acknowledges given settled =
+bytes-same messages acknowledges given settled =
     go (least messages) (contest messages given) (least-sendable messages given)
     (none-goes-on messages acknowledges settled)
   where
@@ -155,5 +160,39 @@ either-reading messages acknowledges given settled =
     go [] contest sendable apart = absurd (omega (arith, sendable .some))
     go (byte ∷ more) contest sendable apart =
         subst (λ bus. bytesTurnAll messages acknowledges 0 bus ≡ bytesTurn messages acknowledges 0 bus)
-        (sym (start-is messages (contest .sent)))
+        (sym (started-is messages (contest .sent)))
         (same-loop messages acknowledges 0 [] byte more afterStart (3 ∷ 1 ∷ []) contest refl (given .bits) apart)
+
+-- the same loop over the scripts of Run.antt
+abbrev pub bytesAll : List (List ℕ) → List ℕ → ℕ → Bus → Bus
+bytesAll messages [] index bus = bus
+bytesAll messages (acknowledge ∷ acknowledges) index bus =
+    let after = perform messages (script.byteTurn index acknowledge) bus in
+    let rest = bytesAll messages acknowledges (suc index) after in
+    cond (eqb acknowledge 1 || not (behind messages (suc index) (after .masters))) after rest
+
+bytes-all-is : (messages : List (List ℕ)) (acknowledges : List ℕ) (index : ℕ) (bus : Bus)
+    → bytesAll messages acknowledges index bus ≡ bytesTurnAll messages acknowledges index bus
+bytes-all-is messages [] index bus = refl
+bytes-all-is messages (acknowledge ∷ acknowledges) index bus =
+    ap (λ (after : Bus).
+    cond (eqb acknowledge 1 || not (behind messages (suc index) (after .masters))) after
+    (bytesAll messages acknowledges (suc index) after)) (byte-turn-is messages index acknowledge bus)
+    ∙ ap (λ (rest : Bus).
+    cond (eqb acknowledge 1 || not (behind messages (suc index) (byteTurn messages index acknowledge bus .masters)))
+    (byteTurn messages index acknowledge bus) rest)
+    (bytes-all-is messages acknowledges (suc index) (byteTurn messages index acknowledge bus))
+
+-- either reading of "the last byte" is the same run
+pub either-reading : (messages : List (List ℕ)) (acknowledges : List ℕ) → Arbitration messages acknowledges
+    → undecided messages acknowledges ≡ false
+    → perform messages script.stop
+    (bytesAll messages acknowledges 0 (perform messages (script.setUp ++ script.start) (powered messages)))
+    ≡ run messages acknowledges
+either-reading messages acknowledges given decided =
+    stop-is messages _
+    ∙ ap stopped
+    (ap (bytesAll messages acknowledges 0) (start-is messages)
+    ∙ bytes-all-is messages acknowledges 0 (started (prepared messages))
+    ∙ bytes-same messages acknowledges given decided)
+    ∙ sym (run-is messages acknowledges)

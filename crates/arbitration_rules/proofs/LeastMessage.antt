@@ -7,8 +7,8 @@ use mathlib.Core.List.{List, [], _∷_}
 use lib.Dec.{eqb, ltb}
 use borrow.Author.Tests.{eq-eqb, eqb-true, eqb-false, ltb-true, ltb-false, lt-ltb, le-ltb}
 use Rattle.arbitration_rules.specs.Outcome.{atMost, lesser, leastFrom, least}
-use Rattle.arbitration_rules.proofs.Lists.{Everyone, nobody, also, everyone-so, someone-both, Someone, this}
-use Rattle.arbitration_rules.proofs.Lists.{another}
+use Rattle.laws.specs.Everyone.{Everyone, nobody, also, Someone, this, another}
+use Rattle.laws.proofs.Lists.{everyone-so, someone-both}
 
 -- a message is at most another: it begins it, or the first bytes decide, or they are equal and leave it to the rest
 pub data AtMost : List ℕ → List ℕ → Type 0 where

@@ -1,5 +1,6 @@
 -- in the order of the argument: lists; one module, one turn; a byte; START and STOP; all bytes; what follows
-pub mod Lists
+pub mod Phases
+pub mod Unrefused
 pub mod Counting
 pub mod Turn
 pub mod Registers
@@ -21,8 +22,7 @@ pub mod Fates
 pub mod Demand
 pub mod FinalMasters
 pub mod RecordedLevels
-pub mod Unsettled
+pub mod Undecided
 pub mod Together
 pub mod LastByte
 pub mod Accepted
-pub mod Worked

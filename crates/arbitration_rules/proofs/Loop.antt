@@ -8,10 +8,11 @@ use mathlib.Core.Bool.{Bool, cond, true, false, _||_}
 use mathlib.Core.List.{List, [], _∷_, _++_, append-assoc, append-nil}
 use lib.Dec.{eqb}
 use lib.ListN.{length, take, length-append}
-use Rattle.bus_draw.specs.Encode.{drawEvent, drawEvents}
+use Rattle.encode.specs.Encode.{drawEvent, drawEvents}
 use Rattle.arbitration_rules.specs.Outcome.{carriedCount, byteEvents}
-use Rattle.arbitration_rules.specs.Run.{Bus, byteTurn, through, bytesTurn}
-use Rattle.arbitration_rules.proofs.Lists.{Everyone, also}
+use Rattle.arbitration_rules.specs.Run.{Bus, through}
+use Rattle.arbitration_rules.proofs.Phases.{byteTurn, bytesTurn}
+use Rattle.laws.specs.Everyone.{Everyone, also}
 use Rattle.arbitration_rules.proofs.Pause.{Pause, afterByte}
 use Rattle.arbitration_rules.proofs.Round.{ninthBit}
 use Rattle.arbitration_rules.proofs.Carry.{Contest, paused, carry-at, all-sent, more-to-send}
@@ -103,7 +104,8 @@ carries messages (zero ∷ acknowledges) index carried byte [] pause levels cont
     (all-sent messages (carried ++ byte ∷ []) (suc index) (afterByte byte false) contest
     (longer carried byte index at)))
     (ends messages carried byte 0 acknowledges levels)
-carries messages (zero ∷ acknowledges) index carried byte (next ∷ more) pause levels contest at (also one ones) enough =
+carries messages (zero ∷ acknowledges) index carried byte (next ∷ more) pause levels contest at (also one ones) enough
+    =
     let later = on carried byte next more contest in
     let counted = longer carried byte index at in
     from

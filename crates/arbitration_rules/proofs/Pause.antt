@@ -5,15 +5,15 @@ use native.Mathlib.Omega.{arith}
 use mathlib.Core.Path.{_≡_, refl, ap, sym, _∙_}
 use mathlib.Core.Bool.{Bool, true, false, not}
 use mathlib.Core.List.{List, [], _∷_, append-nil}
-use Rattle.usi_rules.specs.Registers.{USICTL0, USICNT, USISRL}
-use Rattle.usi_rules.specs.Rules as rules
-use Rattle.usi_rules.specs.Rules.{countFlags}
+use Rattle.usi_registers.specs.Registers.{USICTL0, USICNT, USISRL}
+use Rattle.usi_i2c.specs.Rules as rules
+use Rattle.usi_registers.specs.Rules.{countFlags}
 use Rattle.usi.specs.declared.Usi.{Usi}
 use Rattle.usi.specs.Step.{followed, settled, writeByte}
-use Rattle.bus_draw.specs.Encode.{byteBits}
-use Rattle.arbitration_rules.specs.declared.Master.{Master}
-use Rattle.arbitration_rules.specs.Masters.{withUsi, written, withdrawn}
-use Rattle.arbitration_rules.specs.Run.{levelOf}
+use Rattle.encode.specs.Encode.{byteBits}
+use Rattle.arbitration_rules.specs.Masters.{Master, withUsi, applied}
+use Rattle.arbitration_rules.proofs.Phases.{written, withdrawn}
+use Rattle.levels.specs.Levels.{levelOf}
 use Rattle.arbitration_rules.proofs.Bits.{number, number-bits}
 use Rattle.arbitration_rules.proofs.Turn.{between, Turns}
 use Rattle.arbitration_rules.proofs.Registers.{driving, released, listening, listening-turn, released-turn}
@@ -79,14 +79,19 @@ masterAt pause standing = standingAs (usiAt pause) standing
 pub loads : (pause : Pause) (own : ℕ) (standing : Standing) → own < 256
     → written USICNT 0x08 (written USICTL0 0xca (written USISRL own (masterAt pause standing)))
     ≡ masterOf 8 [] (sdaAt pause) (entersAs (latchAt pause) (enableAt pause) own standing)
-unfolding written writeByte settled followed countFlags
+unfolding applied writeByte settled followed countFlags
 loads afterStart own stays small =
     ap
     (λ r. record { usi = driving 8 r false true false; contending = true; lost = false; position = 0 })
     (sym (ap number (append-nil (byteBits own)) ∙ number-bits own small))
 loads (afterByte byte ninth) own stays small =
     ap
-    (λ r. record { usi = driving 8 r (rules.firstBit byte) false ninth; contending = true; lost = false; position = 0 })
+    (λ r. record {
+      usi = driving 8 r (rules.firstBit byte) false ninth;
+      contending = true;
+      lost = false;
+      position = 0;
+    })
     (sym (ap number (append-nil (byteBits own)) ∙ number-bits own small))
 loads afterStart own (out register latch position) small = refl
 loads (afterByte byte ninth) own (out register latch position) small = refl
@@ -109,7 +114,7 @@ listener byte sda role =
 pub listens : (taken : List Bool) (sda : Bool) (role : Role) → Sending 0 role
     → written USICNT 0x01 (written USICTL0 0xc8 (withdrawn (masterOf 0 taken sda role)))
     ≡ listener (number taken) sda role
-unfolding written withdrawn writeByte settled followed countFlags
+unfolding applied writeByte settled followed countFlags
 listens taken sda (drives [] latch enable) sent = refl
 listens taken sda (drives (bit ∷ rest) latch enable) sent = absurd (omega arith)
 listens taken sda (lost [] latch position) sent = refl

@@ -7,15 +7,14 @@ use mathlib.Core.List.{List, [], _∷_, _++_}
 use lib.Dec.{eqb}
 use lib.ListN.{length}
 use borrow.Author.Tests.{lt-ltb}
-use Rattle.bus_draw.specs.declared.Position.the-variants.{Between, Opened, Within, Broken}
-use Rattle.bus_draw.specs.Events.{repeatedStartEvent, stopEvent}
-use Rattle.bus_draw.specs.Complete.{advance, completeFrom, complete}
-use Rattle.bus.specs.Decode.{events, final}
-use Rattle.bus_theorems.proofs.ReadBack.{events-back, frame-closed}
-use Rattle.arbitration_rules.specs.Outcome.{least, carriedCount, carriedOf, byteEvents, frame}
+use Rattle.encode.specs.declared.Position.the-variants.{Between, Opened, Within, Broken}
+use Rattle.trace.specs.Events.{repeatedStartEvent, stopEvent}
+use Rattle.encode.specs.Complete.{advance, completeFrom, complete}
+use Rattle.decode.specs.Decode.{events, final}
+use Rattle.trace_theorems.proofs.ReadBack.{events-back, frame-closed}
+use Rattle.arbitration_rules.specs.Outcome.{least, carriedCount, carriedOf, byteEvents, frame, levelCount}
 use Rattle.arbitration_rules.specs.Run.{run}
-use Rattle.arbitration_rules.specs.Reply.{levelCount}
-use Rattle.arbitration_rules.proofs.Lists.{Everyone, nobody, also}
+use Rattle.laws.specs.Everyone.{Everyone, nobody, also}
 use Rattle.arbitration_rules.proofs.Carried.{carried-count, carried-too, level-count}
 use Rattle.arbitration_rules.proofs.Demand.{Arbitration, ended, least-sendable}
 
@@ -28,7 +27,8 @@ next-byte : (event : ℕ) → event < 512 → advance Within event ≡ Within
 unfolding advance
 next-byte event small =
     ap
-    (λ byte. cond byte Within (cond (eqb event repeatedStartEvent) Opened (cond (eqb event stopEvent) Between Broken)))
+    (λ byte. cond byte Within (cond (eqb event repeatedStartEvent) Opened
+    (cond (eqb event stopEvent) Between Broken)))
     (lt-ltb event 512 small)
 
 bytes-within : {bytes acknowledges : List ℕ} → Everyone (λ byte. byte < 256) bytes

@@ -5,22 +5,23 @@ use mathlib.Core.Path.{_≡_, refl, ap, ap₂, _∙_}
 use mathlib.Core.Bool.{Bool, cond, true, false, not, _&&_, Bool·beq}
 use lib.Dec.{lit<}
 use Rattle.bits.specs.Positions.{off}
-use Rattle.usi_rules.specs.Registers.{USI16B}
-use Rattle.usi_rules.specs.Rules as rules
-use Rattle.usi_rules.specs.Rules.{lossControl, lossFlags, conditionFlags, conditionCount, phaseAfter}
+use Rattle.usi_registers.specs.Registers.{USI16B}
+use Rattle.usi_registers.specs.Rules as setUp
+use Rattle.usi_i2c.specs.Rules as rules
+use Rattle.usi_i2c.specs.Rules.{lossControl, lossFlags, conditionFlags, conditionCount, phaseAfter}
 use Rattle.usi.specs.declared.Usi.{Usi}
 use Rattle.usi.specs.Step.{followed, edged, fallen, risen, sample, tick}
 use Rattle.arbitration_rules.proofs.Counting.{narrow, counts, count-down, ended, end-flags}
-use Rattle.arbitration_rules.proofs.Turn.{between, after, Clocking, Turns, clocking-turn}
+use Rattle.arbitration_rules.proofs.Turn.{between, after, Drives, Clocking, Turns, clocking-turn}
 
 -- registers with which a module clocks, whatever the count
 record Ready (control flags : ℕ) : Type 0 where
-  fitting : (count : ℕ) → rules.fits control flags 0x22 count ≡ off count USI16B && true && true && true
-  clocks : (count : ℕ) → rules.clocks control flags count ≡ rules.counting count
-  drives : (phase : Bool) → rules.drives control flags phase ≡ not phase
-  moves : (count : ℕ) → rules.movesLatch control count ≡ rules.counting count && true
-  opaque : rules.transparent control ≡ false
-  opaque-lost : rules.transparent (lossControl control true) ≡ false
+  fitting : (count : ℕ) → setUp.fits control flags 0x22 count ≡ off count USI16B && true && true && true
+  clocks : (count : ℕ) → rules.clocks control flags count ≡ setUp.counting count
+  drives : Drives control flags
+  moves : (count : ℕ) → rules.movesLatch control count ≡ setUp.counting count && true
+  opaque : setUp.transparent control ≡ false
+  opaque-lost : setUp.transparent (lossControl control true) ≡ false
 
 -- those of a driving master, of one beaten in this byte, and of one that awaits the acknowledge
 ready-to-drive : Ready 0xca 0x40

@@ -6,14 +6,13 @@ use mathlib.Core.Path.{_≡_, refl, ap, _∙_}
 use mathlib.Core.Bool.{Bool, cond, true, false, not, Bool·beq}
 use mathlib.Core.List.{List, [], _∷_, _++_, append-assoc}
 use lib.ListN.{length, length-append}
-use Rattle.usi_rules.specs.Rules as rules
+use Rattle.usi_i2c.specs.Rules as rules
 use Rattle.usi.specs.declared.Usi.{Usi}
-use Rattle.arbitration_rules.specs.declared.Master.{Master}
-use Rattle.arbitration_rules.specs.Masters.{withUsi, judged}
+use Rattle.arbitration_rules.specs.Masters.{Master, withUsi, judged}
 use Rattle.arbitration_rules.proofs.Bits.{number, first-is, shift-is}
 use Rattle.arbitration_rules.proofs.Turn.{Turns}
-use Rattle.arbitration_rules.proofs.Registers.{driving, beaten, released, turns-to, driving-turn}
-use Rattle.arbitration_rules.proofs.Registers.{beaten-turn, released-turn}
+use Rattle.arbitration_rules.proofs.Registers.{driving, beaten, released, turns-to, driving-turn, beaten-turn}
+use Rattle.arbitration_rules.proofs.Registers.{released-turn}
 
 -- rest: the bits that it has still to send. The bits that it took in stand behind them in its register: those of the
 -- bus.
@@ -69,7 +68,8 @@ pulls (gone register latch position) = false
 -- the turn at a position in which the bus shows a bit: who drives another bit has lost there
 abbrev pub turnOf : ℕ → Bool → Role → Role
 turnOf at bit (drives [] latch enable) = drives [] latch enable
-turnOf at bit (drives (sent ∷ rest) latch enable) = cond (Bool·beq sent bit) (drives rest sent true) (lost rest sent at)
+turnOf at bit (drives (sent ∷ rest) latch enable) = cond (Bool·beq sent bit) (drives rest sent true)
+    (lost rest sent at)
 turnOf at bit (lost [] latch position) = lost [] latch position
 turnOf at bit (lost (sent ∷ rest) latch position) = lost rest sent position
 turnOf at bit (gone register latch position) = gone register latch position

@@ -2,29 +2,30 @@
 -- carries the least byte of those still in, and each master stands as that byte decides.
 use Prim.Native.Nat.{ℕ, _*_, _≤_, _<_}
 use mathlib.Core.Path.{_≡_, refl, ap, ap₂, sym, _∙_}
-use mathlib.Core.Bool.{Bool, true, false, not, _||_, false≢true}
+use mathlib.Core.Bool.{Bool, true, false, not, _||_, or-false, false≢true}
 use mathlib.Core.List.{List, [], _∷_, _++_, map, map-map, append-assoc}
 use lib.Dec.{eqb}
 use lib.ListN.{getD}
-use Rattle.usi_rules.specs.Registers.{USICTL0, USICNT, USISRL}
-use Rattle.bus_draw.specs.Encode.{byteBits, drawBit, drawBits}
-use Rattle.arbitration_rules.specs.declared.Master.{Master}
-use Rattle.arbitration_rules.specs.Masters.{written, withdrawn}
-use Rattle.arbitration_rules.specs.Outcome.{any}
-use Rattle.arbitration_rules.specs.Run.{Bus, levelOf, writes, bitTurn, dataTurns, loaded, opened, closed}
-use Rattle.arbitration_rules.specs.Run.{byteTurn}
-use Rattle.arbitration_rules.proofs.Lists.{Everyone, Someone, everyone, everyone-so, everyone-both}
-use Rattle.arbitration_rules.proofs.Lists.{everyone-map, someone-so}
-use Rattle.arbitration_rules.proofs.Lists.{someone-map, map-alike, any-none, any-one, zipWith-map}
+use Rattle.usi_registers.specs.Registers.{USICTL0, USICNT, USISRL}
+use Rattle.encode.specs.Encode.{byteBits, drawBit, drawBits}
+use Rattle.arbitration_rules.specs.Masters.{Master, settled, applied, beaten, Write}
+use Rattle.arbitration_rules.proofs.Phases.{written, withdrawn, writes, bitTurn, dataTurns, loaded, opened}
+use Rattle.arbitration_rules.proofs.Phases.{closed, byteTurn}
+use Rattle.laws.specs.Search.{any}
+use Rattle.levels.specs.Levels.{levelOf}
+use Rattle.arbitration_rules.specs.Run.{Bus}
+use Rattle.laws.specs.Everyone.{Everyone, Someone}
+use Rattle.laws.proofs.Lists.{everyone, everyone-so, everyone-both, everyone-map, someone-so, someone-map, map-alike}
+use Rattle.laws.proofs.Lists.{any-none, any-one, zipWith-map}
 use Rattle.arbitration_rules.proofs.Bits.{number, number-bits, at-most-bits}
 use Rattle.arbitration_rules.proofs.Wire.{busOf, turn-is, writes-all}
 use Rattle.arbitration_rules.proofs.Roles.{Role, contends, masterOf, Sending}
-use Rattle.arbitration_rules.proofs.Byte.{Within, Leads, turnsOf, Line, lineAfter, inByte, turns}
-use Rattle.arbitration_rules.proofs.Byte.{within-turns, leads-turns, drawn}
+use Rattle.arbitration_rules.proofs.Byte.{Within, Leads, turnsOf, Line, lineAfter, inByte, turns, within-turns}
+use Rattle.arbitration_rules.proofs.Byte.{leads-turns, drawn}
 use Rattle.arbitration_rules.proofs.Standing.{Standing, stays, out, standingOf, standingAfter, entersAs}
 use Rattle.arbitration_rules.proofs.Standing.{byte-decides}
-use Rattle.arbitration_rules.proofs.Pause.{Pause, afterByte, sdaAt, latchAt, enableAt, usiAt, isIn}
-use Rattle.arbitration_rules.proofs.Pause.{masterAt, loads, listener, listens, hears, heard}
+use Rattle.arbitration_rules.proofs.Pause.{Pause, afterByte, sdaAt, latchAt, enableAt, usiAt, isIn, masterAt}
+use Rattle.arbitration_rules.proofs.Pause.{loads, listener, listens, hears, heard}
 
 three-maps : {A B C D : Type 0} (f : C → D) (g : B → C) (h : A → B) (l : List A)
     → map f (map g (map h l)) ≡ map (λ a. f (g (h a))) l
@@ -55,7 +56,8 @@ opened-is messages standing index pause pull level byte levels carried fits =
     ap (λ masters. writes starts (bus masters))
     (zipWith-map (λ master message. written USISRL (byteAt index message) master)
     (λ message. masterAt pause (standing message)) messages)
-    ∙ writes-all starts (λ message. written USISRL (byteAt index message) (masterAt pause (standing message))) messages
+    ∙ writes-all starts (λ message. written USISRL (byteAt index message) (masterAt pause (standing message)))
+    messages
     pull level 0 levels carried
     ∙ ap bus (map-alike (everyone-so (λ message. loads pause (byteAt index message) (standing message)) fits))
     ∙ ap bus (sym (map-map (masterOf 8 [] (sdaAt pause)) (enters pause standing index) messages))
@@ -74,7 +76,10 @@ closed-is : (taken : List Bool) (line : Line) (roles : List Role) (byte : ℕ) (
     (carried ++ byte ∷ [])
 unfolding closed
 closed-is taken line roles byte levels carried sent =
-    ap (λ masters. writes listen (bus masters)) (map-map withdrawn (masterOf 0 taken (line .sda)) roles)
+    ap (λ masters. writes listen (bus masters))
+    (three-maps settled (applied beaten (Write USICNT 0x80)) (applied beaten (Write USICTL0 0xc0))
+    (map (masterOf 0 taken (line .sda)) roles)
+    ∙ map-map withdrawn (masterOf 0 taken (line .sda)) roles)
     ∙ writes-all listen (λ role. withdrawn (masterOf 0 taken (line .sda) role)) roles (line .pull) (line .level) byte
     levels
     (carried ++ byte ∷ [])
@@ -85,10 +90,6 @@ closed-is taken line roles byte levels carried sent =
 
     bus : List Master → Bus
     bus masters = busOf masters (line .pull) (line .level) byte levels (carried ++ byte ∷ [])
-
-or-false : (b : Bool) → b || false ≡ b
-or-false true = refl
-or-false false = refl
 
 -- the acknowledge's turn shows its pull
 acknowledge-turn : (byte : ℕ) (roles : List Role) (sda old pull : Bool) (level gathered : ℕ) (levels carried : List ℕ)
@@ -171,8 +172,10 @@ module _ (messages : List (List ℕ)) (standing : List ℕ → Standing) (index 
       ≡ busOf (map (listener byte (end .sda)) sent) (end .pull) (end .level) byte drawing (carried ++ byte ∷ [])
   closed-byte =
       closed-is (byteBits byte) end sent byte drawing carried
-      (everyone-map (turnsOf (9 * index) (byteBits byte)) (everyone-so (within-turns (9 * index) (byteBits byte)) all))
-      ∙ ap (λ b. busOf (map (listener b (end .sda)) sent) (end .pull) (end .level) byte drawing (carried ++ byte ∷ []))
+      (everyone-map (turnsOf (9 * index) (byteBits byte)) (everyone-so (within-turns (9 * index) (byteBits byte))
+      all))
+      ∙ ap (λ b. busOf (map (listener b (end .sda)) sent) (end .pull) (end .level) byte drawing
+      (carried ++ byte ∷ []))
       (number-bits byte small)
 
   -- the masters stand as the byte decides
@@ -196,7 +199,8 @@ module _ (messages : List (List ℕ)) (standing : List ℕ → Standing) (index 
       (carried ++ byte ∷ [])
       (any-one (someone-map (turnsOf (9 * index) (byteBits byte))
       (someone-so (leads-turns (9 * index) (byteBits byte)) some)))
-      ∙ ap₂ (λ masters recording. busOf masters (eqb acknowledge 0) (levelOf true (ninthBit acknowledge)) byte recording
+      ∙ ap₂ (λ masters recording. busOf masters (eqb acknowledge 0) (levelOf true (ninthBit acknowledge)) byte
+      recording
       (carried ++ byte ∷ []))
       decided (append-assoc levels (drawBits (byteBits byte)) (drawBit (ninthBit acknowledge)))
 

@@ -7,9 +7,8 @@ use mathlib.Core.Bool.{Bool, cond, true, false}
 use mathlib.Core.List.{List, [], _∷_}
 use lib.Dec.{eqb}
 use lib.ListN.{length}
-use Rattle.usi_rules.specs.Rules as rules
 use Rattle.bits.specs.Positions.{isSet}
-use Rattle.bus_draw.specs.Encode.{byteBits}
+use Rattle.encode.specs.Encode.{byteBits}
 use Rattle.arbitration_rules.specs.Outcome.{unequalBit, positionIn}
 use Rattle.arbitration_rules.proofs.Bits.{same, same-bits}
 use Rattle.arbitration_rules.proofs.Roles.{Role, drives, lost, gone}

@@ -10,15 +10,16 @@ use mathlib.Core.Option.{Option, none, some}
 use lib.Dec.{leb, ltb}
 use lib.ListN.{length}
 use borrow.Author.Tests.{eq-eqb, le-ltb, lt-ltb, le-leb}
-use Rattle.arbitration_rules.specs.declared.Master.{Master}
-use Rattle.arbitration_rules.specs.Outcome.{any, least, carriedCount, carriedOf, positionIn, lossFrom, fate}
-use Rattle.arbitration_rules.specs.Outcome.{allAcknowledged, unsettled}
+use Rattle.arbitration_rules.specs.Masters.{Master}
+use Rattle.laws.specs.Search.{any}
+use Rattle.arbitration_rules.specs.Outcome.{least, carriedCount, carriedOf, positionIn, lossFrom, fate}
+use Rattle.arbitration_rules.specs.Outcome.{allAcknowledged, undecided}
 use Rattle.arbitration_rules.specs.Run.{through, run}
 use Rattle.arbitration_rules.specs.Final.{finalMaster}
-use Rattle.arbitration_rules.proofs.Lists.{Everyone, everyone-so, someone-so, any-map, any-none, any-one}
-use Rattle.arbitration_rules.proofs.Lists.{zipWith-map}
+use Rattle.laws.specs.Everyone.{Everyone}
+use Rattle.laws.proofs.Lists.{everyone-so, someone-so, any-map, any-none, any-one, zipWith-map}
 use Rattle.arbitration_rules.proofs.Carried.{carried-count}
-use Rattle.arbitration_rules.proofs.Unsettled.{CutShort, whole, ends-together, torn as torn-apart}
+use Rattle.arbitration_rules.proofs.Undecided.{CutShort, whole, ends-together, torn as torn-apart}
 use Rattle.arbitration_rules.proofs.Demand.{Arbitration}
 use Rattle.arbitration_rules.proofs.FinalMasters.{final-masters}
 
@@ -62,9 +63,10 @@ module _ (messages : List (List ℕ)) (acknowledges : List ℕ) (given : Arbitra
   masters-whole : allAcknowledged (least messages) acknowledges ≡ true
       → run messages acknowledges .masters ≡ map (finalMaster (least messages)) messages
   masters-whole all =
-      final-masters messages acknowledges given ∙ ap (λ carried. map (finalMaster carried) messages) (carried-whole all)
+      final-masters messages acknowledges given ∙ ap (λ carried. map (finalMaster carried) messages)
+      (carried-whole all)
 
-  pub together : unsettled messages acknowledges ≡ false
+  pub together : undecided messages acknowledges ≡ false
       → CutShort (least messages) acknowledges
       ⊎ (behind messages (carriedCount (least messages) acknowledges) (run messages acknowledges .masters) ≡ false)
   together settled = go (ends-together messages acknowledges (given .bits) settled)
@@ -80,7 +82,8 @@ module _ (messages : List (List ℕ)) (acknowledges : List ℕ) (given : Arbitra
           ⊎ ((allAcknowledged (least messages) acknowledges ≡ true)
           × Everyone (λ own. lossFrom 0 (least messages) own ≡ none → own ≡ least messages) messages)
           → CutShort (least messages) acknowledges
-          ⊎ (behind messages (carriedCount (least messages) acknowledges) (run messages acknowledges .masters) ≡ false)
+          ⊎ (behind messages (carriedCount (least messages) acknowledges) (run messages acknowledges .masters)
+          ≡ false)
       go (inl cut) = inl cut
       go (inr (all, ends)) =
           inr
@@ -88,7 +91,7 @@ module _ (messages : List (List ℕ)) (acknowledges : List ℕ) (given : Arbitra
           ∙ ask (λ message. ltb (length (least messages)) (length message)) (least messages) messages
           ∙ any-none (everyone-so (λ own. nothing-more own (lossFrom 0 (least messages) own)) ends))
 
-  pub torn : unsettled messages acknowledges ≡ true
+  pub torn : undecided messages acknowledges ≡ true
       → (allAcknowledged (least messages) acknowledges ≡ true)
       × (through messages (carriedCount (least messages) acknowledges) (run messages acknowledges .masters) ≡ true)
       × (behind messages (carriedCount (least messages) acknowledges) (run messages acknowledges .masters) ≡ true)

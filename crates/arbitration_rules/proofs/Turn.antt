@@ -4,14 +4,15 @@
 use Prim.Native.Nat.{ℕ}
 use mathlib.Core.Path.{_≡_, ap, ap₂, _∙_}
 use mathlib.Core.Bool.{Bool, cond, true, false, not, _&&_, _||_}
-use Rattle.usi_rules.specs.Rules as rules
-use Rattle.usi_rules.specs.Rules.{conditionFlags, conditionCount, phaseAfter}
+use Rattle.usi_registers.specs.Rules as setUp
+use Rattle.usi_i2c.specs.Rules as rules
+use Rattle.usi_i2c.specs.Rules.{conditionFlags, conditionCount, phaseAfter}
 use Rattle.usi.specs.declared.Usi.{Usi}
 use Rattle.usi.specs.declared.Step.the-variants.{Next, Refused}
 use Rattle.usi.specs.Module.{fits, pullsScl, pullsSda}
 use Rattle.usi.specs.Step.{moduleOf, latched, followed, bitTaken, risen, fallen, stretched, recorded, edged}
 use Rattle.usi.specs.Step.{sampled, sample, ticked, tick}
-use Rattle.arbitration_rules.specs.Run.{levelOf}
+use Rattle.levels.specs.Levels.{levelOf}
 
 -- a module that has seen the lines and stretches nothing
 abbrev state : (control flags count register : ℕ) (latch enable phase scl sda : Bool) → Usi
@@ -81,19 +82,23 @@ sample-fits false false usi fitting =
     ap (λ fit. moduleOf (cond fit (Next (sampled false false usi)) (Refused 3 usi))) fitting
 
 -- with GE=0 the latch holds
-held : (usi : Usi) → rules.transparent (usi .usictl0) ≡ false → followed usi ≡ usi
+held : (usi : Usi) → setUp.transparent (usi .usictl0) ≡ false → followed usi ≡ usi
 unfolding followed
 held usi opaque = ap (λ follows. cond follows (latched usi) usi) opaque
 
+-- a master pulls SCL while its phase is low
+abbrev pub Drives : ℕ → ℕ → Type 0
+Drives control flags = (phase : Bool) → rules.drives control flags phase ≡ not phase
+
 -- a module that clocks: MST=1, GE=0, IFG=0, CNT>0 in a fitting set-up
 pub record Clocking (control flags count : ℕ) : Type 0 where
-  pub fitting : rules.fits control flags 0x22 count ≡ true
+  pub fitting : setUp.fits control flags 0x22 count ≡ true
   pub clocks : rules.clocks control flags count ≡ true
-  pub drives : (phase : Bool) → rules.drives control flags phase ≡ not phase
-  pub counting : rules.counting count ≡ true
+  pub drives : Drives control flags
+  pub counting : setUp.counting count ≡ true
   pub moves : rules.movesLatch control count ≡ true
-  pub opaque : rules.transparent control ≡ false
-  pub opaque-after : (lost : Bool) → rules.transparent (rules.lossControl control lost) ≡ false
+  pub opaque : setUp.transparent control ≡ false
+  pub opaque-after : (lost : Bool) → setUp.transparent (rules.lossControl control lost) ≡ false
 
 -- a module after the rise at which it lost or not
 abbrev pub after : (control flags count register : ℕ) (latch enable bit lost : Bool) → Usi
@@ -120,7 +125,7 @@ module _ (control flags count register : ℕ) (clocking : Clocking control flags
   -- SCL falls: the latch takes the first bit of USISRL, the enable takes OE
   fall : (latch enable sda before : Bool)
       → samples false before (state control flags count register latch enable false true sda)
-      ≡ state control flags count register (rules.firstBit register) (rules.outputEnable control) false false before
+      ≡ state control flags count register (rules.firstBit register) (setUp.outputEnable control) false false before
   unfolding conditionFlags conditionCount risen fallen edged
   fall latch enable sda before =
       sample-fits false before _ (clocking .fitting)
@@ -178,7 +183,7 @@ module _ (control flags count register : ℕ) (clocking : Clocking control flags
 
   -- what the latch and the enable are from the fall on
   module _ (latch enable sda bit sent driving : Bool) (first : rules.firstBit register ≡ sent)
-      (output : rules.outputEnable control ≡ driving) where
+      (output : setUp.outputEnable control ≡ driving) where
     abbrev start : Usi
     start = between control flags count register latch enable sda
 

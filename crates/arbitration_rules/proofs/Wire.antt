@@ -5,13 +5,13 @@ use mathlib.Core.Bool.{Bool, true, false, not, _||_}
 use mathlib.Core.List.{List, [], _∷_, _++_, map, map-map, append-assoc}
 use Rattle.usi.specs.declared.Usi.{Usi}
 use Rattle.usi.specs.Module.{pullsScl, pullsSda}
-use Rattle.arbitration_rules.specs.declared.Master.{Master}
-use Rattle.arbitration_rules.specs.declared.Operation.the-variants.{Tick, Sample}
-use Rattle.arbitration_rules.specs.Masters.{withUsi, applied, written}
-use Rattle.arbitration_rules.specs.Outcome.{any}
-use Rattle.arbitration_rules.specs.Run.{Bus, levelOf, wire, every, writes, sampledAt, sampled, noted}
-use Rattle.arbitration_rules.specs.Run.{recorded, pulled, bitTurn}
-use Rattle.arbitration_rules.proofs.Lists.{Everyone, everyone-so, map-alike, any-alike, any-none, any-map}
+use Rattle.arbitration_rules.specs.Masters.{Master, Tick, Sample, withUsi, applied, everybody}
+use Rattle.arbitration_rules.proofs.Phases.{written, every, writes, sampled, noted, recorded, pulled, bitTurn}
+use Rattle.laws.specs.Search.{any}
+use Rattle.levels.specs.Levels.{levelOf}
+use Rattle.arbitration_rules.specs.Run.{Bus, wire, sampledAt}
+use Rattle.laws.specs.Everyone.{Everyone}
+use Rattle.laws.proofs.Lists.{everyone-so, map-alike, any-alike, any-none, any-map}
 use Rattle.arbitration_rules.proofs.Turn.{ticks, samples, lowered, turned, Turns}
 
 abbrev pub busOf : List Master → Bool → ℕ → ℕ → List ℕ → List ℕ → Bus
@@ -24,11 +24,12 @@ module _ {A : Type 0} (master : A → Master) (l : List A) where
   stage usi = map (λ a. withUsi (usi a) (master a)) l
 
   module _ (usi : A → Usi) (pull : Bool) (level byte : ℕ) (levels carried : List ℕ) where
-    tick-all : every Tick (busOf (stage usi) pull level byte levels carried)
+    tick-all : every everybody Tick (busOf (stage usi) pull level byte levels carried)
         ≡ busOf (stage (λ a. ticks (usi a))) pull level byte levels carried
+    unfolding applied
     tick-all =
         ap (λ masters. busOf masters pull level byte levels carried)
-        (map-map (applied Tick) (λ a. withUsi (usi a) (master a)) l)
+        (map-map (applied everybody Tick) (λ a. withUsi (usi a) (master a)) l)
 
     -- the level of the wire, from who pulls it, and the sample of it
     module _ (scl sda : Bool) (clock : not (any (λ a. pullsScl (usi a)) l) ≡ scl)
@@ -44,11 +45,11 @@ module _ {A : Type 0} (master : A → Master) (l : List A) where
 
       sample-all : sampled (busOf (stage usi) pull level byte levels carried)
           ≡ busOf (stage (λ a. samples scl sda (usi a))) pull (levelOf scl sda) byte levels carried
-      unfolding sampled
+      unfolding sampled applied
       sample-all =
           ap (λ seen. sampledAt seen (busOf (stage usi) pull level byte levels carried)) wire-is
           ∙ ap (λ masters. busOf masters pull (levelOf scl sda) byte levels carried)
-          (map-map (applied (Sample (levelOf scl sda))) (λ a. withUsi (usi a) (master a)) l)
+          (map-map (applied everybody (Sample (levelOf scl sda))) (λ a. withUsi (usi a) (master a)) l)
 
       pub record-all : recorded (busOf (stage usi) pull level byte levels carried)
           ≡ busOf (stage (λ a. samples scl sda (usi a))) pull (levelOf scl sda) byte (levels ++ levelOf scl sda ∷ [])
@@ -57,7 +58,8 @@ module _ {A : Type 0} (master : A → Master) (l : List A) where
       record-all = ap noted sample-all
 
   -- the turn: someone clocks, and SDA is pulled by who drives and by the acknowledge
-  module _ (after : A → Usi) (clocks drives : A → Bool) (old pull bit : Bool) (level byte : ℕ) (levels carried : List ℕ)
+  module _ (after : A → Usi) (clocks drives : A → Bool) (old pull bit : Bool) (level byte : ℕ)
+      (levels carried : List ℕ)
       (turns : Everyone (λ a. Turns (master a .usi) (clocks a) (drives a) bit (after a)) l)
       (clocked : any clocks l ≡ true) (line : not (pull || any drives l) ≡ bit) where
     -- SDA at the first low sample, whatever it is
@@ -108,10 +110,10 @@ module _ {A : Type 0} (master : A → Master) (l : List A) where
         ≡ at after pull (levelOf true bit) (levels ++ levelOf false bit ∷ levelOf true bit ∷ [])
     unfolding bitTurn
     turn-is =
-        ap (λ bus. recorded (every Tick (recorded (pulled pull (sampled bus)))))
+        ap (λ bus. recorded (every everybody Tick (recorded (pulled pull (sampled bus)))))
         (tick-all (λ a. master a .usi) old level byte levels carried)
-        ∙ ap (λ bus. recorded (every Tick (recorded (pulled pull bus)))) fall
-        ∙ ap (λ bus. recorded (every Tick bus)) stay
+        ∙ ap (λ bus. recorded (every everybody Tick (recorded (pulled pull bus)))) fall
+        ∙ ap (λ bus. recorded (every everybody Tick bus)) stay
         ∙ ap recorded (tick-all low pull (levelOf false bit) byte (levels ++ levelOf false bit ∷ []) carried)
         ∙ rise
         ∙ ends

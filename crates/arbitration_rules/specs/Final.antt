@@ -6,7 +6,7 @@ use mathlib.Core.Option.{Option, none, some}
 use lib.ListN.{getD}
 use Rattle.usi.specs.declared.Usi.{Usi}
 use Rattle.bits.specs.Positions.{isSet}
-use Rattle.arbitration_rules.specs.declared.Master.{Master}
+use Rattle.arbitration_rules.specs.Masters.{Master}
 use Rattle.arbitration_rules.specs.Outcome.{fate, lossFrom}
 
 -- a module that has seen the STOP: SCL and SDA high, the clock phase high, nothing stretched

@@ -1,14 +1,19 @@
 -- One master at one instant: what each operation does to it. Every step is the module's own write, sample or tick.
 use Prim.Native.Nat.{ℕ}
-use mathlib.Core.Bool.{cond, true, false, _&&_}
+use mathlib.Core.Bool.{Bool, cond, true, false, _&&_}
 use Rattle.bits.specs.Positions.{on}
-use Rattle.usi_rules.specs.Registers.{USICTL0, USICNT, USIAL}
+use Rattle.usi_registers.specs.Registers.{USIAL}
 use Rattle.usi.specs.declared.Usi.{Usi}
+use Rattle.usi.specs.declared.Step.{Step}
 use Rattle.usi.specs.Module.{powerUp}
-use Rattle.usi.specs.Step.{moduleOf, writeByte, sample, tick}
-use Rattle.arbitration_rules.specs.declared.Master.{Master}
-use Rattle.arbitration_rules.specs.declared.Operation.{Operation}
-use Rattle.arbitration_rules.specs.declared.Operation.the-variants.{Tick, Sample, Write, Judge, Withdraw}
+use Rattle.usi.specs.Step.{refusal, moduleOf, writeByte, sample, tick}
+
+-- Its module; whether it is still in; whether it lost in the byte now on the bus; where it lost (01: its place).
+pub record Master : Type 0 where
+  pub usi : Usi
+  pub contending : Bool
+  pub lost : Bool
+  pub position : ℕ
 
 abbrev pub withUsi : Usi → Master → Master
 withUsi usi master =
@@ -18,14 +23,35 @@ withUsi usi master =
 abbrev pub entering : Master
 entering = record { usi = powerUp 0 0; contending = true; lost = false; position = 0 }
 
--- A register written: the module that the step hands back (where it is refused, the module as it was).
-abbrev pub register : ℕ → ℕ → Usi → Usi
-register address value usi = moduleOf (writeByte usi address value)
+-- Who does something: everybody, who is still in, who lost in the byte now on the bus.
+pub data Who : Type 0 where
+  everybody stillIn beaten : Who
 
--- Masters still in write; who lost writes nothing more.
-unfoldable pub written : ℕ → ℕ → Master → Master
-written address value master =
-    cond (master .contending) (withUsi (register address value (master .usi)) master) master
+abbrev pub meant : Who → Master → Bool
+meant everybody master = true
+meant stillIn master = master .contending
+meant beaten master = master .lost
+
+-- One step of a module: a tick, a sample of a level, a register written (address and value).
+pub data Operation : Type 0 where
+  Tick : Operation
+  Sample : ℕ → Operation
+  Write : ℕ → ℕ → Operation
+
+abbrev pub stepped : Operation → Usi → Step
+stepped Tick usi = tick usi
+stepped (Sample level) usi = sample usi level
+stepped (Write address value) usi = writeByte usi address value
+
+-- Those meant make the step, each with the module that it hands back (where it is refused, the module as it was: no
+-- step of a run is, proofs/Unrefused.antt).
+unfoldable pub applied : Who → Operation → Master → Master
+applied who operation master =
+    cond (meant who master) (withUsi (moduleOf (stepped operation (master .usi))) master) master
+
+-- the number of its refusal, 0 where there is none or it is not meant
+unfoldable pub refusedAt : Who → Operation → Master → ℕ
+refusedAt who operation master = cond (meant who master) (refusal (stepped operation (master .usi))) 0
 
 -- A master is in until the bit turn that sets its AL; that turn is its position (01: place).
 unfoldable pub judged : ℕ → Master → Master
@@ -34,22 +60,7 @@ judged position master =
     (record { usi = master .usi; contending = false; lost = true; position = position })
     master
 
--- After the byte's eight bit turns a master with AL set writes USICTL0=C0h, USICNT=80h.
-unfoldable pub withdrawn : Master → Master
-withdrawn master =
-    cond (master .lost)
-    (record {
-      usi = register USICNT 0x80 (register USICTL0 0xc0 (master .usi));
-      contending = master .contending;
-      lost = false;
-      position = master .position;
-    })
-    master
-
--- Ticks and samples reach every master, also one that lost.
-abbrev pub applied : Operation → Master → Master
-applied Tick master = withUsi (moduleOf (tick (master .usi))) master
-applied (Sample level) master = withUsi (moduleOf (sample (master .usi) level)) master
-applied (Write address value) master = written address value master
-applied (Judge position) master = judged position master
-applied Withdraw master = withdrawn master
+-- The byte in which it lost is over.
+abbrev pub settled : Master → Master
+settled master =
+    record { usi = master .usi; contending = master .contending; lost = false; position = master .position }

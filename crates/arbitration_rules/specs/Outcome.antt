@@ -6,8 +6,9 @@ use mathlib.Core.List.{List, [], _∷_, _++_, map}
 use mathlib.Core.Option.{Option, none, some}
 use lib.Dec.{eqb, ltb}
 use lib.ListN.{take}
-use Rattle.bus_draw.specs.Events.{startEvent, stopEvent}
-use Rattle.bus_draw.specs.Encode.{byteBits, drawing}
+use Rattle.laws.specs.Search.{any}
+use Rattle.trace.specs.Events.{startEvent, stopEvent}
+use Rattle.encode.specs.Encode.{byteBits, drawing}
 
 -- What is known of one master at the end: whether it is still in, its position (01: place), and its AL.
 pub record Fate : Type 0 where
@@ -15,8 +16,9 @@ pub record Fate : Type 0 where
   pub position : ℕ
   pub arbitrationLost : Bool
 
--- What demand 3 compares: the carried bytes, the recorded levels, and each master's fate.
+-- What demand 3 compares: how many bytes are carried (01: k), these bytes, the recorded levels, each master's fate.
 pub record Outcome : Type 0 where
+  pub count : ℕ
   pub carried : List ℕ
   pub levels : List ℕ
   pub fates : List Fate
@@ -61,6 +63,10 @@ byteEvents (byte ∷ bytes) (acknowledge ∷ acknowledges) =
 unfoldable pub frame : List ℕ → List ℕ → List ℕ
 frame bytes acknowledges = startEvent ∷ byteEvents bytes acknowledges ++ stopEvent ∷ []
 
+-- It has 5 + 18k levels (proofs/RecordedLevels.antt).
+abbrev pub levelCount : ℕ → ℕ
+levelCount k = 5 + 18 * k
+
 -- The first unequal bit of two bytes, 0 being the most significant.
 abbrev pub unequalBit : List Bool → List Bool → ℕ
 unequalBit [] others = 0
@@ -88,6 +94,7 @@ unfoldable pub outcome : List (List ℕ) → List ℕ → Outcome
 outcome messages acknowledges =
     let carried = carriedOf messages acknowledges in
     record {
+      count = carriedCount (least messages) acknowledges;
       carried = carried;
       levels = drawing (frame carried acknowledges);
       fates = map (λ message. fate (lossFrom 0 carried message)) messages;
@@ -107,10 +114,6 @@ begins [] (other ∷ others) = true
 begins (byte ∷ bytes) [] = false
 begins (byte ∷ bytes) (other ∷ others) = eqb byte other && begins bytes others
 
-abbrev pub any : {A : Type 0} → (A → Bool) → List A → Bool
-any test [] = false
-any test (a ∷ others) = test a || any test others
-
-unfoldable pub unsettled : List (List ℕ) → List ℕ → Bool
-unsettled messages acknowledges =
+unfoldable pub undecided : List (List ℕ) → List ℕ → Bool
+undecided messages acknowledges =
     allAcknowledged (least messages) acknowledges && any (begins (least messages)) messages

@@ -1,4 +1,4 @@
--- The run by 01's steps 1 to 4: masters on one bus, each stepped by its module's own writes, samples and ticks.
+-- The run by 01's steps 1 to 4: each step is a script of instants, and the bus performs them one after the other.
 use Prim.Native.Nat.{ℕ, zero, suc, _+_, _*_}
 use mathlib.Core.Bool.{Bool, cond, false, not, _&&_, _||_}
 use mathlib.Core.List.{List, [], _∷_, _++_, map, zipWith}
@@ -6,14 +6,13 @@ use mir.Val.{boolByte}
 use lib.Dec.{eqb, leb}
 use lib.ListN.{length, getD}
 use Rattle.bits.specs.Positions.{on}
-use Rattle.usi_rules.specs.Registers.{USICTL0, USICTL1, USICKCTL, USICNT, USISRL, USIAL}
+use Rattle.laws.specs.Search.{any}
+use Rattle.levels.specs.Levels.{levelOf, sda}
+use Rattle.usi_registers.specs.Registers.{USICTL0, USICTL1, USICKCTL, USICNT, USISRL, USIAL}
 use Rattle.usi.specs.Module.{pullsScl, pullsSda}
-use Rattle.bus.specs.Levels.{sda}
-use Rattle.arbitration_rules.specs.declared.Master.{Master}
-use Rattle.arbitration_rules.specs.declared.Operation.{Operation}
-use Rattle.arbitration_rules.specs.declared.Operation.the-variants.{Tick, Sample, Write, Judge, Withdraw}
-use Rattle.arbitration_rules.specs.Masters.{entering, written, applied}
-use Rattle.arbitration_rules.specs.Outcome.{Fate, Outcome, any}
+use Rattle.arbitration_rules.specs.Masters.{Master, entering, Who, everybody, stillIn, beaten, Operation}
+use Rattle.arbitration_rules.specs.Masters.{Tick, Sample, Write, applied, refusedAt, judged, settled}
+use Rattle.arbitration_rules.specs.Outcome.{Fate, Outcome}
 
 -- The bus in a run: its masters, whether the acknowledge pulls SDA, the level sampled last, what of a byte has been
 -- taken, the recorded levels and the carried bytes.
@@ -25,21 +24,39 @@ pub record Bus : Type 0 where
   pub levels : List ℕ
   pub carried : List ℕ
 
--- The wire is high unless someone pulls it. A level byte is SCL + 2·SDA.
-abbrev pub levelOf : Bool → Bool → ℕ
-levelOf scl sda = boolByte scl + 2 * boolByte sda
+-- What happens at one instant.
+pub data Instant : Type 0 where
+  -- those meant make one step of their module
+  does : Who → Operation → Instant
+  -- those still in write USISRL, each the byte of its message at an index
+  loads : ℕ → Instant
+  -- a sample: every module is given the level of the wire
+  samples : Instant
+  -- that level is recorded
+  records : Instant
+  -- the acknowledge's pull begins or ends
+  pulls : Bool → Instant
+  -- who has AL set has lost, at this position
+  judges : ℕ → Instant
+  -- the bit on the wire joins the byte
+  takes : Instant
+  -- the byte is carried
+  carries : Instant
+  -- the byte in which someone lost is over
+  settles : Instant
 
+-- The wire is high unless someone pulls it. A level byte is SCL + 2·SDA.
 unfoldable pub wire : Bool → List Master → ℕ
 wire pull masters =
     levelOf
     (not (any (λ (master : Master). pullsScl (master .usi)) masters))
     (not (pull || any (λ (master : Master). pullsSda (master .usi)) masters))
 
--- One operation on every master.
-abbrev pub every : Operation → Bus → Bus
-every operation bus =
+-- The bus with other masters, and with the level that they were given.
+abbrev pub withMasters : List Master → Bus → Bus
+withMasters masters bus =
     record {
-      masters = map (applied operation) (bus .masters);
+      masters = masters;
       pull = bus .pull;
       level = bus .level;
       byte = bus .byte;
@@ -47,16 +64,10 @@ every operation bus =
       carried = bus .carried;
     }
 
--- Registers written one after the other by those still in, each as address and value.
-abbrev pub writes : List (ℕ × ℕ) → Bus → Bus
-writes [] bus = bus
-writes (write ∷ more) bus = writes more (every (Write (write .0) (write .1)) bus)
-
--- A sample: every master is given the level of the wire.
 abbrev pub sampledAt : ℕ → Bus → Bus
 sampledAt level bus =
     record {
-      masters = map (applied (Sample level)) (bus .masters);
+      masters = map (applied everybody (Sample level)) (bus .masters);
       pull = bus .pull;
       level = level;
       byte = bus .byte;
@@ -64,12 +75,23 @@ sampledAt level bus =
       carried = bus .carried;
     }
 
-unfoldable pub sampled : Bus → Bus
-sampled bus = sampledAt (wire (bus .pull) (bus .masters)) bus
-
--- A sample that is recorded.
-abbrev pub noted : Bus → Bus
-noted bus =
+-- Each instant. A carried byte's bits, most significant first, are SDA in the second recorded sample of each of its
+-- eight bit turns.
+unfoldable pub performed : List (List ℕ) → Instant → Bus → Bus
+performed messages (does who operation) bus = withMasters (map (applied who operation) (bus .masters)) bus
+performed messages (loads index) bus =
+    record {
+      masters =
+          zipWith (λ master message. applied stillIn (Write USISRL (getD message index 0)) master) (bus .masters)
+          messages;
+      pull = bus .pull;
+      level = bus .level;
+      byte = 0;
+      levels = bus .levels;
+      carried = bus .carried;
+    }
+performed messages samples bus = sampledAt (wire (bus .pull) (bus .masters)) bus
+performed messages records bus =
     record {
       masters = bus .masters;
       pull = bus .pull;
@@ -78,13 +100,7 @@ noted bus =
       levels = bus .levels ++ bus .level ∷ [];
       carried = bus .carried;
     }
-
-unfoldable pub recorded : Bus → Bus
-recorded bus = noted (sampled bus)
-
--- The acknowledge's pull, begun or ended.
-abbrev pub pulled : Bool → Bus → Bus
-pulled pull bus =
+performed messages (pulls pull) bus =
     record {
       masters = bus .masters;
       pull = pull;
@@ -93,16 +109,8 @@ pulled pull bus =
       levels = bus .levels;
       carried = bus .carried;
     }
-
--- Step 3, a bit turn: all tick; sample; sample again (recorded); all tick; sample (recorded). The pull starts
--- between the two low samples of its own bit turn and ends between those of the next one.
-unfoldable pub bitTurn : Bool → Bus → Bus
-bitTurn pull bus = recorded (every Tick (recorded (pulled pull (sampled (every Tick bus)))))
-
--- A carried byte's bits, most significant first, are SDA in the second recorded sample of each of its eight bit
--- turns.
-abbrev pub taken : Bus → Bus
-taken bus =
+performed messages (judges position) bus = withMasters (map (judged position) (bus .masters)) bus
+performed messages takes bus =
     record {
       masters = bus .masters;
       pull = bus .pull;
@@ -111,33 +119,7 @@ taken bus =
       levels = bus .levels;
       carried = bus .carried;
     }
-
--- A data bit's turn, at its position.
-unfoldable pub dataTurn : ℕ → Bus → Bus
-dataTurn position bus = taken (every (Judge position) (bitTurn false bus))
-
-abbrev pub dataTurns : ℕ → ℕ → Bus → Bus
-dataTurns zero position bus = bus
-dataTurns (suc count) position bus = dataTurns count (suc position) (dataTurn position bus)
-
--- Step 2, each byte: masters still in write USISRL (the message's byte at that index), USICTL0=CAh, USICNT=08h.
-unfoldable pub loaded : List (List ℕ) → ℕ → Bus → Bus
-loaded messages index bus =
-    record {
-      masters = zipWith (λ master message. written USISRL (getD message index 0) master) (bus .masters) messages;
-      pull = bus .pull;
-      level = bus .level;
-      byte = 0;
-      levels = bus .levels;
-      carried = bus .carried;
-    }
-
-unfoldable pub opened : List (List ℕ) → ℕ → Bus → Bus
-opened messages index bus = writes ((USICTL0, 0xca) ∷ (USICNT, 0x08) ∷ []) (loaded messages index bus)
-
--- then eight bit turns. A master with AL set withdraws. The rest write USICTL0=C8h, USICNT=01h.
-abbrev pub byteTaken : Bus → Bus
-byteTaken bus =
+performed messages carries bus =
     record {
       masters = bus .masters;
       pull = bus .pull;
@@ -146,14 +128,73 @@ byteTaken bus =
       levels = bus .levels;
       carried = bus .carried ++ bus .byte ∷ [];
     }
+performed messages settles bus = withMasters (map settled (bus .masters)) bus
 
-unfoldable pub closed : Bus → Bus
-closed bus = writes ((USICTL0, 0xc8) ∷ (USICNT, 0x01) ∷ []) (every Withdraw (byteTaken bus))
+-- A script: one instant after the other.
+abbrev pub perform : List (List ℕ) → List Instant → Bus → Bus
+perform messages [] bus = bus
+perform messages (instant ∷ instants) bus = perform messages instants (performed messages instant bus)
 
--- and one bit turn in which the acknowledge is pulled (0) or left high (1).
-unfoldable pub byteTurn : List (List ℕ) → ℕ → ℕ → Bus → Bus
-byteTurn messages index acknowledge bus =
-    bitTurn (eqb acknowledge 0) (closed (dataTurns 8 (9 * index) (opened messages index bus)))
+-- Registers written by those meant, each as address and value.
+abbrev pub writes : Who → List (ℕ × ℕ) → List Instant
+writes who [] = []
+writes who (write ∷ more) = does who (Write (write .0) (write .1)) ∷ writes who more
+
+-- All modules start from power-up, then write USICKCTL=22h, USICTL1=41h, USICTL0=C8h. Nothing is pulled or recorded
+-- yet.
+abbrev pub powered : List (List ℕ) → Bus
+powered messages =
+    record {
+      masters = map (λ message. entering) messages;
+      pull = false;
+      level = 0;
+      byte = 0;
+      levels = [];
+      carried = [];
+    }
+
+abbrev pub setUp : List Instant
+setUp = writes stillIn ((USICKCTL, 0x22) ∷ (USICTL1, 0x41) ∷ (USICTL0, 0xc8) ∷ [])
+
+-- Step 1: sample (recorded). All write USISRL=0, USICTL0=CEh, CAh; sample (recorded: START); write USICTL1=41h.
+abbrev pub start : List Instant
+start =
+    samples ∷ records ∷ []
+    ++ writes stillIn ((USISRL, 0x00) ∷ (USICTL0, 0xce) ∷ (USICTL0, 0xca) ∷ [])
+    ++ samples ∷ records ∷ []
+    ++ writes stillIn ((USICTL1, 0x41) ∷ [])
+
+-- Step 3, a bit turn: all tick; sample; sample again (recorded); all tick; sample (recorded). The pull starts
+-- between the two low samples of its own bit turn and ends between those of the next one.
+abbrev pub bitTurn : Bool → List Instant
+bitTurn pull =
+    does everybody Tick ∷ samples ∷ pulls pull ∷ samples ∷ records ∷ does everybody Tick ∷ samples ∷ records ∷ []
+
+-- Step 2, each byte: masters still in write USISRL (the message's byte at that index), USICTL0=CAh, USICNT=08h,
+-- then eight bit turns.
+abbrev pub dataTurns : ℕ → ℕ → List Instant
+dataTurns zero position = []
+dataTurns (suc count) position = bitTurn false ++ judges position ∷ takes ∷ dataTurns count (suc position)
+
+-- A master with AL set then writes USICTL0=C0h, USICNT=80h. The rest write USICTL0=C8h, USICNT=01h; one bit turn in
+-- which the acknowledge is pulled (0) or left high (1).
+abbrev pub byteTurn : ℕ → ℕ → List Instant
+byteTurn index acknowledge =
+    loads index ∷ writes stillIn ((USICTL0, 0xca) ∷ (USICNT, 0x08) ∷ [])
+    ++ dataTurns 8 (9 * index)
+    ++ carries ∷ writes beaten ((USICTL0, 0xc0) ∷ (USICNT, 0x80) ∷ [])
+    ++ settles ∷ writes stillIn ((USICTL0, 0xc8) ∷ (USICNT, 0x01) ∷ [])
+    ++ bitTurn (eqb acknowledge 0)
+
+-- Step 4: those still in write USICTL0=CAh, USISRL=00h, USICNT=01h; a bit turn; USISRL=FFh, USICTL0=CEh; sample
+-- (recorded: STOP); USICTL0=C8h.
+abbrev pub stop : List Instant
+stop =
+    writes stillIn ((USICTL0, 0xca) ∷ (USISRL, 0x00) ∷ (USICNT, 0x01) ∷ [])
+    ++ bitTurn false
+    ++ writes stillIn ((USISRL, 0xff) ∷ (USICTL0, 0xce) ∷ [])
+    ++ samples ∷ records ∷ []
+    ++ writes stillIn ((USICTL0, 0xc8) ∷ [])
 
 -- Someone still in has sent all of its message.
 unfoldable pub through : List (List ℕ) → ℕ → List Master → Bool
@@ -164,45 +205,51 @@ through messages sent masters =
 -- Step 2 until answer 1 or the last byte. Free: which byte is the last where those still in have messages of
 -- different lengths. Here it is the last of the shortest of them; where refusal 16 does not apply, going on until
 -- all of them are sent is the same run (proofs/LastByte.antt).
-abbrev pub bytesTurn : List (List ℕ) → List ℕ → ℕ → Bus → Bus
-bytesTurn messages [] index bus = bus
-bytesTurn messages (acknowledge ∷ acknowledges) index bus =
-    let after = byteTurn messages index acknowledge bus in
-    let rest = bytesTurn messages acknowledges (suc index) after in
+abbrev pub bytes : List (List ℕ) → List ℕ → ℕ → Bus → Bus
+bytes messages [] index bus = bus
+bytes messages (acknowledge ∷ acknowledges) index bus =
+    let after = perform messages (byteTurn index acknowledge) bus in
+    let rest = bytes messages acknowledges (suc index) after in
     cond (eqb acknowledge 1 || through messages (suc index) (after .masters)) after rest
-
--- All modules start from power-up, then write USICKCTL=22h, USICTL1=41h, USICTL0=C8h. Nothing is pulled or recorded
--- yet.
-unfoldable pub prepared : List (List ℕ) → Bus
-prepared messages =
-    writes ((USICKCTL, 0x22) ∷ (USICTL1, 0x41) ∷ (USICTL0, 0xc8) ∷ [])
-    (record {
-      masters = map (λ message. entering) messages;
-      pull = false;
-      level = 0;
-      byte = 0;
-      levels = [];
-      carried = [];
-    })
-
--- Step 1: sample (recorded). All write USISRL=0, USICTL0=CEh, CAh; sample (recorded: START); write USICTL1=41h.
-unfoldable pub started : Bus → Bus
-started bus =
-    writes ((USICTL1, 0x41) ∷ [])
-    (recorded (writes ((USISRL, 0x00) ∷ (USICTL0, 0xce) ∷ (USICTL0, 0xca) ∷ []) (recorded bus)))
-
--- Step 4: those still in write USICTL0=CAh, USISRL=00h, USICNT=01h; a bit turn; USISRL=FFh, USICTL0=CEh; sample
--- (recorded: STOP); USICTL0=C8h.
-unfoldable pub stopped : Bus → Bus
-stopped bus =
-    writes ((USICTL0, 0xc8) ∷ [])
-    (recorded
-    (writes ((USISRL, 0xff) ∷ (USICTL0, 0xce) ∷ [])
-    (bitTurn false (writes ((USICTL0, 0xca) ∷ (USISRL, 0x00) ∷ (USICNT, 0x01) ∷ []) bus))))
 
 -- Steps 1 to 4.
 unfoldable pub run : List (List ℕ) → List ℕ → Bus
-run messages acknowledges = stopped (bytesTurn messages acknowledges 0 (started (prepared messages)))
+run messages acknowledges =
+    perform messages stop
+    (bytes messages acknowledges 0 (perform messages (setUp ++ start) (powered messages)))
+
+-- All instants of a run, and the refusal numbers of the steps that the modules make in them (0: not refused).
+abbrev pub bytesScript : List (List ℕ) → List ℕ → ℕ → Bus → List Instant
+bytesScript messages [] index bus = []
+bytesScript messages (acknowledge ∷ acknowledges) index bus =
+    let after = perform messages (byteTurn index acknowledge) bus in
+    let rest = bytesScript messages acknowledges (suc index) after in
+    byteTurn index acknowledge
+    ++ cond (eqb acknowledge 1 || through messages (suc index) (after .masters)) [] rest
+
+abbrev pub script : List (List ℕ) → List ℕ → List Instant
+script messages acknowledges =
+    setUp ++ start
+    ++ bytesScript messages acknowledges 0 (perform messages (setUp ++ start) (powered messages))
+    ++ stop
+
+unfoldable pub refusedIn : List (List ℕ) → Instant → Bus → List ℕ
+refusedIn messages (does who operation) bus = map (refusedAt who operation) (bus .masters)
+refusedIn messages (loads index) bus =
+    zipWith (λ master message. refusedAt stillIn (Write USISRL (getD message index 0)) master) (bus .masters) messages
+refusedIn messages samples bus =
+    map (refusedAt everybody (Sample (wire (bus .pull) (bus .masters)))) (bus .masters)
+refusedIn messages records bus = []
+refusedIn messages (pulls pull) bus = []
+refusedIn messages (judges position) bus = []
+refusedIn messages takes bus = []
+refusedIn messages carries bus = []
+refusedIn messages settles bus = []
+
+abbrev pub refusals : List (List ℕ) → List Instant → Bus → List ℕ
+refusals messages [] bus = []
+refusals messages (instant ∷ instants) bus =
+    refusedIn messages instant bus ++ refusals messages instants (performed messages instant bus)
 
 -- What demand 3 compares of a run; of the final modules only AL.
 abbrev pub fateOf : Master → Fate
@@ -214,4 +261,10 @@ fateOf master =
     }
 
 unfoldable pub observed : Bus → Outcome
-observed bus = record { carried = bus .carried; levels = bus .levels; fates = map fateOf (bus .masters) }
+observed bus =
+    record {
+      count = length (bus .carried);
+      carried = bus .carried;
+      levels = bus .levels;
+      fates = map fateOf (bus .masters);
+    }

@@ -35,28 +35,33 @@ is-or =
     (at-digit (λ b. eqb (max 1 b) 1 ≡ eqb 1 1 || eqb b 1) refl refl)
 
 least : (a : ℕ) → a < 2 → (b : ℕ) → b < 2 → min a b < 2
-least = at-digit (λ a. (b : ℕ) → b < 2 → min a b < 2) (at-digit (λ b. min 0 b < 2) (omega arith) (omega arith)) (at-digit (λ b. min 1 b < 2) (omega arith) (omega arith))
+least = at-digit (λ a. (b : ℕ) → b < 2 → min a b < 2) (at-digit (λ b. min 0 b < 2) (omega arith) (omega arith))
+    (at-digit (λ b. min 1 b < 2) (omega arith) (omega arith))
 
 most : (a : ℕ) → a < 2 → (b : ℕ) → b < 2 → max a b < 2
-most = at-digit (λ a. (b : ℕ) → b < 2 → max a b < 2) (at-digit (λ b. max 0 b < 2) (omega arith) (omega arith)) (at-digit (λ b. max 1 b < 2) (omega arith) (omega arith))
+most = at-digit (λ a. (b : ℕ) → b < 2 → max a b < 2) (at-digit (λ b. max 0 b < 2) (omega arith) (omega arith))
+    (at-digit (λ b. max 1 b < 2) (omega arith) (omega arith))
 
 -- a bit of a & b and of a | b
 pub isSet-and : (position a b : ℕ) → isSet position (bitAnd a b) ≡ isSet position a && isSet position b
 isSet-and p a b =
     ap (λ (x : ℕ). eqb (x % 2) 1) (and-shr a b p ∙ and-step (a / 2 ^ p) (b / 2 ^ p))
-    ∙ ap (λ (x : ℕ). eqb x 1) (digits-mod (bitAnd (a / 2 ^ p / 2) (b / 2 ^ p / 2)) (least (digit p a) (digit-lt p a) (digit p b) (digit-lt p b)))
+    ∙ ap (λ (x : ℕ). eqb x 1) (digits-mod (bitAnd (a / 2 ^ p / 2) (b / 2 ^ p / 2))
+    (least (digit p a) (digit-lt p a) (digit p b) (digit-lt p b)))
     ∙ is-and (digit p a) (digit-lt p a) (digit p b) (digit-lt p b)
 
 pub isSet-or : (position a b : ℕ) → isSet position (bitOr a b) ≡ isSet position a || isSet position b
 isSet-or p a b =
     ap (λ (x : ℕ). eqb (x % 2) 1) (or-shr a b p ∙ or-step (a / 2 ^ p) (b / 2 ^ p))
-    ∙ ap (λ (x : ℕ). eqb x 1) (digits-mod (bitOr (a / 2 ^ p / 2) (b / 2 ^ p / 2)) (most (digit p a) (digit-lt p a) (digit p b) (digit-lt p b)))
+    ∙ ap (λ (x : ℕ). eqb x 1) (digits-mod (bitOr (a / 2 ^ p / 2) (b / 2 ^ p / 2))
+    (most (digit p a) (digit-lt p a) (digit p b) (digit-lt p b)))
     ∙ is-or (digit p a) (digit-lt p a) (digit p b) (digit-lt p b)
 
 -- x & 2^p is the digit at p, in its place
 pub one-bit : (position x : ℕ) → bitAnd x (bit position) ≡ digit position x * bit position
 one-bit p x =
-    let double : 2 ^ (1 + p) ≡ 2 ^ p * 2 = ap (λ (k : ℕ). 2 ^ k) (add-comm 1 p) ∙ ap (λ (k : ℕ). 2 ^ k) (add-one p) ∙ pow-suc 2 p in
+    let double : 2 ^ (1 + p) ≡ 2 ^ p * 2 = ap (λ (k : ℕ). 2 ^ k) (add-comm 1 p) ∙ ap (λ (k : ℕ). 2 ^ k) (add-one p)
+    ∙ pow-suc 2 p in
     let whole : bit p ≡ 2 ^ (1 + p) - 2 ^ p = omega arith in
     ap (λ (m : ℕ). bitAnd x m) whole ∙ and-high x 1 p
 
@@ -110,20 +115,25 @@ isSet-raised : (x mask position : ℕ) → isSet position mask ≡ false → isS
 isSet-raised x mask p outside =
     isSet-or p x mask ∙ ap (λ (b : Bool). isSet p x || b) outside ∙ or-false (isSet p x)
 
-isSet-cleared : (x mask position : ℕ) → isSet position (255 - mask) ≡ true → isSet position (clear x mask) ≡ isSet position x
+isSet-cleared : (x mask position : ℕ) → isSet position (255 - mask) ≡ true → isSet position (clear x mask) ≡ isSet
+    position x
 isSet-cleared x mask p outside =
     isSet-and p x (255 - mask) ∙ ap (λ (b : Bool). isSet p x && b) outside ∙ and-true (isSet p x)
 
-pub on-raised : (x mask position : ℕ) → isSet position mask ≡ false → on (raise x mask) (bit position) ≡ on x (bit position)
+pub on-raised : (x mask position : ℕ) → isSet position mask ≡ false → on (raise x mask) (bit position) ≡ on x
+    (bit position)
 on-raised x mask p outside = on-bit (raise x mask) p ∙ isSet-raised x mask p outside ∙ sym (on-bit x p)
 
-pub off-raised : (x mask position : ℕ) → isSet position mask ≡ false → off (raise x mask) (bit position) ≡ off x (bit position)
+pub off-raised : (x mask position : ℕ) → isSet position mask ≡ false → off (raise x mask) (bit position) ≡ off x
+    (bit position)
 off-raised x mask p outside =
     off-bit (raise x mask) p ∙ ap not (isSet-raised x mask p outside) ∙ sym (off-bit x p)
 
-pub on-cleared : (x mask position : ℕ) → isSet position (255 - mask) ≡ true → on (clear x mask) (bit position) ≡ on x (bit position)
+pub on-cleared : (x mask position : ℕ) → isSet position (255 - mask) ≡ true → on (clear x mask) (bit position) ≡ on x
+    (bit position)
 on-cleared x mask p outside = on-bit (clear x mask) p ∙ isSet-cleared x mask p outside ∙ sym (on-bit x p)
 
-pub off-cleared : (x mask position : ℕ) → isSet position (255 - mask) ≡ true → off (clear x mask) (bit position) ≡ off x (bit position)
+pub off-cleared : (x mask position : ℕ) → isSet position (255 - mask) ≡ true → off (clear x mask) (bit position) ≡ off
+    x (bit position)
 off-cleared x mask p outside =
     off-bit (clear x mask) p ∙ ap not (isSet-cleared x mask p outside) ∙ sym (off-bit x p)

@@ -1,5 +1,7 @@
 // The lines that answer a command.
 use arbitration::Arbitrated;
+use arbitration_rules::MAX_MASTERS;
+use arbitration_rules::Seat;
 use libc::STDOUT_FILENO;
 use usi::Usi;
 
@@ -29,44 +31,44 @@ fn module(device: Usi) {
     io::write_all(STDOUT_FILENO, &text[0..end]);
 }
 
-fn master(i: usize, device: Usi, position: u16) {
+fn master(i: usize, device: Usi, seat: Seat) {
     labelled(b"  ", i as u64);
     io::write_all(STDOUT_FILENO, b": ");
     module(device);
-    labelled(b" at ", position as u64);
+    labelled(b" at ", seat.position as u64);
     line(b"");
 }
 
-fn masters(modules: [Usi; 8], positions: [u16; 8]) {
+fn masters(modules: [Usi; MAX_MASTERS], seats: [Seat; MAX_MASTERS]) {
     let mut i = 0;
-    while i < 8 {
-        master(i, modules[i], positions[i]);
+    while i < MAX_MASTERS {
+        master(i, modules[i], seats[i]);
         i += 1;
     }
 }
 
 // The masters still contending, bit i for master i.
-fn mask(contending: [bool; 8]) -> u8 {
-    (contending[0] as u8)
-        | (contending[1] as u8) << 1
-        | (contending[2] as u8) << 2
-        | (contending[3] as u8) << 3
-        | (contending[4] as u8) << 4
-        | (contending[5] as u8) << 5
-        | (contending[6] as u8) << 6
-        | (contending[7] as u8) << 7
+fn mask(seats: [Seat; MAX_MASTERS]) -> u64 {
+    let mut mask: u64 = 0;
+    let mut i: usize = 0;
+    while i < MAX_MASTERS {
+        let seat = seats[i];
+        mask = mask | (seat.contending as u64) << i;
+        i += 1;
+    }
+    mask
 }
 
 fn reply(answer: Arbitrated) {
-    let contending = answer.contending;
+    let refusal = answer.refusal;
     let modules = answer.modules;
-    let positions = answer.positions;
-    labelled(b"refused ", answer.refusal as u64);
-    labelled(b" place ", answer.place as u64);
-    labelled(b" k ", answer.k as u64);
-    labelled(b" in ", mask(contending) as u64);
+    let seats = answer.seats;
+    labelled(b"refused ", refusal.number as u64);
+    labelled(b" place ", refusal.place as u64);
+    labelled(b" k ", answer.count as u64);
+    labelled(b" in ", mask(seats));
     line(b"");
-    masters(modules, positions);
+    masters(modules, seats);
 }
 
 fn hex_byte(b: u8) {

@@ -1,6 +1,6 @@
 // The lines that answer the commands.
-use bus::Decoded;
-use bus::Encoded;
+use decode::Decoded;
+use encode::Encoded;
 use libc::STDOUT_FILENO;
 use std::num::wrapping_add_u32;
 
@@ -98,7 +98,7 @@ fn with_sample(total: u32, stamp: u32, level: u8) -> u32 {
 
 // Decodes a trace into a buffer, and prints the answer and the buffer.
 fn decode_into(stamps: &[u32], levels: &[u8], events: &mut [u16]) {
-    decoded(bus::decode(stamps, levels, events));
+    decoded(decode::decode(stamps, levels, events));
     all_events(events);
     line(b"");
 }
@@ -119,7 +119,7 @@ pub fn decoding(stamps: &[u32], levels: &[u8], n: usize, events: &mut [u16], roo
 
 // Encodes an event list into two buffers, and prints the answer and the buffers.
 fn encode_into(events: &[u16], start: u32, gap: u32, stamps: &mut [u32], levels: &mut [u8]) {
-    encoded(bus::encode(events, start, gap, stamps, levels));
+    encoded(encode::encode(events, start, gap, stamps, levels));
     io::write_all(STDOUT_FILENO, b" |");
     all_samples(stamps, levels);
     line(b"");
@@ -152,7 +152,7 @@ pub fn encoding(
 
 // Encodes an event list into two buffers, and prints the answer and the buffers' sum.
 pub fn long_encoding(events: &[u16], start: u32, gap: u32, stamps: &mut [u32], levels: &mut [u8]) {
-    encoded(bus::encode(events, start, gap, stamps, levels));
+    encoded(encode::encode(events, start, gap, stamps, levels));
     labelled(b" sum ", sum(stamps, levels) as u64);
     line(b"");
 }

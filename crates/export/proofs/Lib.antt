@@ -1,2 +1,4 @@
-pub mod HandedBack
+pub mod Inverse
+pub mod Small
 pub mod WrittenTable
+pub mod Contract

@@ -1,14 +1,12 @@
--- A table filled entry by entry: what holds of it as a loop goes on, by bus_draw's law of lists written into a buffer.
+-- A table filled entry by entry: what holds of it as a loop goes on, by the law of lists written into a buffer.
 use mathlib.Core.Path.{_≡_, sym, ap, _∙_}
 use mathlib.Core.List.{List, [], _∷_, _++_, map}
 use Prim.Native.Nat.{ℕ, suc, _+_, _≤_, _<_}
 use native.Mathlib.Numerals.{add-one}
 use lib.ListN.{length, drop, set, getD, drop-of-length-le, List·getD-map}
 use lib.Seq.{drop-cons}
-use Rattle.usi.specs.declared.Usi.{Usi}
-use Rattle.bus_draw.specs.Buffer.{filled}
-use Rattle.export.specs.Packed.{packed}
-use Rattle.bus_draw.proofs.Writing.{Writing, writing-none, writing-long, writing-more, writing-done}
+use Rattle.laws.specs.Buffer.{filled}
+use Rattle.laws.proofs.Buffer.{Writing, writing-none, writing-long, writing-more, writing-done}
 
 -- the first count entries are written
 abbrev pub Written : List ℕ → List ℕ → List ℕ → ℕ → Type 0
@@ -32,7 +30,7 @@ module _ (whole table₀ table : List ℕ) (count : ℕ) (room : length whole �
   pub written-done : length whole ≤ count → table ≡ filled whole table₀
   written-done all = writing-done whole (drop count whole) table₀ table count room written (drop-of-length-le whole all)
 
--- the number of the module at an index stands there in the list of numbers
-pub module-entry : (modules : List Usi) (index : ℕ) (other : Usi) (entry : ℕ) → entry ≡ packed (getD modules index other)
-    → entry ≡ getD (map packed modules) index (packed other)
-module-entry modules index other entry e = e ∙ sym (List·getD-map packed modules index other)
+-- an entry that stands for the element at an index stands there in the list of entries
+pub mapped-entry : {A : Type 0} (f : A → ℕ) (list : List A) (index : ℕ) (other : A) (entry : ℕ)
+    → entry ≡ f (getD list index other) → entry ≡ getD (map f list) index (f other)
+mapped-entry f list index other entry e = e ∙ sym (List·getD-map f list index other)

@@ -1,3 +1,3 @@
 pub mod Packed
 pub mod Replies
-pub mod Tables
+pub mod Arbitration

@@ -1,5 +1,5 @@
 -- A module as one 64-bit number, for callers that pass numbers only.
-use Prim.Native.Nat.{ℕ, _+_, _*_, _/_, _%_, _^_}
+use Prim.Native.Nat.{ℕ, _+_, _*_, _/_, _%_, _^_, _<_}
 use mir.Val.{boolByte}
 use Rattle.bits.specs.Positions.{isSet}
 use Rattle.usi.specs.declared.Usi.{Usi}
@@ -33,7 +33,8 @@ unpacked number =
 
 abbrev pub registers : Usi → ℕ
 registers u =
-    u .usictl0 + 256 * u .usictl1 + 256 ^ 2 * u .usickctl + 256 ^ 3 * u .usicnt + 256 ^ 4 * u .usisrl + 256 ^ 5 * u .usisrh
+    u .usictl0 + 256 * u .usictl1 + 256 ^ 2 * u .usickctl + 256 ^ 3 * u .usicnt + 256 ^ 4 * u .usisrl
+    + 256 ^ 5 * u .usisrh
 
 abbrev pub hidden : Usi → ℕ
 hidden u =
@@ -42,6 +43,15 @@ hidden u =
 
 abbrev pub packed : Usi → ℕ
 packed u = registers u + 256 ^ 6 * hidden u
+
+-- each register is a byte (proofs/Inverse.antt: such a module is its number unpacked)
+pub record Bytes (u : Usi) : Type 0 where
+  pub usictl0 : u .usictl0 < 256
+  pub usictl1 : u .usictl1 < 256
+  pub usickctl : u .usickctl < 256
+  pub usicnt : u .usicnt < 256
+  pub usisrl : u .usisrl < 256
+  pub usisrh : u .usisrh < 256
 
 -- a step's answer: the module, and the refusal's number in byte 7
 abbrev pub packedStep : Step → ℕ

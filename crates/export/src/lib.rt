@@ -4,10 +4,11 @@ ghost use mir.Val.{boolByte};
 ghost use Prim.Native.Nat.{_+_, _*_, _^_, _<_};
 ghost use Rattle.usi.specs.Module.{powerUp};
 ghost use Rattle.usi.specs.Step.{readByte, readWord, writeByte, writeWord, sample as sampleRule, tick as tickRule};
-ghost use Rattle.export.specs.Packed.{unpacked as unpackedNumber, registers as registersOf, hidden as hiddenOf, packed as packedModule, packedStep, packedRead, lines};
+ghost use Rattle.export.specs.Packed.{unpacked as unpackedNumber, registers as registersOf, hidden as hiddenOf};
+ghost use Rattle.export.specs.Packed.{packed as packedModule, packedStep, packedRead, lines};
 
-mod tables; // tables.rt: arbitration
-mod trace; // trace.rt: decode and encode
+mod arbitration_calls; // arbitration_calls.rt: arbitration
+mod trace_calls; // trace_calls.rt: decode and encode
 
 use usi::Read;
 use usi::Step;

@@ -1,7 +1,6 @@
 // The words of the command line after the command.
 use check::same;
 use rig_lines::numbers::is_number;
-use rig_lines::numbers::least_number;
 use rig_lines::numbers::value;
 use rig_lines::output::Output;
 use rig_lines::output::trouble;
@@ -10,7 +9,7 @@ pub(crate) struct Arguments {
     // which argument names the file; 0: none does
     pub(crate) file: usize,
     pub(crate) brief: bool,
-    // room to lend to the library
+    // room to lend to the library; a command lends no more than it has
     pub(crate) room: usize,
     // which options the command takes
     takes_brief: bool,
@@ -20,8 +19,6 @@ pub(crate) struct Arguments {
     // an error has been printed
     pub(crate) broken: bool,
 }
-
-const ALL_ROOM: usize = 65536;
 
 fn unexpected(word: &[u8]) {
     Output::new()
@@ -49,7 +46,7 @@ impl Arguments {
             trouble(b"expected a number after --room");
             return self.failed();
         }
-        self.room = least_number(value(number), ALL_ROOM as u64) as usize;
+        self.room = value(number) as usize;
         self.wants_room = false;
         self
     }
@@ -110,7 +107,7 @@ fn none(takes_brief: bool, takes_room: bool) -> Arguments {
     Arguments {
         file: 0,
         brief: false,
-        room: ALL_ROOM,
+        room: usize::MAX,
         takes_brief,
         takes_room,
         wants_room: false,

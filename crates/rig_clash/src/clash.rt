@@ -1,5 +1,6 @@
 // rig clash: rehearses each load of a file, where boards start to send at once.
 use crate::load;
+use arbitration_rules::MAX_LENGTH;
 use check::same;
 use rig_lines::input;
 use rig_lines::input::Line;
@@ -11,18 +12,11 @@ use rig_lines::output::done;
 use rig_lines::output::trouble;
 use rig_lines::parts;
 use rig_lines::refusals;
-use rig_outcome::load::BYTE;
-use rig_outcome::load::FRAME;
-use rig_outcome::load::LONGEST;
+use rig_outcome::LEVELS;
 use rig_outcome::load::Load;
 use rig_outcome::load::NAME;
 use text::after_word;
 use text::first_word;
-
-// Room for the bytes carried, and for the levels.
-const CARRIED: usize = LONGEST;
-
-const LEVELS: usize = FRAME + BYTE * CARRIED;
 
 // A line on standard error after so many loads.
 const PROGRESS: u64 = 100;
@@ -202,7 +196,7 @@ fn ack_count(load: Load) -> usize {
 
 // Rehearses a load and shows how it went; answers the refusal's number, or 0.
 fn rehearse(load: Load, brief: bool, room: usize) -> u8 {
-    let mut carried = [0u8; CARRIED];
+    let mut carried = [0u8; MAX_LENGTH];
     let mut levels = [0u8; LEVELS];
     rehearse_in(load, brief, room, &mut carried, &mut levels)
 }
@@ -223,7 +217,8 @@ fn rehearse_in(load: Load, brief: bool, room: usize, carried: &mut [u8], levels:
         &mut levels[..lent],
     );
     rig_outcome::show(load, brief, reply, carried, levels);
-    reply.refusal
+    let refusal = reply.refusal;
+    refusal.number
 }
 
 // Follows what taking a line found.

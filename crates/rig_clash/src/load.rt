@@ -1,4 +1,5 @@
 // A load read from its lines.
+use arbitration_rules::MAX_LENGTH;
 use rig_lines::numbers::hex_byte;
 use rig_lines::numbers::value;
 use rig_outcome::load::ACKS;
@@ -11,8 +12,8 @@ use text::first_word;
 
 const LARGEST_BYTE: u64 = 255;
 
-// A length from which on it is not counted; the library refuses it.
-const LONG: u32 = 4096;
+// A board's bytes are counted to one more than it may have, so that the library sees that they are too many.
+const LONG: u32 = (MAX_LENGTH + 1) as u32;
 
 pub(crate) fn none() -> Load {
     Load {

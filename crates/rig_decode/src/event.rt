@@ -1,7 +1,7 @@
 // Events of a trace in words.
-use rig_lines::bus_numbers::NACK;
-use rig_lines::bus_numbers::START;
 use rig_lines::output::Output;
+use trace::NACK;
+use trace::START;
 
 fn direction(out: Output, byte: u8, addressed: bool) -> Output {
     if !addressed {

@@ -1,14 +1,14 @@
 // What a line of an event list says.
 use check::same;
-use rig_lines::bus_numbers::CUT_BYTE;
-use rig_lines::bus_numbers::NACK;
-use rig_lines::bus_numbers::REPEATED_START;
-use rig_lines::bus_numbers::START;
-use rig_lines::bus_numbers::STOP;
 use rig_lines::numbers::hex_byte;
 use rig_lines::numbers::value;
 use text::after_word;
 use text::first_word;
+use trace::NACK;
+use trace::PARTIAL;
+use trace::REPEATED_START;
+use trace::START;
+use trace::STOP;
 
 const LARGEST_BYTE: u64 = 255;
 
@@ -99,7 +99,7 @@ pub(crate) fn parse(line: &[u8]) -> Said {
     }
     if same(word, b"cut") {
         if same(first_word(rest), b"byte") {
-            return alone(after_word(rest), CUT_BYTE);
+            return alone(after_word(rest), PARTIAL);
         }
         return Said::Malformed;
     }

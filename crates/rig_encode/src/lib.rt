@@ -1,5 +1,5 @@
 // rig encode: an event list drawn as a trace.
-mod encode; // encode.rt: an event list read and drawn
+mod command; // command.rt: an event list read and drawn
 mod event; // event.rt: what a line of an event list says
 
-pub use encode::run;
+pub use command::run;

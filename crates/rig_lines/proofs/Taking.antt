@@ -13,7 +13,8 @@ use Rattle.text.specs.Output.{Put}
 use Rattle.text.proofs.Putting.{put-next, put-none}
 use Rattle.rig_lines.specs.Bytes.{every}
 use Rattle.rig_lines.specs.Numbers.{largest}
-use Rattle.rig_lines.specs.Input.{nextNumber, Fed, nothing, byte, read, afterRead, Refilled, NextByte, judgedLine, judgedLast, storedIn}
+use Rattle.rig_lines.specs.Input.{nextNumber, Fed, nothing, byte, read, afterRead, Refilled, NextByte}
+use Rattle.rig_lines.specs.Input.{judgedLine, judgedLast, storedIn}
 use Rattle.rig_lines.specs.Input.{noNewline, Took, whole, last, endless}
 use Rattle.rig_lines.specs.declared.input.Next.{Next}
 use Rattle.rig_lines.specs.declared.input.Next.the-variants.{Byte, End as NoByte}

@@ -1,5 +1,4 @@
 // What the commands of rig share: lines of input and output, files by name, numbers, and refusals in words.
-pub mod bus_numbers; // bus_numbers.rt: the bus library's numbers
 pub mod files; // files.rt: files by name
 pub mod input; // input.rt: lines of input
 pub mod numbers; // numbers.rt: numbers that a text says

@@ -1,5 +1,6 @@
 // Who won and who lost a rehearsal.
-use crate::load::MOST_BOARDS;
+use arbitration_rules::MAX_MASTERS;
+use arbitration_rules::Seat;
 use rig_lines::output::Output;
 use rig_lines::output::tell;
 
@@ -18,14 +19,15 @@ fn listed(out: Output, label: &[u8], board: usize, belongs: bool, first: bool) -
 pub(crate) fn winners(
     out: Output,
     label: &[u8],
-    contending: [bool; MOST_BOARDS],
+    seats: [Seat; MAX_MASTERS],
     boards: usize,
 ) -> Output {
     let mut line = out;
     let mut first = true;
     let mut i: usize = 0;
-    while i < MOST_BOARDS {
-        let won = contending[i] & (i < boards);
+    while i < MAX_MASTERS {
+        let seat = seats[i];
+        let won = seat.contending & (i < boards);
         line = listed(line, label, i, won, first);
         first = first & !won;
         i += 1;
@@ -44,16 +46,13 @@ fn show_loser(board: usize, position: u16) {
 }
 
 // The boards that lost, one a line; answers whether there is one.
-pub(crate) fn show_losers(
-    contending: [bool; MOST_BOARDS],
-    positions: [u16; MOST_BOARDS],
-    boards: usize,
-) -> bool {
+pub(crate) fn show_losers(seats: [Seat; MAX_MASTERS], boards: usize) -> bool {
     let mut lost = false;
     let mut i: usize = 0;
-    while i < MOST_BOARDS {
-        if !contending[i] & (i < boards) {
-            show_loser(i, positions[i]);
+    while i < MAX_MASTERS {
+        let seat = seats[i];
+        if !seat.contending & (i < boards) {
+            show_loser(i, seat.position);
             lost = true;
         }
         i += 1;
@@ -71,18 +70,14 @@ fn loser(out: Output, board: usize, position: u16, lost: bool, first: bool) -> O
 }
 
 // The same in one line.
-pub(crate) fn losers(
-    out: Output,
-    contending: [bool; MOST_BOARDS],
-    positions: [u16; MOST_BOARDS],
-    boards: usize,
-) -> Output {
+pub(crate) fn losers(out: Output, seats: [Seat; MAX_MASTERS], boards: usize) -> Output {
     let mut line = out;
     let mut first = true;
     let mut i: usize = 0;
-    while i < MOST_BOARDS {
-        let lost = !contending[i] & (i < boards);
-        line = loser(line, i, positions[i], lost, first);
+    while i < MAX_MASTERS {
+        let seat = seats[i];
+        let lost = !seat.contending & (i < boards);
+        line = loser(line, i, seat.position, lost, first);
         first = first & !lost;
         i += 1;
     }

@@ -5,3 +5,4 @@ mod outcome; // outcome.rt: the outcome, whole and in one line
 mod waveform; // waveform.rt: the lines of the bus as text
 
 pub use outcome::show;
+pub use waveform::LEVELS;

@@ -1,25 +1,18 @@
 // A load: what each board sends, and the acknowledges.
+use arbitration_rules::MAX_LENGTH;
+use arbitration_rules::MAX_MASTERS;
 
 // The longest name of a load.
 pub const NAME: usize = 32;
 
-// The boards that an arbitration has, and the boards of a load that are kept: one more, so that the library sees that
-// there are too many.
-pub const MOST_BOARDS: usize = 8;
+// The boards of a load that are kept: one more than there may be, so that the library sees that they are too many.
+pub const BOARDS: usize = MAX_MASTERS + 1;
 
-pub const BOARDS: usize = MOST_BOARDS + 1;
+// The bytes that are kept: as many as boards within the limits have.
+pub const BYTES: usize = MAX_MASTERS * MAX_LENGTH;
 
-// Bytes and acknowledges that are kept. A load that has more has a board or an acknowledge too many, and is refused.
-pub const BYTES: usize = 512;
-
-pub const ACKS: usize = 64;
-
-// The most bytes that are carried, the levels recorded for START and STOP, and those for each byte.
-pub const LONGEST: usize = 32;
-
-pub const FRAME: usize = 5;
-
-pub const BYTE: usize = 18;
+// The acknowledges that are kept: one more than there may be, so that the library sees that they are too many.
+pub const ACKS: usize = MAX_LENGTH + 1;
 
 pub struct Load {
     // whether there is one, and the line that begins it

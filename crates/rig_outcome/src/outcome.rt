@@ -1,12 +1,11 @@
 // What the rehearsal of a load shows.
 use crate::boards;
-use crate::load::BYTE;
-use crate::load::FRAME;
-use crate::load::LONGEST;
 use crate::load::Load;
-use crate::load::MOST_BOARDS;
 use crate::waveform;
 use arbitration_rules::Arbitrated;
+use arbitration_rules::MAX_MASTERS;
+use arbitration_rules::Seat;
+use laws::Refusal;
 use rig_lines::output::Output;
 use rig_lines::output::say;
 use rig_lines::output::tell;
@@ -73,9 +72,9 @@ fn show_module(board: usize, module: Usi) {
     );
 }
 
-fn show_modules(modules: [Usi; MOST_BOARDS], boards: usize) {
+fn show_modules(modules: [Usi; MAX_MASTERS], boards: usize) {
     let mut i: usize = 0;
-    while i < MOST_BOARDS {
+    while i < MAX_MASTERS {
         if i < boards {
             show_module(i, modules[i]);
         }
@@ -83,41 +82,31 @@ fn show_modules(modules: [Usi; MOST_BOARDS], boards: usize) {
     }
 }
 
-// How many levels are recorded for so many bytes.
-fn recorded(count: usize) -> usize {
-    if count > LONGEST {
-        return 0;
-    }
-    FRAME + BYTE * count
-}
-
 // Who won and who lost.
-fn show_boards(contending: [bool; MOST_BOARDS], positions: [u16; MOST_BOARDS], count: usize) {
-    boards::winners(Output::new().words(b"  won "), b"board ", contending, count).print();
-    if !boards::show_losers(contending, positions, count) {
+fn show_boards(seats: [Seat; MAX_MASTERS], count: usize) {
+    boards::winners(Output::new().words(b"  won "), b"board ", seats, count).print();
+    if !boards::show_losers(seats, count) {
         say(b"  lost none");
     }
 }
 
 // The whole outcome of a load.
 fn show_whole(load: Load, reply: Arbitrated, carried: &[u8], levels: &[u8]) {
-    let contending = reply.contending;
-    let positions = reply.positions;
+    let seats = reply.seats;
     let modules = reply.modules;
     header(load).print();
-    show_boards(contending, positions, load.boards);
-    transfer(Output::new().words(b"  "), carried, load, reply.k).print();
+    show_boards(seats, load.boards);
+    transfer(Output::new().words(b"  "), carried, load, reply.count).print();
     show_modules(modules, load.boards);
-    waveform::show(levels, parts::bytes(recorded(reply.k), levels));
+    waveform::show(levels, reply.count);
 }
 
 // The outcome in one line.
 fn show_brief(load: Load, reply: Arbitrated, carried: &[u8]) {
-    let contending = reply.contending;
-    let positions = reply.positions;
-    let won = boards::winners(header(load).words(b": won "), b"", contending, load.boards);
-    let lost = boards::losers(won.words(b"; lost "), contending, positions, load.boards);
-    transfer(lost.words(b"; "), carried, load, reply.k).print();
+    let seats = reply.seats;
+    let won = boards::winners(header(load).words(b": won "), b"", seats, load.boards);
+    let lost = boards::losers(won.words(b"; lost "), seats, load.boards);
+    transfer(lost.words(b"; "), carried, load, reply.count).print();
 }
 
 // The line of the board that a refusal's place names.
@@ -126,30 +115,32 @@ fn line_of(load: Load, place: usize) -> u64 {
     store::line_at(&lines, place)
 }
 
-fn refusal(out: Output, load: Load, number: u8, place: usize) -> Output {
+fn refusal(out: Output, load: Load, found: Refusal) -> Output {
+    let number = found.number;
     match number {
-        13 | 14 => refusals::refusal_at(out, number, place, line_of(load, place)),
+        13 | 14 => refusals::refusal_at(out, number, found.place, line_of(load, found.place)),
         _ => refusals::refusal(out, number),
     }
 }
 
 // A refused load.
-fn refuse(load: Load, number: u8, place: usize) {
+fn refuse(load: Load, found: Refusal) {
     header(load).print();
-    refusal(Output::new().words(b"  "), load, number, place).print();
+    refusal(Output::new().words(b"  "), load, found).print();
 }
 
-fn refuse_brief(load: Load, number: u8, place: usize) {
-    refusal(header(load).words(b": "), load, number, place).print();
+fn refuse_brief(load: Load, found: Refusal) {
+    refusal(header(load).words(b": "), load, found).print();
 }
 
 // Shows how the rehearsal of a load went.
 pub fn show(load: Load, brief: bool, reply: Arbitrated, carried: &[u8], levels: &[u8]) {
-    if reply.refusal > 0 {
+    let found = reply.refusal;
+    if found.number > 0 {
         if brief {
-            refuse_brief(load, reply.refusal, reply.place);
+            refuse_brief(load, found);
         } else {
-            refuse(load, reply.refusal, reply.place);
+            refuse(load, found);
         }
     } else {
         if brief {

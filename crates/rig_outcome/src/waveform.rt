@@ -1,12 +1,22 @@
 // The lines of the bus as text, a character a sample, as logic analysers print them.
+use arbitration_rules::MAX_LENGTH;
 use rig_lines::output::Output;
+use rig_lines::parts;
 
-// A line in a level byte: SCL + 2 SDA.
+// The levels recorded for START and STOP, and those for each byte.
+const FRAME: usize = 5;
+
+const BYTE: usize = 18;
+
+// Room for the levels of any arbitration.
+pub const LEVELS: usize = FRAME + BYTE * MAX_LENGTH;
+
+// One of the two lines at a level.
 fn is_high(level: u8, sda: bool) -> bool {
     if sda {
-        return level / 2 % 2 == 1;
+        return levels::sda(level);
     }
-    level % 2 == 1
+    levels::scl(level)
 }
 
 fn steady(high: bool) -> u8 {
@@ -45,8 +55,17 @@ fn marks(out: Output, levels: &[u8], count: usize, sda: bool) -> Output {
     line
 }
 
-// The recorded levels of an arbitration.
-pub(crate) fn show(levels: &[u8], count: usize) {
+// How many levels are recorded for so many bytes.
+fn recorded(bytes: usize) -> usize {
+    if bytes > MAX_LENGTH {
+        return 0;
+    }
+    FRAME + BYTE * bytes
+}
+
+// The levels of an arbitration that carried so many bytes.
+pub(crate) fn show(levels: &[u8], bytes: usize) {
+    let count = parts::bytes(recorded(bytes), levels);
     marks(Output::new().words(b"  scl:"), levels, count, false).print();
     marks(Output::new().words(b"  sda:"), levels, count, true).print();
 }

@@ -4,7 +4,7 @@ use mathlib.Core.Bool.{cond}
 use Prim.Native.Nat.{ℕ, _%_}
 use lib.Dec.{eqb}
 use borrow.Author.Tests.{ne-eqb}
-use Rattle.usi_rules.specs.Registers.{USICTL0, USICTL1, USICKCTL, USICNT, USISRL, USISRH}
+use Rattle.usi_registers.specs.Registers.{USICTL0, USICTL1, USICKCTL, USICNT, USISRL, USISRH}
 use Rattle.usi.specs.declared.Usi.{Usi}
 use Rattle.usi.specs.declared.Read.the-variants.{Refused}
 use Rattle.usi.specs.declared.Step.the-variants.{Refused as NoStep}
@@ -18,7 +18,8 @@ module _ (address : ℕ) (even : address % 2 ≡ 1 → ⊥) (first : address ≡
   -- such an address passes all six tests
   outside :
       {A : Type 0} (a b c d e f other : A)
-      → cond (eqb address USICTL0) a (cond (eqb address USICTL1) b (cond (eqb address USICKCTL) c (cond (eqb address USICNT) d
+      → cond (eqb address USICTL0) a (cond (eqb address USICTL1) b
+      (cond (eqb address USICKCTL) c (cond (eqb address USICNT) d
       (cond (eqb address USISRL) e (cond (eqb address USISRH) f other))))) ≡ other
   outside a b c d e f other =
       rw (

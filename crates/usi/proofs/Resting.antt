@@ -5,13 +5,14 @@ use mathlib.Core.Bool.{Bool, true, false, cond, true≢false}
 use Prim.Native.Nat.{ℕ, _+_, _/_, _%_}
 use lib.Dec.{eqb, ltb}
 use borrow.Author.Tests.{eqb-true, eqb-false}
-use Rattle.bits.specs.Positions.{isSet}
-use Rattle.usi_rules.specs.Registers.{USICTL0, USICTL1, USICKCTL, USICNT, USISRL, USISRH}
+use Rattle.levels.specs.Levels as levels
+use Rattle.usi_registers.specs.Registers.{USICTL0, USICTL1, USICKCTL, USICNT, USISRL, USISRH}
 use Rattle.usi.specs.declared.Usi.{Usi}
 use Rattle.usi.specs.declared.Step.{Step}
 use Rattle.usi.specs.declared.Step.the-variants.{Next, Refused}
 use Rattle.usi.specs.Module.{powerUp, atRest, fits}
-use Rattle.usi.specs.Step.{refusal, moduleOf, andThen, followed, settled, writeByte, odd, writeWord, sampled, sample, ticked, tick}
+use Rattle.usi.specs.Step.{refusal, moduleOf, andThen, followed, settled, writeByte, odd, writeWord, sampled}
+use Rattle.usi.specs.Step.{sample, ticked, tick}
 use Rattle.usi.proofs.Registers.{writes-nothing}
 use Rattle.usi.proofs.SetUp.{followed-fits, sampled-fits, ticked-fits}
 
@@ -73,11 +74,13 @@ both-sound u address value even =
     at : (key : ℕ) → Sound u (both u key value) → address ≡ key → Sound u (both u address value)
     at key sound e = subst (λ (a : ℕ). Sound u (both u a value)) (sym e) sound
 
-    third : (address ≡ USICTL0 → ⊥) → (address ≡ USICKCTL → ⊥) → (test : Bool) → eqb address USISRL ≡ test → Sound u (both u address value)
+    third : (address ≡ USICTL0 → ⊥) → (address ≡ USICKCTL → ⊥) → (test : Bool) → eqb address USISRL ≡ test → Sound u
+        (both u address value)
     third p q true e = at USISRL (sound-next u _ (settled-rests _)) (eqb-true address USISRL e)
     third p q false e =
         subst (λ (s : Step). Sound u (andThen s (λ v. writeByte v (address + 1) (value / 256))))
-        (sym (writes-nothing address (eqb-false (address % 2) 1 even) p q (eqb-false address USISRL e) u (value % 256)))
+        (sym (writes-nothing address (eqb-false (address % 2) 1 even) p q (eqb-false address USISRL e) u
+        (value % 256)))
         (sound-refused u 1)
 
     second : (address ≡ USICTL0 → ⊥) → (test : Bool) → eqb address USICKCTL ≡ test → Sound u (both u address value)
@@ -97,7 +100,8 @@ write-word-sound u address value = either (odd address) refl
     either false e = both-sound u address value e
 
 -- a step on a fitting set-up, refused by number on another
-fitting-sound : (u v : Usi) (number : ℕ) → (fits u ≡ true → fits v ≡ true) → Sound u (cond (fits u) (Next v) (Refused number u))
+fitting-sound : (u v : Usi) (number : ℕ) → (fits u ≡ true → fits v ≡ true) → Sound u
+    (cond (fits u) (Next v) (Refused number u))
 fitting-sound u v number keeps = either (fits u) refl
   where
     either : (test : Bool) → fits u ≡ test → Sound u (cond test (Next v) (Refused number u))
@@ -107,9 +111,9 @@ fitting-sound u v number keeps = either (fits u) refl
 pub sample-sound : (u : Usi) (level : ℕ) → Sound u (sample u level)
 unfolding sample
 sample-sound u level =
-    let scl = isSet 0 level in
-    let sda = isSet 1 level in
-    sound-cond u (ltb 3 level) _ _ (sound-refused u 4)
+    let scl = levels.scl level in
+    let sda = levels.sda level in
+    sound-cond u (ltb levels.maxLevel level) _ _ (sound-refused u 4)
     (fitting-sound u (sampled scl sda u) 3 (λ e. sampled-fits scl sda u ∙ e))
 
 pub tick-sound : (u : Usi) → Sound u (tick u)

@@ -1,2 +1,3 @@
 pub mod Module
 pub mod Step
+pub mod Cases

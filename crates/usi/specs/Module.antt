@@ -1,9 +1,11 @@
 -- The module's state as a value: power-up, one register replaced, the hidden state at rest, and the lines that it drives.
 use Prim.Native.Nat.{ℕ}
 use mathlib.Core.Bool.{Bool, cond, true, false, _&&_, _||_}
-use Rattle.usi_rules.specs.Registers.{USICTL0-powerUp, USICTL1-powerUp, USICKCTL-powerUp, USICNT-powerUp}
-use Rattle.usi_rules.specs.Rules as rules
+use Rattle.usi_registers.specs.Registers.{USICTL0-powerUp, USICTL1-powerUp, USICKCTL-powerUp, USICNT-powerUp}
+use Rattle.usi_registers.specs.Rules as setUp
+use Rattle.usi_i2c.specs.Rules as rules
 use Rattle.usi.specs.declared.Usi.{Usi}
+use Rattle.usi.specs.declared.Lines.{Lines}
 
 -- Power-up is told the two shift bytes to keep; the hidden state is at rest: latch 1, enable 0, half high, no levels, not caught.
 abbrev pub powerUp : ℕ → ℕ → Usi
@@ -230,7 +232,7 @@ withStretch stretch u =
 
 -- The set-up fits.
 abbrev pub fits : Usi → Bool
-fits u = rules.fits (u .usictl0) (u .usictl1) (u .usickctl) (u .usicnt)
+fits u = setUp.fits (u .usictl0) (u .usictl1) (u .usickctl) (u .usicnt)
 
 -- Lines: SDA and SCL pulled low; both released while the set-up doesn't fit.
 abbrev pub pullsSda : Usi → Bool
@@ -240,3 +242,6 @@ abbrev pub pullsScl : Usi → Bool
 pullsScl u =
     fits u
     && (rules.drives (u .usictl0) (u .usictl1) (u .phase) || rules.holds (u .usictl1) (u .usicnt) (u .stretch))
+
+abbrev pub lines : Usi → Lines
+lines u = record { scl = pullsScl u; sda = pullsSda u }

@@ -2,15 +2,17 @@
 use Prim.Native.Nat.{ℕ, _+_, _*_, _/_, _%_}
 use mathlib.Core.Bool.{Bool, cond, true, false, not, _&&_}
 use lib.Dec.{eqb, ltb}
-use Rattle.bits.specs.Positions.{isSet}
-use Rattle.usi_rules.specs.Registers.{USICTL0, USICTL1, USICKCTL, USICNT, USISRL, USISRH}
-use Rattle.usi_rules.specs.Rules as rules
+use Rattle.usi_registers.specs.Registers.{USICTL0, USICTL1, USICKCTL, USICNT, USISRL, USISRH}
+use Rattle.usi_registers.specs.Rules as setUp
+use Rattle.levels.specs.Levels as levels
+use Rattle.usi_i2c.specs.Rules as rules
 use Rattle.usi.specs.declared.Usi.{Usi}
 use Rattle.usi.specs.declared.Step.{Step}
 use Rattle.usi.specs.declared.Step.the-variants.{Next, Refused}
 use Rattle.usi.specs.declared.Read.{Read}
 use Rattle.usi.specs.declared.Read.the-variants.{Value, Refused as NoValue}
-use Rattle.usi.specs.Module.{withUSICTL0, withUSICTL1, withUSICKCTL, withUSICNT, withUSISRL, withUSISRH, withLatch, withPhase, withLevels, withStretch, atRest, fits}
+use Rattle.usi.specs.Module.{withUSICTL0, withUSICTL1, withUSICKCTL, withUSICNT, withUSISRL, withUSISRH}
+use Rattle.usi.specs.Module.{withLatch, withPhase, withLevels, withStretch, atRest, fits}
 
 -- 01's number for each answer of a step (0: not refused), and the module that it hands back.
 abbrev pub refusal : Step → ℕ
@@ -37,11 +39,11 @@ andThen (Refused number u) next = Refused number u
 
 -- The latch takes bit 7 of USISRL, and the enable takes OE.
 abbrev pub latched : Usi → Usi
-latched u = withLatch (rules.firstBit (u .usisrl)) (rules.outputEnable (u .usictl0)) u
+latched u = withLatch (rules.firstBit (u .usisrl)) (setUp.outputEnable (u .usictl0)) u
 
 -- GE=1: after each step on a fitting set-up the latch and the enable follow.
 unfoldable pub followed : Usi → Usi
-followed u = cond (rules.transparent (u .usictl0)) (latched u) u
+followed u = cond (setUp.transparent (u .usictl0)) (latched u) u
 
 -- While the set-up doesn't fit the hidden state rests.
 unfoldable pub settled : Usi → Usi
@@ -65,7 +67,7 @@ writeByte u address value =
     (cond (eqb address USICTL1) (Next (settled (withUSICTL1 value u)))
     (cond (eqb address USICKCTL) (Next (settled (withUSICKCTL value u)))
     (cond (eqb address USICNT)
-    (Next (settled (withUSICNT value (withUSICTL1 (rules.countFlags (u .usictl1) value) u))))
+    (Next (settled (withUSICNT value (withUSICTL1 (setUp.countFlags (u .usictl1) value) u))))
     (cond (eqb address USISRL) (Next (settled (withUSISRL value u)))
     (cond (eqb address USISRH) (Next (settled (withUSISRH value u)))
     (Refused 1 u))))))
@@ -92,8 +94,9 @@ writeWord u address value =
 abbrev pub conditioned : Bool → Bool → Usi → Usi
 conditioned scl sda u =
     withUSICTL1
-    (rules.conditionFlags (u .usictl1) (rules.start (u .scl) (u .sda) scl sda) (rules.stop (u .scl) (u .sda) scl sda))
-    (withUSICNT (rules.conditionCount (u .usicnt) (rules.start (u .scl) (u .sda) scl sda)) u)
+    (rules.conditionFlags (u .usictl1) (levels.start (u .scl) (u .sda) scl sda)
+    (levels.stop (u .scl) (u .sda) scl sda))
+    (withUSICNT (rules.conditionCount (u .usicnt) (levels.start (u .scl) (u .sda) scl sda)) u)
 
 -- SCL rises, CNT>0: arbitration first.
 abbrev pub arbitrated : Bool → Usi → Usi
@@ -116,11 +119,11 @@ risen scl sda u = cond (rules.takesBit (u .scl) scl (u .usicnt)) (bitTaken sda u
 -- SCL falls: the latch may take the next bit.
 unfoldable pub fallen : Bool → Usi → Usi
 fallen scl u =
-    cond (rules.falls (u .scl) scl) (cond (rules.movesLatch (u .usictl0) (u .usicnt)) (latched u) u) u
+    cond (levels.falls (u .scl) scl) (cond (rules.movesLatch (u .usictl0) (u .usicnt)) (latched u) u) u
 
 -- SCL falls while the half is high: caught. A sample with SCL high ends it.
 abbrev pub stretched : Bool → Usi → Usi
-stretched scl u = withStretch (rules.stretchAfter (u .stretch) (rules.falls (u .scl) scl) (u .phase) scl) u
+stretched scl u = withStretch (rules.stretchAfter (u .stretch) (levels.falls (u .scl) scl) (u .phase) scl) u
 
 -- The levels are remembered.
 abbrev pub recorded : Bool → Bool → Usi → Usi
@@ -136,13 +139,19 @@ sampled scl sda u = followed (recorded scl sda (edged scl sda u))
 -- Sample: the level byte is SCL + 2·SDA. Refusals 4, 3.
 unfoldable pub sample : Usi → ℕ → Step
 sample u level =
-    cond (ltb 3 level) (Refused 4 u)
-    (cond (fits u) (Next (sampled (isSet 0 level) (isSet 1 level) u)) (Refused 3 u))
+    cond (ltb levels.maxLevel level) (Refused 4 u)
+    (cond (fits u) (Next (sampled (levels.scl level) (levels.sda level) u)) (Refused 3 u))
 
 -- Tick. Refusal 3.
 abbrev pub ticked : Usi → Usi
 ticked u =
-    followed (withPhase (rules.phaseAfter (rules.clocks (u .usictl0) (u .usictl1) (u .usicnt)) (u .phase) (u .seen) (u .scl)) u)
+    followed (withPhase (rules.phaseAfter (rules.clocks (u .usictl0) (u .usictl1) (u .usicnt)) (u .phase) (u .seen)
+    (u .scl)) u)
 
 unfoldable pub tick : Usi → Step
 tick u = cond (fits u) (Next (ticked u)) (Refused 3 u)
+
+-- A sample and then, where asked, a tick, each with the module that it hands back.
+abbrev pub sampleThen : ℕ → Bool → Usi → Usi
+sampleThen level ticks u =
+    cond ticks (moduleOf (tick (moduleOf (sample u level)))) (moduleOf (sample u level))

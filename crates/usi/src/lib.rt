@@ -1,8 +1,14 @@
 // The USI module in I2C mode: six register bytes and a hidden state, stepped by writes, samples and ticks.
 ghost use mathlib.Core.Path.{_≡_};
+ghost use mathlib.Core.Bool.{true};
 ghost use Prim.Native.Nat.{_+_, _*_};
-ghost use Rattle.usi.specs.Module.{powerUp, atRest, fits as fitsRule, pullsSda, pullsScl};
-ghost use Rattle.usi.specs.Step.{refusal as refusalOf, moduleOf, latched as latchedRule, followed as followedRule, settled as settledRule, readByte, writeByte, readWord, writeWord, conditioned as conditionedRule, arbitrated as arbitratedRule, clocked as clockedRule, bitTaken, risen as risenRule, fallen as fallenRule, stretched as stretchedRule, recorded as recordedRule, edged as edgedRule, sampled as sampledRule, sample as sampleRule, ticked as tickedRule, tick as tickRule};
+ghost use Rattle.usi.specs.Module.{powerUp, atRest, fits as fitsRule, pullsSda, pullsScl, lines as linesRule};
+ghost use Rattle.usi.specs.Cases.{stretchedBy, conditionSeen, riseSeen, fallSeen};
+ghost use Rattle.usi.specs.Step.{refusal as refusalOf, moduleOf, latched as latchedRule};
+ghost use Rattle.usi.specs.Step.{followed as followedRule, settled as settledRule, readByte, writeByte};
+ghost use Rattle.usi.specs.Step.{readWord, writeWord, arbitrated as arbitratedRule, clocked as clockedRule};
+ghost use Rattle.usi.specs.Step.{bitTaken, recorded as recordedRule, edged as edgedRule, sampled as sampledRule};
+ghost use Rattle.usi.specs.Step.{sample as sampleRule, ticked as tickedRule, tick as tickRule, sampleThen};
 
 pub struct Usi {
     pub usictl0: u8,
@@ -34,6 +40,12 @@ pub enum Step {
 pub enum Read {
     Value(u16),
     Refused(u8),
+}
+
+// Which lines a module pulls low.
+pub struct Lines {
+    pub scl: bool,
+    pub sda: bool,
 }
 
 impl Step {
@@ -104,7 +116,7 @@ impl Usi {
     pub fn fits(self) -> bool
         ensures { λ r. ⌜ r ≡ fitsRule self ⌝ }
     {
-        usi_rules::fits(self.usictl0, self.usictl1, self.usickctl, self.usicnt)
+        usi_registers::fits(self.usictl0, self.usictl1, self.usickctl, self.usicnt)
     }
 
     // The hidden state at rest.
@@ -125,8 +137,8 @@ impl Usi {
     fn latched(mut self) -> Usi
         ensures { λ r. ⌜ r ≡ latchedRule self ⌝ }
     {
-        let latch = usi_rules::first_bit(self.usisrl);
-        let enable = usi_rules::output_enable(self.usictl0);
+        let latch = usi_i2c::first_bit(self.usisrl);
+        let enable = usi_registers::output_enable(self.usictl0);
         self.latch = latch;
         self.enable = enable;
         self
@@ -136,7 +148,7 @@ impl Usi {
     fn followed(self) -> Usi
         ensures { λ r. ⌜ r ≡ followedRule self ⌝ }
     {
-        if usi_rules::transparent(self.usictl0) {
+        if usi_registers::transparent(self.usictl0) {
             return self.latched();
         }
         self
@@ -207,7 +219,7 @@ impl Usi {
                 Step::Next(self.settled())
             }
             Usi::USICNT => {
-                self.usictl1 = usi_rules::count_flags(self.usictl1, value);
+                self.usictl1 = usi_registers::count_flags(self.usictl1, value);
                 self.usicnt = value;
                 Step::Next(self.settled())
             }
@@ -236,25 +248,25 @@ impl Usi {
         }
     }
 
-    // START and STOP.
-    fn conditioned(mut self, scl: bool, sda: bool) -> Usi
-        ensures { λ r. ⌜ r ≡ conditionedRule scl sda self ⌝ }
+    // SCL stays high: START or STOP.
+    fn condition_seen(mut self, sda: bool) -> Usi
+        ensures { λ r. ⌜ r ≡ conditionSeen sda self ⌝ }
     {
-        let started = usi_edges::start(self.scl, self.sda, scl, sda);
-        let stopped = usi_edges::stop(self.scl, self.sda, scl, sda);
-        let flags = usi_edges::condition_flags(self.usictl1, started, stopped);
-        let count = usi_edges::condition_count(self.usicnt, started);
+        let started = levels::start(true, self.sda, true, sda);
+        let stopped = levels::stop(true, self.sda, true, sda);
+        let flags = usi_i2c::condition_flags(self.usictl1, started, stopped);
+        let count = usi_i2c::condition_count(self.usicnt, started);
         self.usictl1 = flags;
         self.usicnt = count;
-        self
+        self.stretched(false, true)
     }
 
     // Arbitration at one bit.
     fn arbitrated(mut self, lost: bool) -> Usi
         ensures { λ r. ⌜ r ≡ arbitratedRule lost self ⌝ }
     {
-        let flags = usi_edges::loss_flags(self.usictl1, lost);
-        let control = usi_edges::loss_control(self.usictl0, lost);
+        let flags = usi_i2c::loss_flags(self.usictl1, lost);
+        let control = usi_i2c::loss_control(self.usictl0, lost);
         self.usictl1 = flags;
         self.usictl0 = control;
         self.enable = self.enable & !lost;
@@ -265,9 +277,9 @@ impl Usi {
     fn clocked(mut self, sda: bool) -> Usi
         ensures { λ r. ⌜ r ≡ clockedRule sda self ⌝ }
     {
-        let flags = usi_edges::end_flags(self.usictl1, self.usicnt);
-        let count = usi_edges::count_down(self.usicnt);
-        let low = usi_edges::shifted(self.usisrl, sda);
+        let flags = usi_i2c::end_flags(self.usictl1, self.usicnt);
+        let count = usi_i2c::count_down(self.usicnt);
+        let low = usi_i2c::shifted(self.usisrl, sda);
         self.usictl1 = flags;
         self.usicnt = count;
         self.usisrl = low;
@@ -278,39 +290,35 @@ impl Usi {
     fn bit_taken(self, sda: bool) -> Usi
         ensures { λ r. ⌜ r ≡ bitTaken sda self ⌝ }
     {
-        let lost = usi_edges::loses(self.usictl0, self.enable, self.latch, sda);
+        let lost = usi_i2c::loses(self.usictl0, self.enable, self.latch, sda);
         self.arbitrated(lost).clocked(sda)
     }
 
-    // SCL rises.
-    fn risen(self, scl: bool, sda: bool) -> Usi
-        ensures { λ r. ⌜ r ≡ risenRule scl sda self ⌝ }
+    // SCL rises: with bits to count, one is taken.
+    fn rise_seen(self, sda: bool) -> Usi
+        ensures { λ r. ⌜ r ≡ riseSeen sda self ⌝ }
     {
-        if usi_edges::takes_bit(self.scl, scl, self.usicnt) {
-            return self.bit_taken(sda);
+        if usi_i2c::takes_bit(false, true, self.usicnt) {
+            return self.bit_taken(sda).stretched(false, true);
         }
-        self
+        self.stretched(false, true)
     }
 
-    // SCL falls.
-    fn fallen(self, scl: bool) -> Usi
-        ensures { λ r. ⌜ r ≡ fallenRule scl self ⌝ }
+    // SCL falls: the latch may take the next bit.
+    fn fall_seen(self) -> Usi
+        ensures { λ r. ⌜ r ≡ fallSeen self ⌝ }
     {
-        if !usi_edges::falls(self.scl, scl) {
-            return self;
+        if usi_i2c::moves_latch(self.usictl0, self.usicnt) {
+            return self.latched().stretched(true, false);
         }
-        if usi_edges::moves_latch(self.usictl0, self.usicnt) {
-            return self.latched();
-        }
-        self
+        self.stretched(true, false)
     }
 
-    // Whether SCL was pulled low by another.
-    fn stretched(mut self, scl: bool) -> Usi
-        ensures { λ r. ⌜ r ≡ stretchedRule scl self ⌝ }
+    // Whether SCL was pulled low by another and is low still.
+    fn stretched(mut self, fallen: bool, scl: bool) -> Usi
+        ensures { λ r. ⌜ r ≡ stretchedBy fallen scl self ⌝ }
     {
-        let fell = usi_edges::falls(self.scl, scl);
-        let stretch = usi_edges::stretch_after(self.stretch, fell, self.phase, scl);
+        let stretch = usi_i2c::stretch_after(self.stretch, fallen, self.phase, scl);
         self.stretch = stretch;
         self
     }
@@ -325,15 +333,21 @@ impl Usi {
         self
     }
 
-    // What the lines did since the last sample.
+    // What the lines did since the last sample, by the cases of SCL.
     fn edged(self, scl: bool, sda: bool) -> Usi
         ensures { λ r. ⌜ r ≡ edgedRule scl sda self ⌝ }
     {
-        if self.seen {
-            return self.conditioned(scl, sda)
-                .risen(scl, sda)
-                .fallen(scl)
-                .stretched(scl);
+        if !self.seen {
+            return self;
+        }
+        if scl {
+            if self.scl {
+                return self.condition_seen(sda);
+            }
+            return self.rise_seen(sda);
+        }
+        if self.scl {
+            return self.fall_seen();
         }
         self
     }
@@ -348,22 +362,22 @@ impl Usi {
     pub fn sample(self, level: u8) -> Step
         ensures { λ r. ⌜ r ≡ sampleRule self level ⌝ }
     {
-        if level > 3 {
+        if level > levels::MAX_LEVEL {
             return Step::Refused(4, self);
         }
         if !self.fits() {
             return Step::Refused(3, self);
         }
-        let scl = bits::is_set(level, 0);
-        let sda = bits::is_set(level, 1);
+        let scl = levels::scl(level);
+        let sda = levels::sda(level);
         Step::Next(self.sampled(scl, sda))
     }
 
     fn ticked(mut self) -> Usi
         ensures { λ r. ⌜ r ≡ tickedRule self ⌝ }
     {
-        let clocking = usi_edges::clocks(self.usictl0, self.usictl1, self.usicnt);
-        let phase = usi_edges::phase_after(clocking, self.phase, self.seen, self.scl);
+        let clocking = usi_i2c::clocks(self.usictl0, self.usictl1, self.usicnt);
+        let phase = usi_i2c::phase_after(clocking, self.phase, self.seen, self.scl);
         self.phase = phase;
         self.followed()
     }
@@ -378,19 +392,72 @@ impl Usi {
         Step::Next(self.ticked())
     }
 
+    // The module after a tick; a refused one leaves it as it was.
+    pub fn next_tick(self) -> Usi
+        ensures { λ r. ⌜ r ≡ moduleOf (tickRule self) ⌝ }
+    {
+        if !self.fits() {
+            return self;
+        }
+        self.ticked()
+    }
+
+    // A sample of a module whose set-up fits; a level above 3 changes nothing.
+    fn observed(self, level: u8) -> Usi
+        requires { ⌜ fitsRule self ≡ true ⌝ }
+        ensures { λ r. ⌜ r ≡ moduleOf (sampleRule self level) ⌝ }
+    {
+        if level > levels::MAX_LEVEL {
+            return self;
+        }
+        self.sampled(levels::scl(level), levels::sda(level))
+    }
+
+    // The module after a sample and then, where asked, a tick; a refused step leaves it as it was.
+    pub fn sample_tick(self, level: u8, ticks: bool) -> Usi
+        ensures { λ r. ⌜ r ≡ sampleThen level ticks self ⌝ }
+    {
+        if !self.fits() {
+            return self;
+        }
+        let seen = self.observed(level);
+        if ticks {
+            return seen.ticked();
+        }
+        seen
+    }
+
+    // Both lines.
+    pub fn lines(self) -> Lines
+        ensures { λ r. ⌜ r ≡ linesRule self ⌝ }
+    {
+        if !self.fits() {
+            return Lines {
+                scl: false,
+                sda: false,
+            };
+        }
+        let driven = usi_i2c::drives(self.usictl0, self.usictl1, self.phase);
+        let held = usi_i2c::holds(self.usictl1, self.usicnt, self.stretch);
+        Lines {
+            scl: driven | held,
+            sda: usi_i2c::pulls_sda(true, self.enable, self.latch),
+        }
+    }
+
     // Whether the module pulls SDA low.
     pub fn pulls_sda(self) -> bool
         ensures { λ r. ⌜ r ≡ pullsSda self ⌝ }
     {
-        usi_rules::pulls_sda(self.fits(), self.enable, self.latch)
+        usi_i2c::pulls_sda(self.fits(), self.enable, self.latch)
     }
 
     // Whether the module pulls SCL low.
     pub fn pulls_scl(self) -> bool
         ensures { λ r. ⌜ r ≡ pullsScl self ⌝ }
     {
-        let driven = usi_rules::drives(self.usictl0, self.usictl1, self.phase);
-        let held = usi_rules::holds(self.usictl1, self.usicnt, self.stretch);
+        let driven = usi_i2c::drives(self.usictl0, self.usictl1, self.phase);
+        let held = usi_i2c::holds(self.usictl1, self.usicnt, self.stretch);
         self.fits() & (driven | held)
     }
 }

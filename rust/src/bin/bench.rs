@@ -2,7 +2,7 @@
 
 use rehearsal_model::arbitration::{MASTERS, MESSAGE_BYTES};
 use rehearsal_model::ffi::Archive;
-use rehearsal_model::packed::{Asked, Interface, Lent, Model};
+use rehearsal_model::packed::{Asked, Buffers, Interface, Model};
 use rehearsal_model::random::Random;
 use std::hint::black_box;
 use std::time::{Duration, Instant};
@@ -39,19 +39,19 @@ fn late_losers(random: &mut Random) -> Asked {
 }
 
 /// Buffers of just the size needed.
-fn buffers() -> Lent {
-    Lent {
+fn buffers() -> Buffers {
+    Buffers {
         carried: vec![0; MESSAGE_BYTES],
         levels: vec![0; 5 + 18 * MESSAGE_BYTES],
         modules: vec![0; MASTERS],
-        positions: vec![0; MASTERS],
+        seats: vec![0; MASTERS],
     }
 }
 
-fn time(side: &dyn Interface, requests: &[Asked], lent: &mut Lent) -> Duration {
+fn time(side: &dyn Interface, requests: &[Asked], lent: &mut Buffers) -> Duration {
     let begin = Instant::now();
     for request in requests {
-        let reply = side.arbitrate(black_box(request), lent);
+        let reply = side.arbitrate(black_box(request), lent.lend());
         assert_eq!(reply & 0xFF, 0, "no request is refused");
         black_box(&lent);
     }

@@ -1,7 +1,7 @@
 //! `compare usi|bus|arbitration|all [--seed S] [--count N]`: the proved library against the model on random inputs.
 
 use rehearsal_model::compare::{run, Comparison, Difference, COMPARISONS};
-use rehearsal_model::ffi::Archive;
+use rehearsal_model::ffi::Guarded;
 use std::process::ExitCode;
 
 const USAGE: &str = "usage: compare usi|bus|arbitration|all [--seed S] [--count N]";
@@ -53,7 +53,7 @@ fn options() -> Result<Options, String> {
 
 fn compare(comparison: &Comparison, options: &Options) -> Result<(), (u64, Difference)> {
     let count = options.count.unwrap_or(comparison.count);
-    let counts = run(comparison, &Archive, options.seed, count)?;
+    let counts = run(comparison, &Guarded, options.seed, count)?;
     print!("{}", counts.lines());
     println!("compared {count} {}: all equal", comparison.cases);
     Ok(())

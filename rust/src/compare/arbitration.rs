@@ -5,7 +5,7 @@ use super::{equal, Counts, Difference};
 use crate::arbitration::outcome::outcome;
 use crate::arbitration::{Outcome, Request, MASTERS, MESSAGE_BYTES};
 use crate::module::AL;
-use crate::packed::{unpack, Asked, Interface, Lent, Model};
+use crate::packed::{unpack, Asked, Buffers, Interface, Model};
 use crate::random::Random;
 use crate::refusal::{Reason, Refusal};
 
@@ -18,34 +18,31 @@ pub fn case(other: &dyn Interface, random: &mut Random, counts: &mut Counts) -> 
     let lent = draw_buffers(random, &asked);
     let ask = |side: &dyn Interface| {
         let mut lent = lent.clone();
-        (side.arbitrate(&asked, &mut lent), lent)
+        (side.arbitrate(&asked, lent.lend()), lent)
     };
     let (model, other) = (ask(&Model), ask(other));
     count_kinds(&asked, &model, counts);
     let inputs = || {
-        let rooms = [lent.carried.len(), lent.levels.len(), lent.modules.len(), lent.positions.len()];
+        let rooms = [lent.carried.len(), lent.levels.len(), lent.modules.len(), lent.seats.len()];
         format!("arbitrate {asked:X?}, rooms {rooms:?}")
     };
     equal(&model, &other, inputs, |(reply, lent)| format!("{}, {lent:X?}", reply_words(*reply)))?;
-    if lent.modules.len() >= MASTERS && lent.positions.len() >= MASTERS {
-        compare_outcome(&asked, &lent, &other)?;
-    }
-    Ok(())
+    compare_outcome(&asked, &lent, &other)
 }
 
 fn reply_words(reply: u64) -> String {
     let part = |low: u32, width: u32| reply >> low & ((1 << width) - 1);
-    format!("refused {} place {} k {} in {:#b}", part(0, 8), part(8, 16), part(24, 8), part(32, 16))
+    format!("refused {} place {} k {}", part(0, 8), part(8, 16), part(24, 16))
 }
 
-fn count_kinds(asked: &Asked, model: &(u64, Lent), counts: &mut Counts) {
+fn count_kinds(asked: &Asked, model: &(u64, Buffers), counts: &mut Counts) {
     counts.add(format!("refused {}", model.0 & 0xFF));
     counts.add(match asked.lengths.len() {
         masters @ 0..=MASTERS => format!("{masters} masters"),
         _ => "9 or more masters".to_string(),
     });
     if model.0 & 0xFF == 0 {
-        let losers = asked.lengths.len() as u32 - (model.0 >> 32).count_ones();
+        let losers = model.1.seats[..asked.lengths.len()].iter().filter(|&seat| seat & 1 == 0).count();
         counts.add(format!("{losers} lost"));
         counts.add(if model.0 >> 24 & 0xFF > 8 { "carried over 8 bytes" } else { "carried 1 to 8 bytes" });
     }
@@ -59,7 +56,7 @@ struct Visible {
 }
 
 /// The other side's answer against the outcome from messages and acknowledges alone.
-fn compare_outcome(asked: &Asked, before: &Lent, answer: &(u64, Lent)) -> Result<(), Difference> {
+fn compare_outcome(asked: &Asked, before: &Buffers, answer: &(u64, Buffers)) -> Result<(), Difference> {
     let Ok(request) = Request::new(&asked.bytes, &asked.lengths, &asked.acks) else {
         return Ok(());
     };
@@ -72,24 +69,28 @@ fn compare_outcome(asked: &Asked, before: &Lent, answer: &(u64, Lent)) -> Result
 }
 
 /// Refusal 8, after all others.
-fn enough(outcome: Outcome, lent: &Lent) -> Result<Outcome, Refusal> {
-    if lent.carried.len() < outcome.carried.len() || lent.levels.len() < outcome.levels.len() {
+fn enough(outcome: Outcome, lent: &Buffers) -> Result<Outcome, Refusal> {
+    let tables = lent.modules.len().min(lent.seats.len());
+    if lent.carried.len() < outcome.carried.len()
+        || lent.levels.len() < outcome.levels.len()
+        || tables < MASTERS
+    {
         return Err(Reason::ShortBuffer.refusal());
     }
     Ok(outcome)
 }
 
-fn visible((reply, lent): &(u64, Lent)) -> Visible {
+fn visible((reply, lent): &(u64, Buffers)) -> Visible {
     let refusal = reply & 0xFF;
     if refusal > 0 {
         return Visible { refusal, outcome: None };
     }
-    let count = (reply >> 24 & 0xFF) as usize;
+    let count = (reply >> 24 & 0xFFFF) as usize;
     let outcome = Outcome {
         carried: lent.carried[..count].to_vec(),
         levels: lent.levels[..5 + 18 * count].to_vec(),
-        remaining: std::array::from_fn(|master| reply >> (32 + master) & 1 == 1),
-        positions: std::array::from_fn(|master| lent.positions[master]),
+        remaining: std::array::from_fn(|master| lent.seats[master] & 1 == 1),
+        positions: std::array::from_fn(|master| (lent.seats[master] >> 1) as u16),
         arbitration_lost: std::array::from_fn(|master| unpack(lent.modules[master]).is(AL)),
     };
     Visible { refusal, outcome: Some(outcome) }
@@ -172,7 +173,7 @@ fn make_odd(asked: &mut Asked, master: usize) {
 }
 
 /// Buffers with a pattern in them: exact, too short or with a rest; the tables mostly of eight.
-fn draw_buffers(random: &mut Random, asked: &Asked) -> Lent {
+fn draw_buffers(random: &mut Random, asked: &Asked) -> Buffers {
     let request = Request::new(&asked.bytes, &asked.lengths, &asked.acks);
     let count = request.and_then(|request| outcome(&request)).map_or(0, |outcome| outcome.carried.len());
     let salt = random.bits();
@@ -182,10 +183,10 @@ fn draw_buffers(random: &mut Random, asked: &Asked) -> Lent {
         1..=2 => random.between(MASTERS + 1, MASTERS + 3),
         _ => MASTERS,
     };
-    Lent {
+    Buffers {
         carried: fill(draw_room(random, count)).map(|bits| bits as u8).collect(),
         levels: fill(draw_room(random, 5 + 18 * count)).map(|bits| bits as u8).collect(),
         modules: fill(table(random)).collect(),
-        positions: fill(table(random)).map(|bits| bits as u16).collect(),
+        seats: fill(table(random)).map(|bits| bits as u32).collect(),
     }
 }

@@ -1,4 +1,4 @@
--- `cases_bus::run` is safe and ends: each turn leaves a shorter script.
+-- `cases_decode::run` is safe and ends: each turn leaves a shorter script.
 use mathlib.Core.Path.{ap}
 use native.Mathlib.Omega.{arith}
 use lib.ListN.{length}

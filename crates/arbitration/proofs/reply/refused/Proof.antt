@@ -1,6 +1,5 @@
--- Powered-up modules, and 0 for all else.
+-- Modules as powered up, nobody in.
 use Rattle.arbitration_rules.specs.Reply.{refused}
-use borrow.Author.Needs.{needs}
 use borrow.Author.Needs.{needs}
 use Rattle.arbitration.proofs.reply.refused.Statement.{statement}
 use Rattle.arbitration.proofs.reply.refused.Tie as tie

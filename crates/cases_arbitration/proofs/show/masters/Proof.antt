@@ -1,44 +1,45 @@
 -- `cases_arbitration::show::masters` is safe and ends.
-use Prim.Native.Nat.{_≤_, _-_}
-use native.Mathlib.Omega.{arith}
+use Prim.Native.Nat.{_-_}
+use Rattle.arbitration_rules.specs.Limits.{maxMasters}
+use borrow.Author.Needs.{needs}
 use Rattle.cases_arbitration.proofs.show.masters.Statement.{statement}
 use Rattle.cases_arbitration.proofs.show.masters.Tie as tie
 
 abbrev Inv-loop : tie.InvT-loop
-Inv-loop modules positions i₀ i = i ≤ 8
+Inv-loop modules seats i₀ i = Unit {0}
 
 abbrev μ-loop : tie.MeasureT-loop
-μ-loop modules positions i₀ i = 8 - i
+μ-loop modules seats i₀ i = maxMasters - i
 
 loop-holds : tie.Need-loop-holds Inv-loop μ-loop
-loop-holds c = omega arith
+loop-holds c = search needs
 
 mul-master : tie.Need-mul-master Inv-loop μ-loop
-mul-master c = omega arith
+mul-master c = search needs
 
 array-copy-out-master : tie.Need-array-copy-out-master Inv-loop μ-loop
-array-copy-out-master c = omega arith
+array-copy-out-master c = search needs
 
 mul-master-2 : tie.Need-mul-master-2 Inv-loop μ-loop
-mul-master-2 c = omega arith
+mul-master-2 c = search needs
 
-array-read-master : tie.Need-array-read-master Inv-loop μ-loop
-array-read-master c = omega arith
+array-copy-out-master-2 : tie.Need-array-copy-out-master-2 Inv-loop μ-loop
+array-copy-out-master-2 c = search needs
 
 master-requires : tie.Need-master-requires Inv-loop μ-loop
-master-requires c κs = tt
+master-requires c κs = search needs
 
 add-i : tie.Need-add-i Inv-loop μ-loop
-add-i c = omega arith
+add-i c = search needs
 
 loop-less : tie.Need-loop-less Inv-loop μ-loop
-loop-less c = omega arith
+loop-less c = search needs
 
 loop-again : tie.Need-loop-again Inv-loop μ-loop
-loop-again c = omega arith
+loop-again c = search needs
 
 returns : tie.Need-returns Inv-loop μ-loop
-returns c = omega arith
+returns c = search needs
 
 pub masters-spec : {M : Type 1} → statement M
 masters-spec =
@@ -50,7 +51,7 @@ masters-spec =
     mul-master
     array-copy-out-master
     mul-master-2
-    array-read-master
+    array-copy-out-master-2
     master-requires
     add-i
     loop-less

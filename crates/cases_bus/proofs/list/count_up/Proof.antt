@@ -1,4 +1,4 @@
--- `cases_bus::list::count_up` is safe and ends.
+-- `cases_decode::list::count_up` is safe and ends.
 use Prim.Native.Nat.{_≤_, _-_}
 use lib.ListN.{length}
 use mathlib.Core.Path.{_≡_}

@@ -1,4 +1,4 @@
--- `cases_bus::list::push_groups` is safe and ends: fewer groups are left at each turn.
+-- `cases_decode::list::push_groups` is safe and ends: fewer groups are left at each turn.
 use lib.ListN.{length}
 use mathlib.Core.Path.{_≡_}
 use borrow.Author.Needs.{needs}

@@ -1,4 +1,4 @@
--- `cases_bus::script::colon` is safe, ends and answers a position of the word.
+-- `cases_decode::script::colon` is safe, ends and answers a position of the word.
 use Prim.Native.Nat.{_≤_, _-_}
 use lib.ListN.{length}
 use borrow.Author.Needs.{needs}

@@ -1,4 +1,4 @@
--- `cases_bus::script::read_events` is safe, ends and answers a count of the buffer.
+-- `cases_decode::script::read_events` is safe, ends and answers a count of the buffer.
 use Prim.Native.Nat.{_≤_, _-_}
 use lib.ListN.{length}
 use mathlib.Core.Path.{_≡_}

@@ -7,7 +7,8 @@ use Rattle.rig_clash.proofs.clash.run_all.Statement.{statement}
 use Rattle.rig_clash.proofs.clash.run_all.Tie as tie
 
 abbrev Inv-loop : tie.InvT-loop
-Inv-loop piece₀ line₀ rehearsal₀ turns₀ piece line rehearsal turns = (length piece ≡ length piece₀) × (length line ≡ length line₀)
+Inv-loop piece₀ line₀ rehearsal₀ turns₀ piece line rehearsal turns =
+    (length piece ≡ length piece₀) × (length line ≡ length line₀)
 
 abbrev μ-loop : tie.MeasureT-loop
 μ-loop piece₀ line₀ rehearsal₀ turns₀ piece line rehearsal turns = turns
@@ -37,7 +38,10 @@ loop-less : tie.Need-loop-less Inv-loop μ-loop
 loop-less c = search needs
 
 loop-again : tie.Need-loop-again Inv-loop μ-loop
-loop-again c = omega (arith, c .before .before .before .before .before .before .next-line .kept, c .before .before .before .before .before .before .before .before .before .before .before .before .before .loop .inv)
+loop-again c =
+    let took = c .before .before .before .before .before .before in
+    let turn = took .before .before .before .before .before .before .before in
+    omega (arith, took .next-line .kept, turn .loop .inv)
 
 same-length-3 : tie.Need-same-length-3 Inv-loop μ-loop
 same-length-3 c = search needs

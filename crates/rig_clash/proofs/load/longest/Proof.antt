@@ -1,5 +1,6 @@
 -- `rig_clash::load::longest` is safe and ends.
-use Prim.Native.Nat.{_-_}
+use Prim.Native.Nat.{_+_, _-_}
+use Rattle.arbitration_rules.specs.Limits.{maxMasters}
 use borrow.Author.Needs.{needs}
 use Rattle.rig_clash.proofs.load.longest.Statement.{statement}
 use Rattle.rig_clash.proofs.load.longest.Tie as tie
@@ -8,7 +9,7 @@ abbrev Inv-loop : tie.InvT-loop
 Inv-loop lengths most₀ i₀ most i = Unit {0}
 
 abbrev μ-loop : tie.MeasureT-loop
-μ-loop lengths most₀ i₀ most i = 9 - i
+μ-loop lengths most₀ i₀ most i = maxMasters + 1 - i
 
 loop-holds : tie.Need-loop-holds Inv-loop μ-loop
 loop-holds c = search needs

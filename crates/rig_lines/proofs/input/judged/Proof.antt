@@ -1,5 +1,5 @@
 -- `rig_lines::input::judged` meets its contract.
-use Rattle.bits.proofs.Branches.{branches}
+use Rattle.laws.proofs.Branches.{branches}
 use Rattle.rig_lines.specs.Input.{judgedLine}
 use mathlib.Core.Path.{sym}
 use native.Mathlib.Omega.{arith}

@@ -1,5 +1,5 @@
 -- `rig_lines::input::judged_last` meets its contract.
-use Rattle.bits.proofs.Branches.{branches}
+use Rattle.laws.proofs.Branches.{branches}
 use Rattle.rig_lines.specs.Input.{judgedLast}
 use borrow.Author.Needs.{needs}
 use Rattle.rig_lines.proofs.input.judged_last.Statement.{statement}

@@ -37,7 +37,10 @@ same-length-2 c = search needs
 returns : tie.Need-returns Inv-loop μ-loop
 returns c =
     let came = c .before .before .before .after .given .1 in
-    taking-last _ _ _ (c .before .before .before .before .before .before .before .before .before .before .before .counted .ensures) (c .before .before .before .before .before .before .before .before .before .before .loop .inv .2) _ _ came (c .before .before .before .before .before .before .before .next-byte .ensures) (c .judged-last .ensures)
+    let read = c .before .before .before .before .before .before .before in
+    let turn = read .before .before .before in
+    taking-last _ _ _ (turn .before .counted .ensures) (turn .loop .inv .2) _ _ came (read .next-byte .ensures)
+    (c .judged-last .ensures)
 
 enum-known-b : tie.Need-enum-known-b Inv-loop μ-loop
 enum-known-b c = search needs
@@ -54,7 +57,10 @@ same-length-4 c = search needs
 returns-2 : tie.Need-returns-2 Inv-loop μ-loop
 returns-2 c =
     let came = c .before .before .before .before .b .given .1 in
-    taking-whole _ _ _ (c .before .before .before .before .before .before .before .before .before .before .before .before .counted .ensures) (c .before .before .before .before .before .before .before .before .before .before .before .loop .inv .2) _ _ _ came (c .before .before .if1 .taken) (c .before .before .before .before .before .before .before .before .next-byte .ensures) (c .judged .ensures)
+    let read = c .before .before .before .before .before .before .before .before in
+    let turn = read .before .before .before in
+    taking-whole _ _ _ (turn .before .counted .ensures) (turn .loop .inv .2) _ _ _ came (c .before .before .if1 .taken)
+    (read .next-byte .ensures) (c .judged .ensures)
 
 put-byte-requires : tie.Need-put-byte-requires Inv-loop μ-loop
 put-byte-requires c κs = search needs
@@ -67,9 +73,13 @@ loop-less c = search needs
 
 loop-again : tie.Need-loop-again Inv-loop μ-loop
 loop-again c =
-    let turn = c .before .before .before .before .before .before .before .before .before .before .before .before .before in
-    let came = c .before .before .before .before .before .before .b .given .1 in
-    let took = taking-more _ _ _ _ _ came (c .before .before .before .before .if1 .left) (c .before .before .before .before .before .before .before .before .before .before .next-byte .ensures) (c .before .before .put-byte .ensures) (c .before .before .before .before .before .before .before .before .before .before .before .before .loop-test .taken) (turn .loop .inv .2) in
+    let kept = c .before .before .before .before in
+    let came = kept .before .before .b .given .1 in
+    let read = kept .before .before .before .before .before .before in
+    let test = read .before .before in
+    let took =
+    taking-more _ _ _ _ _ came (kept .if1 .left) (read .next-byte .ensures) (c .before .before .put-byte .ensures)
+    (test .loop-test .taken) (test .before .loop .inv .2) in
     (search needs, search needs, took)
 
 same-length-5 : tie.Need-same-length-5 Inv-loop μ-loop

@@ -1,5 +1,5 @@
 -- `rig_lines::numbers::hex_byte` meets its contract.
-use Rattle.bits.proofs.Branches.{branches}
+use Rattle.laws.proofs.Branches.{branches}
 use Rattle.rig_lines.specs.Numbers.{byteIn}
 use borrow.Author.Needs.{needs}
 use Rattle.rig_lines.proofs.numbers.hex_byte.Statement.{statement}

@@ -1,5 +1,5 @@
 -- `rig_lines::output::shown` meets its contract.
-use Rattle.bits.proofs.Branches.{branches}
+use Rattle.laws.proofs.Branches.{branches}
 use Rattle.rig_lines.specs.Output.{shown}
 use borrow.Author.Needs.{needs}
 use Rattle.rig_lines.proofs.output.shown.Statement.{statement}

@@ -1,5 +1,5 @@
 -- `rig_lines::output::taken` meets its contract.
-use Rattle.bits.proofs.Branches.{branches}
+use Rattle.laws.proofs.Branches.{branches}
 use Rattle.rig_lines.specs.Output.{marks}
 use borrow.Author.Needs.{needs}
 use Rattle.rig_lines.proofs.output.taken.Statement.{statement}

@@ -1,26 +1,24 @@
 -- `rig_outcome::boards::losers` is safe and ends.
 use Prim.Native.Nat.{_-_}
+use Rattle.arbitration_rules.specs.Limits.{maxMasters}
 use borrow.Author.Needs.{needs}
 use Rattle.rig_outcome.proofs.boards.losers.Statement.{statement}
 use Rattle.rig_outcome.proofs.boards.losers.Tie as tie
 
 abbrev Inv-loop : tie.InvT-loop
-Inv-loop boards contending positions line₀ first₀ i₀ t11 line first i = Unit {0}
+Inv-loop boards seats line₀ first₀ i₀ t10 line first i = Unit {0}
 
 abbrev μ-loop : tie.MeasureT-loop
-μ-loop boards contending positions line₀ first₀ i₀ t11 line first i = 8 - i
+μ-loop boards seats line₀ first₀ i₀ t10 line first i = maxMasters - i
 
 loop-holds : tie.Need-loop-holds Inv-loop μ-loop
 loop-holds c = search needs
 
-array-read-lost : tie.Need-array-read-lost Inv-loop μ-loop
-array-read-lost c = search needs
+mul-seat : tie.Need-mul-seat Inv-loop μ-loop
+mul-seat c = search needs
 
-mul-loser : tie.Need-mul-loser Inv-loop μ-loop
-mul-loser c = search needs
-
-array-read-loser : tie.Need-array-read-loser Inv-loop μ-loop
-array-read-loser c = search needs
+array-copy-out-seat : tie.Need-array-copy-out-seat Inv-loop μ-loop
+array-copy-out-seat c = search needs
 
 loser-requires : tie.Need-loser-requires Inv-loop μ-loop
 loser-requires c κs = search needs
@@ -53,9 +51,8 @@ losers-spec =
     Inv-loop
     μ-loop
     loop-holds
-    array-read-lost
-    mul-loser
-    array-read-loser
+    mul-seat
+    array-copy-out-seat
     loser-requires
     add-i
     loop-less

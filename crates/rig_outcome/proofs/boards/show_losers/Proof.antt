@@ -1,26 +1,24 @@
 -- `rig_outcome::boards::show_losers` is safe and ends.
 use Prim.Native.Nat.{_-_}
+use Rattle.arbitration_rules.specs.Limits.{maxMasters}
 use borrow.Author.Needs.{needs}
 use Rattle.rig_outcome.proofs.boards.show_losers.Statement.{statement}
 use Rattle.rig_outcome.proofs.boards.show_losers.Tie as tie
 
 abbrev Inv-loop : tie.InvT-loop
-Inv-loop boards contending positions lost₀ i₀ lost i = Unit {0}
+Inv-loop boards seats lost₀ i₀ lost i = Unit {0}
 
 abbrev μ-loop : tie.MeasureT-loop
-μ-loop boards contending positions lost₀ i₀ lost i = 8 - i
+μ-loop boards seats lost₀ i₀ lost i = maxMasters - i
 
 loop-holds : tie.Need-loop-holds Inv-loop μ-loop
 loop-holds c = search needs
 
-array-read-if1 : tie.Need-array-read-if1 Inv-loop μ-loop
-array-read-if1 c = search needs
+mul-seat : tie.Need-mul-seat Inv-loop μ-loop
+mul-seat c = search needs
 
-mul-show-loser : tie.Need-mul-show-loser Inv-loop μ-loop
-mul-show-loser c = search needs
-
-array-read-show-loser : tie.Need-array-read-show-loser Inv-loop μ-loop
-array-read-show-loser c = search needs
+array-copy-out-seat : tie.Need-array-copy-out-seat Inv-loop μ-loop
+array-copy-out-seat c = search needs
 
 show-loser-requires : tie.Need-show-loser-requires Inv-loop μ-loop
 show-loser-requires c κs = search needs
@@ -44,9 +42,8 @@ show-losers-spec =
     Inv-loop
     μ-loop
     loop-holds
-    array-read-if1
-    mul-show-loser
-    array-read-show-loser
+    mul-seat
+    array-copy-out-seat
     show-loser-requires
     add-i
     loop-less

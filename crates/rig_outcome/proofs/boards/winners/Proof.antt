@@ -1,20 +1,24 @@
 -- `rig_outcome::boards::winners` is safe and ends.
 use Prim.Native.Nat.{_-_}
+use Rattle.arbitration_rules.specs.Limits.{maxMasters}
 use borrow.Author.Needs.{needs}
 use Rattle.rig_outcome.proofs.boards.winners.Statement.{statement}
 use Rattle.rig_outcome.proofs.boards.winners.Tie as tie
 
 abbrev Inv-loop : tie.InvT-loop
-Inv-loop label boards contending line₀ first₀ i₀ line first i = Unit {0}
+Inv-loop label boards seats line₀ first₀ i₀ line first i = Unit {0}
 
 abbrev μ-loop : tie.MeasureT-loop
-μ-loop label boards contending line₀ first₀ i₀ line first i = 8 - i
+μ-loop label boards seats line₀ first₀ i₀ line first i = maxMasters - i
 
 loop-holds : tie.Need-loop-holds Inv-loop μ-loop
 loop-holds c = search needs
 
-array-read-won : tie.Need-array-read-won Inv-loop μ-loop
-array-read-won c = search needs
+mul-seat : tie.Need-mul-seat Inv-loop μ-loop
+mul-seat c = search needs
+
+array-copy-out-seat : tie.Need-array-copy-out-seat Inv-loop μ-loop
+array-copy-out-seat c = search needs
 
 listed-requires : tie.Need-listed-requires Inv-loop μ-loop
 listed-requires c κs = search needs
@@ -38,7 +42,8 @@ winners-spec =
     Inv-loop
     μ-loop
     loop-holds
-    array-read-won
+    mul-seat
+    array-copy-out-seat
     listed-requires
     add-i
     loop-less

@@ -1,5 +1,6 @@
 -- `rig_outcome::outcome::show_modules` is safe and ends.
 use Prim.Native.Nat.{_-_}
+use Rattle.arbitration_rules.specs.Limits.{maxMasters}
 use borrow.Author.Needs.{needs}
 use Rattle.rig_outcome.proofs.outcome.show_modules.Statement.{statement}
 use Rattle.rig_outcome.proofs.outcome.show_modules.Tie as tie
@@ -8,7 +9,7 @@ abbrev Inv-loop : tie.InvT-loop
 Inv-loop boards modules i₀ i = Unit {0}
 
 abbrev μ-loop : tie.MeasureT-loop
-μ-loop boards modules i₀ i = 8 - i
+μ-loop boards modules i₀ i = maxMasters - i
 
 loop-holds : tie.Need-loop-holds Inv-loop μ-loop
 loop-holds c = search needs

@@ -1,6 +1,6 @@
 -- Each key of the match is an even register; no other even address is one.
 use borrow.Author.Tests.{ne-eqb}
-use Rattle.bits.proofs.Branches.{branches}
+use Rattle.laws.proofs.Branches.{branches}
 use Rattle.usi.proofs.Registers.{reads-nothing}
 use Rattle.usi.specs.Step.{readWord, readByte}
 use borrow.Author.Needs.{needs}
@@ -38,7 +38,8 @@ returns-5 c =
     let even = c .before .if1 .left in
     rw (
       ne-eqb _ _ even,
-      reads-nothing (c .before .before .args .address) even (c .match .rest .0 .0 .1) (c .match .rest .0 .1) (c .match .rest .1)
+      reads-nothing (c .before .before .args .address) even (c .match .rest .0 .0 .1) (c .match .rest .0 .1)
+          (c .match .rest .1)
           (c .before .before .args .self),
     )
 

@@ -1,5 +1,5 @@
 -- Each case is that of the tests, in the order of the refusals.
-use Rattle.bits.proofs.Branches.{branches, call-true}
+use Rattle.laws.proofs.Branches.{branches, call-true}
 use borrow.Author.Tests.{le-ltb}
 use Rattle.usi.specs.Step.{sample}
 use borrow.Author.Needs.{needs}
@@ -17,11 +17,11 @@ returns-2 : tie.Need-returns-2
 unfolding sample
 returns-2 c = search branches
 
-is-set-requires : tie.Need-is-set-requires
-is-set-requires c κs = search needs
+scl-requires : tie.Need-scl-requires
+scl-requires c κs = search needs
 
-is-set-requires-2 : tie.Need-is-set-requires-2
-is-set-requires-2 c κs = search needs
+sda-requires : tie.Need-sda-requires
+sda-requires c κs = search needs
 
 sampled-requires : tie.Need-sampled-requires
 sampled-requires c κs = search needs
@@ -35,8 +35,8 @@ returns-3 c =
       le-ltb _ _ small,
       call-true _ _ fitting (c .before .before .before .if2 .left),
       c .sampled .ensures,
-      c .before .is-set2 .ensures,
-      c .before .before .is-set .ensures,
+      c .before .sda .ensures,
+      c .before .before .scl .ensures,
     )
 
 pub sample-spec : {M : Type 1} → statement M
@@ -46,7 +46,7 @@ sample-spec =
     returns
     fits-requires
     returns-2
-    is-set-requires
-    is-set-requires-2
+    scl-requires
+    sda-requires
     sampled-requires
     returns-3)

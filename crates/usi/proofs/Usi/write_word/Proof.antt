@@ -1,6 +1,6 @@
 -- The low byte's write, and unless it was refused the high byte's.
 use borrow.Author.Tests.{ne-eqb}
-use Rattle.bits.proofs.Branches.{branches}
+use Rattle.laws.proofs.Branches.{branches}
 use Rattle.usi.specs.Step.{writeWord}
 use borrow.Author.Needs.{needs}
 use Rattle.usi.proofs.Usi.write_word.Statement.{statement}
@@ -34,12 +34,17 @@ enum-known-number c = search needs
 returns-2 : tie.Need-returns-2
 unfolding writeWord
 returns-2 c =
-    rw (ne-eqb _ _ (c .before .before .before .before .before .if1 .left), ← c .before .before .before .before .write .ensures, c .before .before .u .given .1)
+    let at4 = c .before .before .before .before in
+    let at5 = at4 .before in
+    rw (ne-eqb _ _ (at5 .if1 .left), ← at4 .write .ensures, c .before .before .u .given .1)
     (c .write2 .ensures)
 
 returns-3 : tie.Need-returns-3
 unfolding writeWord
-returns-3 c = rw (ne-eqb _ _ (c .before .before .before .before .if1 .left), ← c .before .before .before .write .ensures, c .before .number .given .1)
+returns-3 c =
+    let at3 = c .before .before .before in
+    let at4 = at3 .before in
+    rw (ne-eqb _ _ (at4 .if1 .left), ← at3 .write .ensures, c .before .number .given .1)
 
 pub write-word-spec : {M : Type 1} → statement M
 write-word-spec =

@@ -1,5 +1,5 @@
 -- `rig_lines::output::Output::between` meets its contract.
-use Rattle.bits.proofs.Branches.{branches}
+use Rattle.laws.proofs.Branches.{branches}
 use Rattle.rig_lines.specs.Output.{separated}
 use borrow.Author.Needs.{needs}
 use Rattle.rig_lines.proofs.output.Output.between.Statement.{statement}

@@ -33,7 +33,13 @@ returns-2 : tie.Need-returns-2
 unfolding counted
 returns-2 c =
     let one = c .before .before .before in
-    rw (c .words3 .ensures, one .words2 .ensures, one .before .words .ensures, one .before .before .before .number .ensures, ne-eqb _ _ (c .before .before .if1 .left))
+    rw (
+      c .words3 .ensures,
+      one .words2 .ensures,
+      one .before .words .ensures,
+      one .before .before .before .number .ensures,
+      ne-eqb _ _ (c .before .before .if1 .left),
+    )
 
 pub count-spec : {M : Type 1} → statement M
 count-spec =

@@ -1,0 +1,103 @@
+// The functions that hold a table of modules, one for each message: a pass over it, and a run.
+ghost use mathlib.Core.Path.{_≡_};
+ghost use Prim.Native.Nat.{_≤_};
+ghost use lib.ListN.{length, replicate};
+ghost use Rattle.arbitration_rules.specs.Limits.{maxMasters};
+ghost use Rattle.usi.specs.Module.{powerUp};
+ghost use Rattle.arbitration_run.specs.Pass.{passed, seen as seenBy};
+ghost use Rattle.arbitration_turns.specs.Turns.{Reached};
+use arbitration_rules::MAX_LENGTH;
+use arbitration_rules::MAX_MASTERS;
+use arbitration_run::Pass;
+use arbitration_run::Seen;
+use arbitration_run::Sequencer;
+use usi::Usi;
+
+// The first count modules make a pass, each in its turn; what they then show.
+fn step_all(table: &mut [Usi], count: usize, pass: Pass) -> Seen
+    requires { ⌜ (count ≤ maxMasters) × (count ≤ length (now table)) ⌝ }
+    ensures { λ r. ⌜ (now (table .exit) ≡ passed count pass (now (table .entry)))
+        × (r ≡ seenBy count (passed count pass (now (table .entry)))) ⌝ }
+{
+    let mut seen = arbitration_run::unseen();
+    let mut i = 0;
+    while i < count {
+        let usi = arbitration_run::applied(table[i], pass, i);
+        table[i] = usi;
+        seen = arbitration_run::noted(seen, usi, i);
+        i = i + 1;
+    }
+    seen
+}
+
+// Passes over the first count modules, and what the sequencer makes of each, until it runs no more; the bytes to send
+// are taken from the rows.
+fn run(
+    table: &mut [Usi],
+    count: usize,
+    mut sequencer: Sequencer,
+    rows: [[u8; MAX_LENGTH]; MAX_MASTERS],
+    acks: &[u8],
+    carried: &mut [u8],
+    levels: &mut [u8],
+) -> Sequencer
+    requires { ⌜ (count ≤ maxMasters) × (count ≤ length (now table)) ⌝ }
+    ensures { λ r. ⌜ Reached count rows (now (acks .entry))
+        (record {
+          sequencer = sequencer;
+          table = now (table .entry);
+          carried = now (carried .entry);
+          levels = now (levels .entry);
+        })
+        (record {
+          sequencer = r;
+          table = now (table .exit);
+          carried = now (carried .exit);
+          levels = now (levels .exit);
+        }) ⌝ }
+{
+    while sequencer.running {
+        if sequencer.loading {
+            sequencer = sequencer.loaded(rows);
+        }
+        let pass = sequencer.pass();
+        let seen = step_all(table, count, pass);
+        sequencer = sequencer.next(seen, acks, carried, levels);
+    }
+    sequencer
+}
+
+// The modules at the end of a run, and the sequencer that ended it.
+pub(crate) struct Ended {
+    pub(crate) modules: [Usi; MAX_MASTERS],
+    pub(crate) sequencer: Sequencer,
+}
+
+// A run over modules of its own, powered up.
+pub(crate) fn run_modules(
+    count: usize,
+    first: Sequencer,
+    rows: [[u8; MAX_LENGTH]; MAX_MASTERS],
+    acks: &[u8],
+    carried: &mut [u8],
+    levels: &mut [u8],
+) -> Ended
+    requires { ⌜ count ≤ maxMasters ⌝ }
+    ensures { λ r. ⌜ Reached count rows (now (acks .entry))
+        (record {
+          sequencer = first;
+          table = replicate maxMasters (powerUp 0 0);
+          carried = now (carried .entry);
+          levels = now (levels .entry);
+        })
+        (record {
+          sequencer = r .sequencer;
+          table = r .modules;
+          carried = now (carried .exit);
+          levels = now (levels .exit);
+        }) ⌝ }
+{
+    let mut modules = [Usi::power_up(0, 0); MAX_MASTERS];
+    let sequencer = run(&mut modules, count, first, rows, acks, carried, levels);
+    Ended { modules, sequencer }
+}

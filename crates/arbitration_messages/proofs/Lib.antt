@@ -1,6 +1,0 @@
-pub mod Search
-pub mod Lengths
-pub mod Walk
-pub mod Cut
-pub mod Held
-pub mod Unrefused

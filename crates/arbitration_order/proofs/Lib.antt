@@ -1,4 +1,0 @@
-pub mod Compared
-pub mod Least
-pub mod Acknowledged
-pub mod Stopped

@@ -1,0 +1,15 @@
+-- The bytes are those of the column.
+use Rattle.arbitration_run.specs.Members.{loaded}
+use borrow.Author.Needs.{needs}
+use Rattle.arbitration_run.proofs.members.Members.loaded.Statement.{statement}
+use Rattle.arbitration_run.proofs.members.Members.loaded.Tie as tie
+
+column-requires : tie.Need-column-requires
+column-requires c κs = search needs
+
+returns : tie.Need-returns
+unfolding loaded
+returns c = rw (c .column .ensures)
+
+pub loaded-spec : {M : Type 1} → statement M
+loaded-spec = tie.close (tie.spec column-requires returns)

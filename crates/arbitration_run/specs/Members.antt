@@ -1,0 +1,104 @@
+-- What the masters know of themselves beside their modules.
+use Prim.Native.Nat.{ℕ, _+_, _-_, _*_, min}
+use mathlib.Core.Bool.{Bool, cond, true, false, not, _&&_, _||_}
+use mathlib.Core.List.{List, _++_, zipWith}
+use lib.Dec.{ltb, leb}
+use lib.ListN.{length, take, replicate}
+use Rattle.laws.specs.Search.{any}
+use Rattle.arbitration_rules.specs.Limits.{maxMasters, maxLength}
+use Rattle.arbitration_rules.specs.declared.Seat.{Seat}
+use Rattle.arbitration_run.specs.declared.instants.Effect.{Effect}
+use Rattle.arbitration_run.specs.declared.instants.Effect.the-variants.{Nothing, Begin, Release, Acknowledge}
+use Rattle.arbitration_run.specs.declared.instants.Effect.the-variants.{Record, Bit, Settle}
+use Rattle.arbitration_run.specs.declared.members.Members.{Members}
+use Rattle.arbitration_run.specs.Rows.{columnOf}
+
+-- as many contend as there are messages
+abbrev pub withMessage : ℕ → List Bool
+withMessage count = replicate (min count maxMasters) true ++ replicate (maxMasters - count) false
+
+abbrev pub nobody : List Bool
+nobody = replicate maxMasters false
+
+-- each has as many bytes to send as its message
+abbrev pub sizesOf : List ℕ → List ℕ
+sizesOf lengths = take maxMasters lengths ++ replicate (maxMasters - length lengths) 0
+
+unfoldable pub entered : List ℕ → Members
+entered lengths =
+    record {
+      contending = withMessage (length lengths);
+      lost = nobody;
+      positions = replicate maxMasters 0;
+      bytes = replicate maxMasters 0;
+      sizes = sizesOf lengths;
+    }
+
+-- each takes the byte of its row at an index
+unfoldable pub loaded : List (List ℕ) → ℕ → Members → Members
+loaded rows index members =
+    record {
+      contending = members .contending;
+      lost = members .lost;
+      positions = members .positions;
+      bytes = columnOf rows index;
+      sizes = members .sizes;
+    }
+
+-- who contends and has AL set loses now, at a position
+abbrev pub losing : List Bool → List Bool → List Bool
+losing contending al = zipWith (λ still set. still && set) contending al
+
+abbrev pub lostAt : ℕ → ℕ → Bool → ℕ
+lostAt position before loses = cond loses position before
+
+unfoldable pub judged : ℕ → List Bool → Members → Members
+judged position al members =
+    record {
+      contending = zipWith (λ still set. still && not set) (members .contending) al;
+      lost = zipWith (λ before loses. before || loses) (members .lost) (losing (members .contending) al);
+      positions = zipWith (lostAt position) (members .positions) (losing (members .contending) al);
+      bytes = members .bytes;
+      sizes = members .sizes;
+    }
+
+-- the byte in which they lost is over
+unfoldable pub settled : Members → Members
+settled members =
+    record {
+      contending = members .contending;
+      lost = nobody;
+      positions = members .positions;
+      bytes = members .bytes;
+      sizes = members .sizes;
+    }
+
+-- 9 · byte + bit
+abbrev pub positionOf : ℕ → ℕ → ℕ
+positionOf index bit = cond (ltb index maxLength) (9 * index + bit) 0
+
+-- what follows for them from an instant of the byte at an index
+abbrev pub affected : Effect → List Bool → ℕ → Members → Members
+affected Nothing al index members = members
+affected Begin al index members = members
+affected Release al index members = members
+affected Acknowledge al index members = members
+affected Record al index members = members
+affected (Bit bit) al index members = judged (positionOf index bit) al members
+affected Settle al index members = settled members
+
+-- someone still contending has sent all of its message
+abbrev pub anyThrough : List Bool → List ℕ → ℕ → Bool
+anyThrough contending sizes sent =
+    any (λ (done : Bool). done) (zipWith (λ still size. still && leb size sent) contending sizes)
+
+abbrev pub through : ℕ → Members → Bool
+through sent members = anyThrough (members .contending) (members .sizes) sent
+
+abbrev pub seatOf : Bool → ℕ → Seat
+seatOf contending position = record { contending = contending; position = position }
+
+-- what became of the first so many; the other seats are empty
+abbrev pub seats : List Bool → List ℕ → ℕ → List Seat
+seats contending positions count =
+    zipWith seatOf (take count contending) (take count positions) ++ replicate (maxMasters - count) (seatOf false 0)

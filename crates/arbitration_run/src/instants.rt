@@ -1,0 +1,177 @@
+// 01's steps as data: a run has parts, each a row of instants; an instant is one pass over the modules, and what
+// follows from it on the bus.
+ghost use mathlib.Core.Path.{_≡_};
+ghost use Rattle.arbitration_run.specs.Instants as rows;
+
+// What the modules do in a pass; registers are written by those still contending, and at LetGo by those that lost too.
+pub enum Operation {
+    // powered up and set up
+    Enter,
+    Sample,
+    // SDA falls: START
+    Pull,
+    // START's flag is cleared: SCL is let go
+    Clear,
+    // the byte to send
+    Load,
+    // who lost lets go of both lines, the rest let go of SDA for the acknowledge
+    LetGo,
+    // SDA is taken low for the STOP
+    Lower,
+    // SDA rises: STOP
+    Raise,
+    // as after set-up
+    Rest,
+}
+
+// What then follows on the bus.
+pub enum Effect {
+    Nothing,
+    // a byte begins
+    Begin,
+    // the acknowledge's pull ends, or begins if there is one
+    Release,
+    Acknowledge,
+    // the level is recorded
+    Record,
+    // and a bit of the byte is judged and taken, with the last one the byte
+    Bit(u8),
+    // who lost in the byte is done with it
+    Settle,
+}
+
+pub struct Instant {
+    pub operation: Operation,
+    // after it all modules tick
+    pub ticks: bool,
+    pub effect: Effect,
+}
+
+// Set-up, step 1, a byte of step 2, step 4.
+pub enum Part {
+    Entry,
+    Opening,
+    Byte,
+    Closing,
+}
+
+fn write(operation: Operation, ticks: bool) -> Instant
+    ensures { λ r. ⌜ r ≡ rows.write operation ticks ⌝ }
+{
+    Instant {
+        operation,
+        ticks,
+        effect: Effect::Nothing,
+    }
+}
+
+fn sample(effect: Effect, ticks: bool) -> Instant
+    ensures { λ r. ⌜ r ≡ rows.sample effect ticks ⌝ }
+{
+    Instant {
+        operation: Operation::Sample,
+        ticks,
+        effect,
+    }
+}
+
+// Step 1.
+fn opening(at: usize) -> Instant
+    ensures { λ r. ⌜ r ≡ rows.opening at ⌝ }
+{
+    if at == 1 {
+        return write(Operation::Pull, false);
+    }
+    if at == 3 {
+        return write(Operation::Clear, false);
+    }
+    sample(Effect::Record, false)
+}
+
+// Step 3, a bit turn past its first tick: SCL is low in the first two samples, high in the third.
+fn turn(at: usize, pull: Effect, last: Effect, ticks: bool) -> Instant
+    ensures { λ r. ⌜ r ≡ rows.turn at pull last ticks ⌝ }
+{
+    if at == 0 {
+        return sample(pull, false);
+    }
+    if at == 1 {
+        return sample(Effect::Record, true);
+    }
+    sample(last, ticks)
+}
+
+// Step 2 for one byte: it is loaded, its eight bits are sent, who lost lets go, and the acknowledge.
+fn byte(at: usize) -> Instant
+    ensures { λ r. ⌜ r ≡ rows.byte at ⌝ }
+{
+    if at == 0 {
+        return Instant {
+            operation: Operation::Load,
+            ticks: true,
+            effect: Effect::Begin,
+        };
+    }
+    if at < 25 {
+        let bit = (at - 1) / 3;
+        return turn(
+            (at - 1) % 3,
+            Effect::Release,
+            Effect::Bit(bit as u8),
+            bit < 7,
+        );
+    }
+    if at == 25 {
+        return Instant {
+            operation: Operation::LetGo,
+            ticks: true,
+            effect: Effect::Settle,
+        };
+    }
+    turn(at - 26, Effect::Acknowledge, Effect::Record, false)
+}
+
+// Step 4.
+fn closing(at: usize) -> Instant
+    ensures { λ r. ⌜ r ≡ rows.closing at ⌝ }
+{
+    if at == 0 {
+        return write(Operation::Lower, true);
+    }
+    if at < 4 {
+        return turn(at - 1, Effect::Release, Effect::Record, false);
+    }
+    if at == 4 {
+        return write(Operation::Raise, false);
+    }
+    if at == 5 {
+        return sample(Effect::Record, false);
+    }
+    write(Operation::Rest, false)
+}
+
+impl Part {
+    // The instant of a part at an index.
+    pub(crate) fn instant(self, at: usize) -> Instant
+        ensures { λ r. ⌜ r ≡ rows.instant self at ⌝ }
+    {
+        match self {
+            Part::Entry => write(Operation::Enter, false),
+            Part::Opening => opening(at),
+            Part::Byte => byte(at),
+            Part::Closing => closing(at),
+        }
+    }
+
+    // The index of its last instant.
+    pub(crate) fn last(self) -> usize
+        ensures { λ r. ⌜ r ≡ rows.last self ⌝ }
+    {
+        match self {
+            Part::Entry => 0,
+            Part::Opening => 3,
+            Part::Byte => 28,
+            Part::Closing => 6,
+        }
+    }
+}

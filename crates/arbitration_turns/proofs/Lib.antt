@@ -1,0 +1,15 @@
+pub mod Scripts
+pub mod View
+pub mod Treatment
+pub mod Pieces
+pub mod Turned
+pub mod Columns
+pub mod Writing
+pub mod Allowed
+pub mod Growth
+pub mod Counted
+pub mod Kept
+pub mod Bits
+pub mod Standing
+pub mod Steps
+pub mod Ran

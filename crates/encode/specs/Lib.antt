@@ -1,0 +1,4 @@
+-- What encode means, in document 01's order.
+pub mod Complete
+pub mod Encode
+pub mod EncodeReply

@@ -1,0 +1,393 @@
+-- What the arbitration's call promises, at each of its returns.
+use Prim.Native.Nat.{ℕ, zero, suc, _+_, _-_, _*_, _/_, _%_, _^_, _≤_, _<_}
+use native.Mathlib.Omega.{arith}
+use mathlib.Core.Path.{_≡_, refl, sym, ap, ap₂, subst, _∙_}
+use mathlib.Core.Bool.{Bool, true, false, cond, _||_, or-false, or-true}
+use mathlib.Core.List.{List, [], _∷_, _++_, map, zipWith}
+use mathlib.Core.Option.{Option, none, some}
+use mir.Val.{boolByte}
+use lib.Dec.{eqb, ltb}
+use lib.ListN.{length, take, drop, replicate, length-append, length-replicate}
+use borrow.Author.Tests.{eq-eqb, ne-eqb, eqb-true, eqb-false, ltb-false}
+use Rattle.laws.specs.declared.Refusal.{Refusal}
+use Rattle.laws.specs.Buffer.{filled}
+use Rattle.laws.specs.Refusals as refusals
+use Rattle.laws.specs.Refusals.{check, given, orElse}
+use Rattle.laws.specs.Search.{first}
+use Rattle.laws.specs.Everyone.{Everyone, nobody, also}
+use Rattle.laws.proofs.Bools.{neither}
+use Rattle.laws.proofs.Refusals.{Placed, placed, Below, number-below, in-parts}
+use Rattle.laws.proofs.Lists.{everyone, everyone-map, everyone-append}
+use Rattle.laws.proofs.Search.{first-within}
+use Rattle.bits.specs.Positions.{isSet}
+use Rattle.usi.specs.declared.Usi.{Usi}
+use Rattle.arbitration_rules.specs.declared.Arbitrated.{Arbitrated}
+use Rattle.arbitration_rules.specs.declared.Seat.{Seat}
+use Rattle.arbitration_rules.specs.Limits.{maxMasters}
+use Rattle.arbitration_rules.specs.Final.{finalUsi, finalMaster}
+use Rattle.arbitration_rules.specs.Masters.{Master}
+use Rattle.arbitration_rules.specs.Outcome.{Fate, carriedOf, lossFrom, levelCount, outcome}
+use Rattle.arbitration_rules.specs.Reply.{messagesOf, badLength, reads, messageChecks, shortBuffer, refusal}
+use Rattle.arbitration_rules.specs.Reply.{padded, absent, seatOf, refused, answered, arbitrated, carriedAfter}
+use Rattle.arbitration_rules.specs.Reply.{levelsAfter}
+use Rattle.arbitration_rules.specs.Run.{run}
+use Rattle.arbitration_rules.proofs.Accepted.{cut-count, message-numbered}
+use Rattle.arbitration_rules.proofs.Carry.{Bytes}
+use Rattle.arbitration_checks.specs.Settled.{settled}
+use Rattle.arbitration_rules.proofs.FinalMasters.{final-masters}
+use Rattle.arbitration.proofs.Given.{arbitration, carried-length, few, count-small as most-carried}
+use Rattle.usi.specs.Module.{powerUp}
+use Rattle.export.specs.Arbitration.{Lent, Returned, shortTables, busOf, refusalOf, packedReply, untouched, ran}
+use Rattle.export.specs.Arbitration.{returned, countIn, shownIn, fateIn, packedSeat}
+use Rattle.export.specs.Packed.{byteAt, packed}
+use Rattle.arbitration.specs.Shown.{shown, fateOf}
+
+-- the two clauses
+pub record Clauses (lent : Lent) (got : Returned) : Type 0 where
+  pub returns : got ≡ returned lent
+  pub follows : got .answer % 256 ≡ 0
+      → shownIn (length (lent .lengths)) got ≡ outcome (messagesOf (lent .lengths) (lent .bytes)) (lent .acks)
+
+module _ (lent : Lent) where
+  abbrev pub found : Refusal
+  found = given (messageChecks (lent .bytes) (lent .lengths) (lent .acks))
+
+  abbrev pub short : Bool
+  short = shortBuffer (busOf lent) (length (lent .carried)) (length (lent .levels))
+
+  abbrev pub shortTable : Bool
+  shortTable = shortTables (length (lent .modules)) (length (lent .seats))
+
+  -- one of 12 to 16, or else 8
+  applies-is : refusalOf lent ≡ orElse found (given (check 8 (short || shortTable) ∷ []))
+  unfolding refusalOf
+  applies-is =
+      in-parts (messageChecks (lent .bytes) (lent .lengths) (lent .acks)) (check 8 (short || shortTable) ∷ [])
+      (message-numbered (lent .bytes) (lent .lengths) (lent .acks))
+
+  messages-placed : Placed maxMasters (messageChecks (lent .bytes) (lent .lengths) (lent .acks))
+  messages-placed = (
+    omega arith,
+    λ count.
+        let few : length (lent .lengths) ≤ maxMasters =
+        ltb-false maxMasters (length (lent .lengths))
+        (neither (eqb (length (lent .lengths)) 0) (ltb maxMasters (length (lent .lengths))) count .1) in (
+          omega (arith, first-within badLength (lent .lengths)),
+          λ sizes. (
+            omega (
+              arith,
+              first-within reads (messagesOf (lent .lengths) (lent .bytes)),
+              cut-count (lent .lengths) (lent .bytes),
+            ),
+            λ reading. (omega arith, λ answers. (omega arith, λ decided. tt)),
+          ),
+        ),
+  )
+
+  pub found-placed : found .place < 65536
+  found-placed =
+      omega (
+        arith,
+        placed maxMasters (messageChecks (lent .bytes) (lent .lengths) (lent .acks)) messages-placed,
+      )
+
+  found-below : found .number < 256
+  found-below =
+      number-below 256 (messageChecks (lent .bytes) (lent .lengths) (lent .acks)) (omega arith)
+      (omega arith, (omega arith, (omega arith, (omega arith, (omega arith, tt)))))
+
+  -- a refused call
+  refused-clauses : (stopped : Refusal) (answer : ℕ) → refusalOf lent ≡ stopped → (stopped .number ≡ 0 → ⊥)
+      → stopped .number < 256 → answer ≡ packedReply (refused stopped) → Clauses lent
+      (record {
+        answer = answer;
+        carried = lent .carried;
+        levels = lent .levels;
+        modules = lent .modules;
+        seats = lent .seats;
+      })
+  unfolding returned refused
+  refused-clauses stopped answer applies refuses small is =
+      record {
+        returns = rw (applies, ne-eqb (stopped .number) 0 refuses, is);
+        follows = λ unrefused. absurd (refuses (omega (arith, is, small, unrefused)));
+      }
+
+  -- refused by one of 12 to 16, whatever the buffers and tables
+  pub refused-before : (answer : ℕ) → (found .number ≡ 0 → ⊥) → answer ≡ packedReply (refused found) → Clauses lent
+      (record {
+        answer = answer;
+        carried = lent .carried;
+        levels = lent .levels;
+        modules = lent .modules;
+        seats = lent .seats;
+      })
+  refused-before answer refuses is =
+      refused-clauses found answer (applies-is ∙ rw (ne-eqb (found .number) 0 refuses)) refuses found-below is
+
+  -- refused by 8, since a buffer or a table is too short
+  pub refused-short : (answer : ℕ) → found .number ≡ 0 → short || shortTable ≡ true → answer ≡ 8 → Clauses lent
+      (record {
+        answer = answer;
+        carried = lent .carried;
+        levels = lent .levels;
+        modules = lent .modules;
+        seats = lent .seats;
+      })
+  refused-short answer passes too-short is =
+      refused-clauses (refusals.refusedAt 8 0) answer
+      (applies-is ∙ rw (eq-eqb (found .number) 0 passes, too-short)) (λ e. omega arith) (omega arith) (is ∙ eight)
+    where
+      eight : _≡_ {A = ℕ} 8 (packedReply (refused (refusals.refusedAt 8 0)))
+      eight = unfold refused in refl
+
+-- the bits of an entry of the tables are those of its master
+abbrev Small : Usi → Type 0
+Small u = (u .usictl0 < 256) × (u .usictl1 < 256)
+
+second-byte : (u : Usi) → Small u → byteAt 1 (packed u) ≡ u .usictl1
+second-byte u small = omega (arith, small .0, small .1)
+
+low-bit : (b : Bool) (position : ℕ) → isSet 0 (boolByte b + 2 * position) ≡ b
+low-bit true position = eq-eqb ((1 + 2 * position) / 1 % 2) 1 (omega arith)
+low-bit false position = ne-eqb ((0 + 2 * position) / 1 % 2) 1 (λ e. omega arith)
+
+rest-of : (b : Bool) (position : ℕ) → (boolByte b + 2 * position) / 2 ≡ position
+rest-of true position = omega arith
+rest-of false position = omega arith
+
+fate-is : (u : Usi) (seat : Seat) → Small u → fateIn (packed u) (packedSeat seat) ≡ fateOf u seat
+fate-is u seat small =
+    rw (second-byte u small, low-bit (seat .contending) (seat .position), rest-of (seat .contending) (seat .position))
+
+fates-are : (n : ℕ) (modules : List Usi) (seats : List Seat) (others more : List ℕ) → Everyone Small modules
+    → n ≤ length modules → n ≤ length seats
+    → take n (zipWith fateIn (map packed modules ++ others) (map packedSeat seats ++ more))
+    ≡ take n (zipWith fateOf modules seats)
+unfolding zipWith
+fates-are zero modules seats others more small within within-seats = refl
+fates-are (suc n) [] seats others more small within within-seats = absurd (omega arith)
+fates-are (suc n) (u ∷ modules) [] others more small within within-seats = absurd (omega arith)
+fates-are (suc n) (u ∷ modules) (seat ∷ seats) others more (also first rest) within within-seats =
+    ap₂ (λ (one : Fate) (fates : List Fate). one ∷ fates) (fate-is u seat first)
+    (fates-are n modules seats others more rest (omega arith) (omega arith))
+
+-- the modules at the end of a run
+final-small : (carried message : List ℕ) (loss : Option ℕ) → Small (finalUsi carried message loss)
+final-small carried message none = (omega arith, omega arith)
+final-small carried message (some position) = (omega arith, omega arith)
+
+all-small : (count : ℕ) (u : Usi) → Small u → Everyone Small (replicate count u)
+all-small zero u small = nobody
+all-small (suc count) u small = also small (all-small count u small)
+
+module _ (lent : Lent) (small : Bytes (lent .bytes)) (passes : found lent .number ≡ 0) (enough : short lent ≡ false)
+    (roomy : shortTable lent ≡ false) where
+  abbrev messages : List (List ℕ)
+  messages = messagesOf (lent .lengths) (lent .bytes)
+
+  unrefused : refusalOf lent ≡ refusals.none
+  unrefused = applies-is lent ∙ rw (eq-eqb (found lent .number) 0 passes, enough, roomy)
+
+  abbrev reply : Arbitrated
+  reply = answered (busOf lent)
+
+  modules-small : Everyone Small (reply .modules)
+  unfolding answered
+  modules-small =
+      let given-so = arbitration (lent .bytes) (lent .lengths) (lent .acks) small passes in
+      everyone-append
+      (everyone-map (λ (m : Master). m .usi)
+      (subst (Everyone (λ (m : Master). Small (m .usi))) (sym (final-masters messages (lent .acks) given-so))
+      (everyone-map (finalMaster (carriedOf messages (lent .acks)))
+      (everyone (λ message. final-small (carriedOf messages (lent .acks)) message
+      (lossFrom 0 (carriedOf messages (lent .acks)) message)) messages))))
+      (all-small (maxMasters - length (map (λ (m : Master). m .usi) (busOf lent .masters))) (powerUp 0 0)
+      (omega arith, omega arith))
+
+  count-small : reply .count < 65536
+  unfolding answered
+  count-small =
+      omega (
+        arith,
+        carried-length (lent .bytes) (lent .lengths) (lent .acks) small passes,
+        most-carried (lent .bytes) (lent .lengths) (lent .acks) small passes,
+      )
+
+  many : (length (lent .lengths) ≤ length (reply .modules)) × (length (lent .lengths) ≤ length (reply .seats))
+  many =
+      let most = few (lent .bytes) (lent .lengths) (lent .acks) small passes in
+      (omega (arith, most, modules-long), omega (arith, most, seats-long))
+    where
+      padded-long : {A : Type 0} (empty : A) (list : List A) → maxMasters ≤ length (padded empty list)
+      padded-long empty list =
+          omega (
+            arith,
+            length-append list (replicate (maxMasters - length list) empty),
+            length-replicate (maxMasters - length list) empty,
+          )
+
+      modules-long : maxMasters ≤ length (reply .modules)
+      modules-long =
+          unfold answered in padded-long (powerUp 0 0) (map (λ (m : Master). m .usi) (busOf lent .masters))
+
+      seats-long : maxMasters ≤ length (reply .seats)
+      seats-long = unfold answered in padded-long absent (map seatOf (busOf lent .masters))
+
+  count-back : countIn (packedReply reply) ≡ reply .count
+  count-back =
+      let number : reply .refusal .number ≡ 0 = unfold answered in refl in
+      let place : reply .refusal .place ≡ 0 = unfold answered in refl in
+      omega (arith, number, place, count-small)
+
+  abbrev got : Returned
+  got = ran (busOf lent) lent
+
+  shown-is : shownIn (length (lent .lengths)) got ≡ shown (length (lent .lengths)) reply (got .carried) (got .levels)
+  unfolding shownIn shown
+  shown-is =
+      rw (
+        count-back,
+        fates-are (length (lent .lengths)) (reply .modules) (reply .seats) _ _ modules-small (many .0) (many .1),
+      )
+
+  pub ran-clauses : shown (length (lent .lengths)) reply (got .carried) (got .levels) ≡ outcome messages (lent .acks)
+      → Clauses lent got
+  unfolding returned
+  ran-clauses follows-so = record { returns = rw (unrefused); follows = λ zero-so. shown-is ∙ follows-so }
+
+-- what the library's arbitrate answers, where the tables are long enough
+module _ (lent : Lent) (roomy : shortTable lent ≡ false) where
+  abbrev pub applies : Refusal
+  applies = refusal (lent .bytes) (lent .lengths) (lent .acks) (length (lent .carried)) (length (lent .levels))
+
+  abbrev pub libraryReply : Arbitrated
+  libraryReply =
+      arbitrated (lent .bytes) (lent .lengths) (lent .acks) (length (lent .carried)) (length (lent .levels))
+
+  applies-alike : refusalOf lent ≡ applies
+  unfolding refusalOf refusal
+  applies-alike = rw (roomy, or-false)
+
+  reply-by : (passing : Bool) → eqb (applies .number) 0 ≡ passing
+      → libraryReply ≡ cond passing (answered (busOf lent)) (refused applies)
+  unfolding arbitrated
+  reply-by passing is = rw is
+
+  stops : (libraryReply .refusal .number ≡ 0 → ⊥) → (applies .number ≡ 0 → ⊥) × (libraryReply ≡ refused applies)
+  unfolding answered
+  stops refuses = go (eqb (applies .number) 0) refl
+    where
+      go : (passing : Bool) → eqb (applies .number) 0 ≡ passing
+          → (applies .number ≡ 0 → ⊥) × (libraryReply ≡ refused applies)
+      go true is = absurd (refuses (ap (λ (r : Arbitrated). r .refusal .number) (reply-by true is)))
+      go false is = (eqb-false (applies .number) 0 is, reply-by false is)
+
+  runs : libraryReply .refusal .number ≡ 0 → (applies .number ≡ 0) × (libraryReply ≡ answered (busOf lent))
+  unfolding refused
+  runs none-so = go (eqb (applies .number) 0) refl
+    where
+      go : (passing : Bool) → eqb (applies .number) 0 ≡ passing
+          → (applies .number ≡ 0) × (libraryReply ≡ answered (busOf lent))
+      go true is = (eqb-true (applies .number) 0 is, reply-by true is)
+      go false is =
+          absurd (eqb-false (applies .number) 0 is
+          (sym (ap (λ (r : Arbitrated). r .refusal .number) (reply-by false is)) ∙ none-so))
+
+  applies-in-parts : applies ≡ orElse (found lent) (given (check 8 (short lent) ∷ []))
+  unfolding refusal
+  applies-in-parts =
+      in-parts (messageChecks (lent .bytes) (lent .lengths) (lent .acks)) (check 8 (short lent) ∷ [])
+      (message-numbered (lent .bytes) (lent .lengths) (lent .acks))
+
+  pub applies-small : (applies .place < 65536) × (applies .number < 256)
+  applies-small = go (eqb (found lent .number) 0) (short lent) applies-in-parts
+    where
+      go : (passing tight : Bool)
+          → applies ≡ cond passing (given (check 8 tight ∷ [])) (found lent)
+          → (applies .place < 65536) × (applies .number < 256)
+      go true true is = rw is (omega arith, omega arith)
+      go true false is = rw is (omega arith, omega arith)
+      go false tight is = rw is (found-placed lent, found-below lent)
+
+  passing : applies .number ≡ 0 → (found lent .number ≡ 0) × (short lent ≡ false)
+  passing none-so = go (eqb (found lent .number) 0) refl (short lent) refl applies-in-parts
+    where
+      go : (passes : Bool) → eqb (found lent .number) 0 ≡ passes → (tight : Bool) → short lent ≡ tight
+          → applies ≡ cond passes (given (check 8 tight ∷ [])) (found lent)
+          → (found lent .number ≡ 0) × (short lent ≡ false)
+      go true zero-so true tight is = absurd (omega (arith, ap (λ (r : Refusal). r .number) is, none-so))
+      go true zero-so false roomy-so is = (eqb-true (found lent .number) 0 zero-so, roomy-so)
+      go false other tight tight-so is =
+          absurd (eqb-false (found lent .number) 0 other (sym (ap (λ (r : Refusal). r .number) is) ∙ none-so))
+
+  -- no place and no count of its reply is cut
+  pub refused-place : (done : Arbitrated) → done ≡ libraryReply → (done .refusal .number ≡ 0 → ⊥)
+      → done .refusal .place < 65536
+  unfolding refused
+  refused-place done same refuses =
+      let stopped = stops (rw same at refuses) in
+      omega (arith, ap (λ (r : Arbitrated). r .refusal .place) (same ∙ stopped .1), applies-small .0)
+
+  pub answered-small : Bytes (lent .bytes) → (done : Arbitrated) → done ≡ libraryReply → done .refusal .number ≡ 0
+      → (done .refusal .place < 65536) × (done .count < 65536)
+  answered-small small done same none-so =
+      let ran-so = runs (rw same at none-so) in
+      let two = passing (ran-so .0) in
+      let place : answered (busOf lent) .refusal .place ≡ 0 = unfold answered in refl in (
+        omega (arith, ap (λ (r : Arbitrated). r .refusal .place) (same ∙ ran-so .1), place),
+        omega (
+          arith,
+          ap (λ (r : Arbitrated). r .count) (same ∙ ran-so .1),
+          count-small lent small (two .0) (two .1) roomy,
+        ),
+      )
+
+  pub refused-by-library : (reply : Arbitrated) (answer : ℕ) (exit levelsExit : List ℕ) → reply ≡ libraryReply
+      → (reply .refusal .number ≡ 0 → ⊥) → answer ≡ packedReply (refused (reply .refusal))
+      → exit ≡ carriedAfter (lent .bytes) (lent .lengths) (lent .acks) (reply .refusal) (lent .carried)
+      → levelsExit ≡ levelsAfter (lent .bytes) (lent .lengths) (lent .acks) (reply .refusal) (lent .levels)
+      → Clauses lent
+      (record {
+        answer = answer;
+        carried = exit;
+        levels = levelsExit;
+        modules = lent .modules;
+        seats = lent .seats;
+      })
+  unfolding carriedAfter levelsAfter
+  refused-by-library reply answer exit levelsExit same refuses is carried-is levels-are =
+      let stopped = stops (rw same at refuses) in
+      let its : reply .refusal ≡ applies = ap (λ (r : Arbitrated). r .refusal) (same ∙ stopped .1) ∙ of-refused in
+      let zero-not = ne-eqb (applies .number) 0 (stopped .0) in
+      let kept : exit ≡ lent .carried = carried-is ∙ rw (its, zero-not) in
+      let kept-levels : levelsExit ≡ lent .levels = levels-are ∙ rw (its, zero-not) in
+      rw (kept, kept-levels)
+      (refused-clauses lent applies answer applies-alike (stopped .0) (applies-small .1) (is ∙ rw its))
+    where
+      of-refused : refused applies .refusal ≡ applies
+      of-refused = unfold refused in refl
+
+  pub answered-by-library : Bytes (lent .bytes) → (reply : Arbitrated) (answer : ℕ)
+      (exit levelsExit modules seats : List ℕ) → reply ≡ libraryReply → reply .refusal .number ≡ 0
+      → answer ≡ packedReply reply
+      → exit ≡ carriedAfter (lent .bytes) (lent .lengths) (lent .acks) (reply .refusal) (lent .carried)
+      → levelsExit ≡ levelsAfter (lent .bytes) (lent .lengths) (lent .acks) (reply .refusal) (lent .levels)
+      → modules ≡ filled (map packed (reply .modules)) (lent .modules)
+      → seats ≡ filled (map packedSeat (reply .seats)) (lent .seats)
+      → (reply .refusal .number ≡ 0 → shown (length (lent .lengths)) reply exit levelsExit
+      ≡ outcome (messagesOf (lent .lengths) (lent .bytes)) (lent .acks))
+      → Clauses lent
+      (record { answer = answer; carried = exit; levels = levelsExit; modules = modules; seats = seats })
+  unfolding carriedAfter levelsAfter
+  answered-by-library small done answer exit levelsExit modules seats same none-so is carried-is levels-are
+      modules-are seats-are follows-so =
+      let ran-so = runs (rw same at none-so) in
+      let its : done ≡ answered (busOf lent) = same ∙ ran-so .1 in
+      let zero-so : eqb (done .refusal .number) 0 ≡ true = eq-eqb (done .refusal .number) 0 none-so in
+      let bytes-are : exit ≡ filled (busOf lent .carried) (lent .carried) = carried-is ∙ rw zero-so in
+      let recorded-are : levelsExit ≡ filled (busOf lent .levels) (lent .levels) = levels-are ∙ rw zero-so in
+      let two = passing (ran-so .0) in
+      rw (is, modules-are, seats-are, bytes-are, recorded-are, its)
+      (ran-clauses lent small (two .0) (two .1) roomy
+      (rw (← bytes-are, ← recorded-are, ← its) (follows-so none-so)))

@@ -1,0 +1,86 @@
+-- No place and no count of a reply passes 16 bits, so none is cut in the number that stands for it.
+use Prim.Native.Nat.{ℕ, _<_, _≤_}
+use native.Mathlib.Omega.{arith}
+use mathlib.Core.Path.{_≡_, refl, sym, ap}
+use mathlib.Core.Bool.{Bool, true, false, cond, not}
+use mathlib.Core.List.{List, [], _∷_, _++_}
+use lib.Dec.{eqb, ltb}
+use lib.ListN.{length}
+use borrow.Author.Tests.{eqb-true, ltb-false, not-false}
+use Rattle.laws.specs.Refusals.{Check, check, given}
+use Rattle.laws.proofs.Refusals.{Placed, placed, passed, passed-first, numbered-both}
+use Rattle.laws.proofs.Search.{first-within}
+use Rattle.trace.specs.Limits.{maxSamples}
+use Rattle.trace.specs.Trace.{badLevel, notAbove, pairs, traceChecks}
+use Rattle.trace.proofs.Pairs.{pair-count}
+use Rattle.decode.specs.declared.Decoded.{Decoded}
+use Rattle.decode.specs.declared.Decoded.the-variants.{Events, Refused}
+use Rattle.decode.specs.Decode.{events, final}
+use Rattle.decode.specs.DecodeReply.{decodeChecks, decoded, decodedNumbers}
+use Rattle.decode.proofs.Bounds.{events-length}
+use Rattle.encode.specs.declared.Encoded.{Encoded}
+use Rattle.encode.specs.declared.Encoded.the-variants.{Drawn, Refused as NotDrawn}
+use Rattle.encode.specs.Encode.{sampleCount}
+use Rattle.encode.specs.EncodeReply.{encodeChecks, encoded, encodedNumbers}
+use Rattle.trace_theorems.proofs.Replies.{accepted, taken}
+
+module _ (stamps levels : List ℕ) (room : ℕ) where
+  decode-placed : Placed maxSamples (decodeChecks stamps levels room)
+  decode-placed = (
+    omega arith,
+    λ same. (
+      omega arith,
+      λ few. (
+        omega (arith, first-within badLevel levels, ltb-false maxSamples (length levels) few),
+        λ legal. (
+          omega (
+            arith,
+            first-within notAbove (pairs stamps),
+            pair-count stamps,
+            ltb-false maxSamples (length levels) few,
+            eqb-true (length stamps) (length levels) (not-false (eqb (length stamps) (length levels)) same),
+          ),
+          λ rises. (omega arith, λ enough. tt),
+        ),
+      ),
+    ),
+  )
+
+  -- a refused answer has the refusal's place
+  refused-place : (none : Bool) (found : ℕ) (number place : ℕ) (refusal : ℕ) → cond none
+      (Events (length (events levels)) (final levels .framed) (final levels .pending) (final levels .value))
+      (Refused refusal found) ≡ Refused number place → found ≡ place
+  refused-place true found number place refusal is = let never : _≡_ {A = ℕ} 0 1 = cc in absurd (omega arith)
+  refused-place false found number place refusal is = cc
+
+  pub decoded-small : (decodedNumbers (decoded stamps levels room) .count < 65536)
+      × (decodedNumbers (decoded stamps levels room) .place < 65536)
+  unfolding decoded
+  decoded-small = go (decoded stamps levels room) refl
+    where
+      go : (answer : Decoded) → decoded stamps levels room ≡ answer
+          → (decodedNumbers answer .count < 65536) × (decodedNumbers answer .place < 65536)
+      go (Events count framed pending value) is =
+          let read = taken stamps levels room count framed pending value is in
+          (omega (arith, read .counted, events-length levels, read .trace .few), omega arith)
+      go (Refused number place) is =
+          let found = given (decodeChecks stamps levels room) in
+          let small = placed maxSamples (decodeChecks stamps levels room) decode-placed in (
+            omega arith,
+            omega (
+              arith,
+              small,
+              refused-place (eqb (found .number) 0) (found .place) number place (found .number) is,
+            ),
+          )
+
+module _ (list : List ℕ) (start gap stampRoom levelRoom : ℕ) where
+  pub encoded-small : encodedNumbers (encoded list start gap stampRoom levelRoom) .count < 65536
+  encoded-small = go (encoded list start gap stampRoom levelRoom) refl
+    where
+      go : (answer : Encoded) → encoded list start gap stampRoom levelRoom ≡ answer
+          → encodedNumbers answer .count < 65536
+      go (Drawn count) is =
+          let drawn = accepted list start gap stampRoom levelRoom count is in
+          omega (arith, drawn .few, drawn .counted)
+      go (NotDrawn number) is = omega arith

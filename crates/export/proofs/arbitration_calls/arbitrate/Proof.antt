@@ -1,0 +1,175 @@
+-- Each return is one of the cases of Contract.antt.
+use Prim.Native.Nat.{_<_, _≤_}
+use native.Mathlib.Omega.{arith}
+use mathlib.Core.Path.{_≡_, refl, sym, ap, _∙_}
+use mathlib.Core.Bool.{false, true, _||_, or-true}
+use lib.Dec.{ltb}
+use lib.ListN.{length}
+use borrow.Author.Needs.{needs}
+use borrow.Author.Tests.{ltb-false}
+use Rattle.laws.specs.declared.Refusal.{Refusal}
+use Rattle.laws.proofs.Bools.{neither}
+use Rattle.arbitration_rules.specs.Limits.{maxMasters}
+use Rattle.arbitration_rules.proofs.Carry.{Bytes}
+use Rattle.arbitration_checks.specs.declared.Settled.{Settled}
+use Rattle.arbitration.proofs.Given.{bytes-below, settled-some, settled-none}
+use Rattle.export.specs.Arbitration.{Lent}
+use Rattle.export.proofs.Contract.{found, short, shortTable, found-placed, refused-before, refused-short}
+use Rattle.export.proofs.Contract.{libraryReply, refused-place, answered-small, refused-by-library}
+use Rattle.export.proofs.Contract.{answered-by-library}
+use Rattle.export.proofs.arbitration_calls.arbitrate.Statement.{statement}
+use Rattle.export.proofs.arbitration_calls.arbitrate.Tie as tie
+
+-- what was lent
+abbrev lentAt : tie.After-slice-known4 → Lent
+lentAt s =
+    let a = s .before .before .before .before .before .before .before .args in
+    record {
+      bytes = a .bytes .now;
+      lengths = a .lengths .now;
+      acks = a .acks .now;
+      carried = a .carried .now;
+      levels = a .levels .now;
+      modules = a .modules .now;
+      seats = a .seats .now;
+    }
+
+small : (s : tie.After-slice-known4) → Bytes (lentAt s .bytes)
+small s =
+    let known = s .before .before .before .before .before .before in
+    bytes-below (lentAt s .bytes) (λ i. omega (arith, known .shared-slice-known .given i))
+
+settle-requires : tie.Need-settle-requires
+settle-requires c κs = search needs
+
+-- the refusal of 12 to 16 that settle found
+stopped : (c : tie.Then2) → c .before .before .before .settle .result .refusal
+    ≡ found (lentAt (c .before .before .before .before .before))
+stopped c =
+    let settled = c .before .before .before .settle in
+    let lent = lentAt (c .before .before .before .before .before) in
+    ap (λ (s : Settled). s .refusal) (settled .ensures)
+    ∙ settled-some (lent .bytes) (lent .lengths) (lent .acks) (rw (settled .ensures) at (c .if2 .taken))
+
+refused-requires : tie.Need-refused-requires
+refused-requires c κs = rw (stopped c) (found-placed (lentAt (c .before .before .before .before .before)))
+
+returns : tie.Need-returns
+returns c =
+    let at = c .before in
+    let all = refused-before (lentAt (at .before .before .before .before .before)) (c .refused .result)
+    (rw (stopped at) at (at .if2 .taken)) (rw (stopped at) at (c .refused .ensures)) in
+    (all .returns, all .follows)
+
+returns-2 : tie.Need-returns-2
+returns-2 c =
+    let settled = c .before .before .before .settle in
+    let lent = lentAt (c .before .before .before .before .before) in
+    let passes = settled-none (lent .bytes) (lent .lengths) (lent .acks) (rw (settled .ensures) at (c .if2 .left)) .0 in
+    let tight : short lent || shortTable lent ≡ true =
+    rw (c .before .before .before .before .if1 .taken) (or-true (short lent)) in
+    let all = refused-short lent 8 passes tight refl in
+    (all .returns, all .follows)
+
+arbitrate-requires : tie.Need-arbitrate-requires
+arbitrate-requires c κs = search needs
+
+-- the library's reply, with tables that are long enough
+abbrev lentAgain : tie.After-arbitrate → Lent
+lentAgain s = lentAt (s .before .before .before .before)
+
+roomy : (s : tie.After-arbitrate) → shortTable (lentAgain s) ≡ false
+roomy s = s .before .before .before .if1 .left
+
+replied : (s : tie.After-arbitrate) → s .arbitrate .result ≡ libraryReply (lentAgain s) (roomy s)
+replied s = s .arbitrate .ensures .0
+
+refused-requires-2 : tie.Need-refused-requires-2
+refused-requires-2 c κs =
+    let s = c .before .before .before .before .before .before .before in
+    refused-place (lentAgain s) (roomy s) (s .arbitrate .result) (replied s) (c .if3 .taken)
+
+same-length : tie.Need-same-length
+same-length c = search needs
+
+same-length-2 : tie.Need-same-length-2
+same-length-2 c = search needs
+
+returns-3 : tie.Need-returns-3
+returns-3 c =
+    let s = c .before .before .before .before .before .before .before .before in
+    let done = s .arbitrate .ensures in
+    let all = refused-by-library (lentAgain s) (roomy s) (s .arbitrate .result) (c .refused2 .result) _ _ (replied s)
+    (c .before .if3 .taken) (c .refused2 .ensures) (done .1 .0) (done .1 .1 .0) in
+    (all .returns, all .follows)
+
+long-enough : (s : tie.After-arbitrate)
+    → (maxMasters ≤ length (lentAgain s .modules)) × (maxMasters ≤ length (lentAgain s .seats))
+long-enough s =
+    let lent = lentAgain s in
+    let two = neither (ltb (length (lent .modules)) maxMasters) (ltb (length (lent .seats)) maxMasters) (roomy s) in
+    (ltb-false (length (lent .modules)) maxMasters (two .0), ltb-false (length (lent .seats)) maxMasters (two .1))
+
+put-modules-requires : tie.Need-put-modules-requires
+put-modules-requires c κs =
+    let s = c .before .before .before .before .before .before .before .before .before in
+    long-enough s .0
+
+put-seats-requires : tie.Need-put-seats-requires
+put-seats-requires c κs =
+    let filled = c .before .before .before .before .before in
+    let s = filled .before .before .before .before .before .before .before .before .before in
+    long-enough s .1
+
+reply-requires : tie.Need-reply-requires
+reply-requires c κs =
+    let at = c .before .before .before .before .before .before .before .before .before .before in
+    let s = at .before .before .before .before .before .before .before in
+    answered-small (lentAgain s) (roomy s) (small (s .before .before .before .before)) (s .arbitrate .result)
+    (replied s) (at .if3 .left)
+
+same-length-3 : tie.Need-same-length-3
+same-length-3 c = search needs
+
+same-length-4 : tie.Need-same-length-4
+same-length-4 c = search needs
+
+same-length-5 : tie.Need-same-length-5
+same-length-5 c = search needs
+
+same-length-6 : tie.Need-same-length-6
+same-length-6 c = search needs
+
+returns-4 : tie.Need-returns-4
+returns-4 c =
+    let seated = c .before .before .before in
+    let placed = seated .before .before .before .before .before in
+    let at = placed .before .before .before in
+    let s = at .before .before .before .before .before .before .before in
+    let done = s .arbitrate .ensures in
+    let all = answered-by-library (lentAgain s) (roomy s) (small (s .before .before .before .before))
+    (s .arbitrate .result) (c .reply .result) _ _ _ _ (replied s) (at .if3 .left) (c .reply .ensures) (done .1 .0)
+    (done .1 .1 .0) (placed .put-modules .ensures) (seated .put-seats .ensures) (done .1 .1 .1 .0) in
+    (all .returns, all .follows)
+
+pub arbitrate-spec : {M : Type 1} → statement M
+arbitrate-spec =
+    tie.close
+    (tie.spec
+    settle-requires
+    refused-requires
+    returns
+    returns-2
+    arbitrate-requires
+    refused-requires-2
+    same-length
+    same-length-2
+    returns-3
+    put-modules-requires
+    put-seats-requires
+    reply-requires
+    same-length-3
+    same-length-4
+    same-length-5
+    same-length-6
+    returns-4)

@@ -1,0 +1,125 @@
+// Arbitration for callers in C or Rust: the reply as a number, and two tables of an entry for each of the most
+// masters.
+ghost use mathlib.Core.Path.{_≡_};
+ghost use mathlib.Core.List.{map};
+ghost use Prim.Native.Nat.{_<_, _≤_, _%_};
+ghost use lib.ListN.{length};
+ghost use Rattle.laws.specs.Buffer.{filled};
+ghost use Rattle.arbitration_rules.specs.Limits.{maxMasters};
+ghost use Rattle.arbitration_rules.specs.Outcome.{outcome};
+ghost use Rattle.arbitration_rules.specs.Reply.{messagesOf, refused as refusedReply};
+ghost use Rattle.export.specs.Packed.{packed as packedModule};
+ghost use Rattle.export.specs.Arbitration.{Lent, Returned, packedReply, packedSeat, returned, shownIn};
+use arbitration::Arbitrated;
+use arbitration_rules::MAX_MASTERS;
+use arbitration_rules::Seat;
+use laws::Refusal;
+use usi::Usi;
+
+// The answer of a reply.
+fn reply(a: Arbitrated) -> u64
+    requires { ⌜ (a .refusal .place < 65536) × (a .count < 65536) ⌝ }
+    ensures { λ r. ⌜ r ≡ packedReply a ⌝ }
+{
+    let found = a.refusal;
+    (found.number as u64) + 256 * (found.place as u64) + 16777216 * (a.count as u64)
+}
+
+// The answer of a refusal.
+fn refused(found: Refusal) -> u64
+    requires { ⌜ found .place < 65536 ⌝ }
+    ensures { λ r. ⌜ r ≡ packedReply (refusedReply found) ⌝ }
+{
+    (found.number as u64) + 256 * (found.place as u64)
+}
+
+fn seat_number(seat: Seat) -> u32
+    ensures { λ r. ⌜ r ≡ packedSeat seat ⌝ }
+{
+    if seat.contending {
+        return 1 + 2 * (seat.position as u32);
+    }
+    2 * (seat.position as u32)
+}
+
+fn put_modules(modules: [Usi; MAX_MASTERS], table: &mut [u64])
+    requires { ⌜ maxMasters ≤ length (now table) ⌝ }
+    ensures { λ r. ⌜ now (table .exit) ≡ filled (map packedModule modules) (now (table .entry)) ⌝ }
+{
+    let mut i: usize = 0;
+    while i < MAX_MASTERS {
+        table[i] = crate::packed(modules[i]);
+        i += 1;
+    }
+}
+
+fn put_seats(seats: [Seat; MAX_MASTERS], table: &mut [u32])
+    requires { ⌜ maxMasters ≤ length (now table) ⌝ }
+    ensures { λ r. ⌜ now (table .exit) ≡ filled (map packedSeat seats) (now (table .entry)) ⌝ }
+{
+    let mut i: usize = 0;
+    while i < MAX_MASTERS {
+        table[i] = seat_number(seats[i]);
+        i += 1;
+    }
+}
+
+// The arbitration of messages: refused by 12, 13, 14, 15, 16 and 8 in this order, and then everything lent stays as it
+// was. What a run returns is what follows from messages and acknowledges alone (01: demand 3).
+#[no_mangle]
+pub extern "C" fn arbitrate(
+    bytes: &[u8],
+    lengths: &[u32],
+    acks: &[u8],
+    carried: &mut [u8],
+    levels: &mut [u8],
+    modules: &mut [u64],
+    seats: &mut [u32],
+) -> u64
+    ensures returns { λ r. ⌜ _≡_ {A = Returned}
+        (record {
+          answer = r;
+          carried = now (carried .exit);
+          levels = now (levels .exit);
+          modules = now (modules .exit);
+          seats = now (seats .exit);
+        })
+        (returned (record {
+          bytes = now (bytes .entry);
+          lengths = now (lengths .entry);
+          acks = now (acks .entry);
+          carried = now (carried .entry);
+          levels = now (levels .entry);
+          modules = now (modules .entry);
+          seats = now (seats .entry);
+        })) ⌝ }
+    ensures follows { λ r. ⌜ (r % 256 ≡ 0
+        → shownIn (length (now (lengths .entry)))
+        (record {
+          answer = r;
+          carried = now (carried .exit);
+          levels = now (levels .exit);
+          modules = now (modules .exit);
+          seats = now (seats .exit);
+        })
+        ≡ outcome (messagesOf (now (lengths .entry)) (now (bytes .entry))) (now (acks .entry))) ⌝ }
+{
+    if (modules.len() < MAX_MASTERS) | (seats.len() < MAX_MASTERS) {
+        let settled = arbitration_checks::settle(bytes, lengths, acks);
+        let found = settled.refusal;
+        if found.number != 0 {
+            return refused(found);
+        }
+        return 8;
+    }
+    let done = arbitration::arbitrate(bytes, lengths, acks, carried, levels);
+    let found = done.refusal;
+    if found.number != 0 {
+        return refused(found);
+    }
+    let final_modules = done.modules;
+    put_modules(final_modules, modules);
+    let final_seats = done.seats;
+    put_seats(final_seats, seats);
+    reply(done)
+}

@@ -1,0 +1,4 @@
+-- What a trace is, in document 01's order.
+pub mod Limits
+pub mod Events
+pub mod Trace

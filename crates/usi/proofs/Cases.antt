@@ -1,0 +1,78 @@
+-- The cases of SCL make up what a sample's edges do.
+use mathlib.Core.Path.{_≡_, refl, sym, ap, subst}
+use mathlib.Core.Bool.{Bool, cond, true, false, _&&_, _||_}
+use Rattle.usi_i2c.specs.Rules as rules
+use Rattle.usi_i2c.specs.Rules.{conditionFlags, conditionCount}
+use Rattle.usi.specs.declared.Usi.{Usi}
+use Rattle.usi.specs.Module.{withStretch}
+use Rattle.usi.specs.Step.{latched, bitTaken, risen, fallen, stretched, edged}
+use Rattle.usi.specs.Cases.{stretchedBy, conditionSeen, riseSeen, fallSeen}
+
+-- a module that remembers levels, told what SCL was
+abbrev saw : Bool → Bool → Usi → Usi
+saw seen scl u =
+    record {
+      usictl0 = u .usictl0;
+      usictl1 = u .usictl1;
+      usickctl = u .usickctl;
+      usicnt = u .usicnt;
+      usisrl = u .usisrl;
+      usisrh = u .usisrh;
+      latch = u .latch;
+      enable = u .enable;
+      phase = u .phase;
+      seen = seen;
+      scl = scl;
+      sda = u .sda;
+      stretch = u .stretch;
+    }
+
+module _ (P : Usi → Type 0) (u : Usi) (seen : u .seen ≡ true) where
+  told : (before : Bool) → u .scl ≡ before → P (saw true before u) → P u
+  told before is holds =
+      subst (λ (b : Bool). P (saw b (u .scl) u)) (sym seen) (subst (λ (b : Bool). P (saw true b u)) (sym is) holds)
+
+-- what follows a rise or a fall does not depend on whether a bit was taken, or the latch moved
+after-rise : (takes : Bool) (sda : Bool) (u : Usi)
+    → stretched true (fallen true (cond takes (bitTaken sda (saw true false u)) (saw true false u)))
+    ≡ stretchedBy false true (cond takes (bitTaken sda (saw true false u)) (saw true false u))
+unfolding fallen
+after-rise true sda u = refl
+after-rise false sda u = refl
+
+after-fall : (moves : Bool) (u : Usi)
+    → stretched false (cond moves (latched (saw true true u)) (saw true true u))
+    ≡ stretchedBy true false (cond moves (latched (saw true true u)) (saw true true u))
+after-fall true u = refl
+after-fall false u = refl
+
+same-stretch : (stretch : Bool) → (stretch || false) && true ≡ stretch
+same-stretch true = refl
+same-stretch false = refl
+
+module _ (scl sda : Bool) (u : Usi) (seen : u .seen ≡ true) where
+  pub stays-high : scl ≡ true → u .scl ≡ true → edged scl sda u ≡ conditionSeen sda u
+  unfolding edged risen fallen
+  stays-high now before =
+      rw now (told (λ (v : Usi). edged true sda v ≡ conditionSeen sda v) u seen true before refl)
+
+  pub rises : scl ≡ true → u .scl ≡ false → edged scl sda u ≡ riseSeen sda u
+  unfolding edged risen conditionFlags conditionCount riseSeen
+  rises now before =
+      rw now
+      (told (λ (v : Usi). edged true sda v ≡ riseSeen sda v) u seen false before
+      (after-rise (rules.takesBit false true (u .usicnt)) sda u))
+
+  pub falls : scl ≡ false → u .scl ≡ true → edged scl sda u ≡ fallSeen u
+  unfolding edged risen fallen conditionFlags conditionCount fallSeen
+  falls now before =
+      rw now
+      (told (λ (v : Usi). edged false sda v ≡ fallSeen v) u seen true before
+      (after-fall (rules.movesLatch (u .usictl0) (u .usicnt)) u))
+
+  pub stays-low : scl ≡ false → u .scl ≡ false → edged scl sda u ≡ u
+  unfolding edged risen fallen conditionFlags conditionCount
+  stays-low now before =
+      rw now
+      (told (λ (v : Usi). edged false sda v ≡ v) u seen false before
+      (ap (λ (stretch : Bool). withStretch stretch (saw true false u)) (same-stretch (u .stretch))))

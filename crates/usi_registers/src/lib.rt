@@ -1,0 +1,126 @@
+// The USI's registers: their bits and fields by position, the set-up, and what a write to USICNT does to the flags.
+// Crate usi_i2c has the rules of edges, ticks and lines, and crate usi composes them.
+ghost use mathlib.Core.Path.{_≡_};
+ghost use Rattle.usi_registers.specs.Rules.{divider, clockSource, bitCount, counting as countingRule};
+ghost use Rattle.usi_registers.specs.Rules.{fits as fitsRule, countFlags};
+ghost use Rattle.usi_registers.specs.Rules.{outputEnable, transparent as transparentRule};
+
+// USICTL0
+pub const USIPE7: u8 = 0x80;
+
+pub const USIPE6: u8 = 0x40;
+
+pub const USIPE5: u8 = 0x20;
+
+pub const USILSB: u8 = 0x10;
+
+pub const USIMST: u8 = 0x08;
+
+pub const USIGE: u8 = 0x04;
+
+pub const USIOE: u8 = 0x02;
+
+pub const USISWRST: u8 = 0x01;
+
+// USICTL1
+pub const USICKPH: u8 = 0x80;
+
+pub const USII2C: u8 = 0x40;
+
+pub const USISTTIE: u8 = 0x20;
+
+pub const USIIE: u8 = 0x10;
+
+pub const USIAL: u8 = 0x08;
+
+pub const USISTP: u8 = 0x04;
+
+pub const USISTTIFG: u8 = 0x02;
+
+pub const USIIFG: u8 = 0x01;
+
+// USICKCTL
+pub const USICKPL: u8 = 0x02;
+
+pub const USISWCLK: u8 = 0x01;
+
+// USICNT
+pub const USISCLREL: u8 = 0x80;
+
+pub const USI16B: u8 = 0x40;
+
+pub const USIIFGCC: u8 = 0x20;
+
+pub const USICNTX: u8 = 0x1f;
+
+// USISRL: the bit sent first
+pub const FIRST_BIT: u8 = 0x80;
+
+// DIV, the clock divider of USICKCTL.
+pub fn divider(usickctl: u8) -> u8
+    ensures { λ r. ⌜ r ≡ divider usickctl ⌝ }
+{
+    (usickctl >> 5) & 0x07
+}
+
+// SSEL, the clock source of USICKCTL.
+pub fn clock_source(usickctl: u8) -> u8
+    ensures { λ r. ⌜ r ≡ clockSource usickctl ⌝ }
+{
+    (usickctl >> 2) & 0x07
+}
+
+// CNT, the bit count of USICNT.
+pub fn bit_count(usicnt: u8) -> u8
+    ensures { λ r. ⌜ r ≡ bitCount usicnt ⌝ }
+{
+    usicnt & USICNTX
+}
+
+// CNT above 0.
+pub fn counting(usicnt: u8) -> bool
+    ensures { λ r. ⌜ r ≡ countingRule usicnt ⌝ }
+{
+    usicnt & USICNTX != 0
+}
+
+// The set-up is that of I2C mode, out of reset.
+pub fn fits(usictl0: u8, usictl1: u8, usickctl: u8, usicnt: u8) -> bool
+    ensures { λ r. ⌜ r ≡ fitsRule usictl0 usictl1 usickctl usicnt ⌝ }
+{
+    (usictl1 & USII2C == USII2C)
+        & (usickctl & USICKPL == USICKPL)
+        & (usictl1 & USICKPH == 0)
+        & (usictl0 & USILSB == 0)
+        & (usicnt & USI16B == 0)
+        & (usictl0 & USIPE6 == USIPE6)
+        & (usictl0 & USIPE7 == USIPE7)
+        & (usictl0 & USISWRST == 0)
+}
+
+// USICTL1 after a value is written to USICNT.
+pub fn count_flags(usictl1: u8, value: u8) -> u8
+    ensures { λ r. ⌜ r ≡ countFlags usictl1 value ⌝ }
+{
+    if !counting(value) {
+        return usictl1 | USIIFG;
+    }
+    if value & USIIFGCC == 0 {
+        return usictl1 & !(USIIFG | USISTP);
+    }
+    usictl1
+}
+
+// OE.
+pub fn output_enable(usictl0: u8) -> bool
+    ensures { λ r. ⌜ r ≡ outputEnable usictl0 ⌝ }
+{
+    usictl0 & USIOE == USIOE
+}
+
+// GE: the output latch is transparent.
+pub fn transparent(usictl0: u8) -> bool
+    ensures { λ r. ⌜ r ≡ transparentRule usictl0 ⌝ }
+{
+    usictl0 & USIGE == USIGE
+}

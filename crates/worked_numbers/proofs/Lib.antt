@@ -1,0 +1,5 @@
+pub mod Computed
+pub mod Worked
+pub mod ModuleRules
+pub mod TraceRules
+pub mod ArbitrationRules

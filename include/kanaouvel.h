@@ -1,0 +1,47 @@
+/* The proved library for callers in C and in C's ABI: `rt staticlib export` writes target/staticlib/libexport.a.
+ *
+ * A module is a number: bits 0 to 47 are its registers in the order of their addresses (USICTL0, USICTL1, USICKCTL,
+ * USICNT, USISRL, USISRH), bits 48 to 54 its hidden state (SDA latch, output enable, clock phase, levels remembered,
+ * SCL, SDA, SCL held). A caller keeps the number and passes it on; any number is a module.
+ *
+ * No call refuses by a crash, reads past a length or keeps a pointer. A refused call gives the number and place of
+ * document 01 and leaves every lent buffer as it was; of a buffer that is filled the rest stays as it was. A pointer
+ * with length 0 is not read. */
+#ifndef KANAOUVEL_H
+#define KANAOUVEL_H
+#include <stddef.h>
+#include <stdint.h>
+
+/* the module after power-up, with these shift bytes */
+uint64_t usi_power_up(uint8_t usisrl, uint8_t usisrh);
+
+/* the module after the step in bits 0 to 54, the refusal's number (0: none) from bit 56 on */
+uint64_t usi_write(uint64_t module, uint16_t address, uint8_t value);
+uint64_t usi_write_word(uint64_t module, uint16_t address, uint16_t value);
+uint64_t usi_sample(uint64_t module, uint8_t level); /* level: SCL + 2 * SDA */
+uint64_t usi_tick(uint64_t module);
+
+/* the value in bits 0 to 15, the refusal's number from bit 16 on */
+uint32_t usi_read(uint64_t module, uint16_t address);
+uint32_t usi_read_word(uint64_t module, uint16_t address);
+
+/* 1 where the module pulls SCL low, plus 2 where it pulls SDA low */
+uint8_t usi_lines(uint64_t module);
+
+/* The events of a trace. The answer: byte 0 the refusal's number, bytes 1 and 2 its place, bytes 3 and 4 how many events
+ * there are, byte 5 whether a message is open at the end, byte 6 how many bits of a byte are, byte 7 their value. */
+uint64_t bus_decode(const uint32_t *stamps, size_t stamps_length, const uint8_t *levels, size_t levels_length,
+                    uint16_t *events, size_t events_length);
+
+/* The trace of an event list. The answer: byte 0 the refusal's number, from byte 1 on how many samples there are. */
+uint64_t bus_encode(const uint16_t *events, size_t events_length, uint32_t start, uint32_t gap, uint32_t *stamps,
+                    size_t stamps_length, uint8_t *levels, size_t levels_length);
+
+/* Masters that start together, with messages that lie in bytes one after the other. The answer: the refusal's number in
+ * byte 0, the place in bytes 1 and 2, the count of bytes carried from byte 3 on. Each table has an entry for each of the
+ * most masters: a module, and a seat, 1 where the master is still in, plus 2 * the position where it lost. */
+uint64_t arbitrate(const uint8_t *bytes, size_t bytes_length, const uint32_t *lengths, size_t lengths_length,
+                   const uint8_t *acks, size_t acks_length, uint8_t *carried, size_t carried_length, uint8_t *levels,
+                   size_t levels_length, uint64_t *modules, size_t modules_length, uint32_t *seats,
+                   size_t seats_length);
+#endif

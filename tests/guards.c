@@ -1,0 +1,219 @@
+/* The proved library called from C, with guard bytes around every lent buffer: what is refused leaves all of it as it
+ * was, what is filled keeps its rest, and nothing outside is written. The expected values are document 01's worked
+ * numbers P1 to P12, and what 01 says of each refusal. */
+#include "../include/kanaouvel.h"
+#include <stdio.h>
+#include <string.h>
+
+enum { GUARD = 64, ROOM = 1024, FILL = 0xA5 };
+
+static int checks, failures;
+
+static void check(int holds, const char *what)
+{
+    checks++;
+    if (!holds) {
+        failures++;
+        printf("guards: FAILED: %s\n", what);
+    }
+}
+
+/* a buffer of so many bytes between guards, all of them FILL */
+struct guarded {
+    unsigned char all[GUARD + ROOM + GUARD];
+    size_t bytes;
+};
+
+static void *lend(struct guarded *g, size_t bytes)
+{
+    memset(g->all, FILL, sizeof g->all);
+    g->bytes = bytes;
+    return g->all + GUARD;
+}
+
+/* everything but the first so many bytes of it is as it was */
+static int kept_past(const struct guarded *g, size_t written)
+{
+    for (size_t i = 0; i < sizeof g->all; i++)
+        if ((i < GUARD || i >= GUARD + written) && g->all[i] != FILL)
+            return 0;
+    return written <= g->bytes;
+}
+
+struct lent {
+    struct guarded carried, levels, modules, seats;
+    uint64_t answer;
+};
+
+struct load {
+    const char *name;
+    uint8_t bytes[300];
+    size_t bytes_length;
+    uint32_t lengths[20];
+    size_t lengths_length;
+    uint8_t acks[40];
+    size_t acks_length;
+};
+
+static void run(struct lent *l, const struct load *load, size_t carried, size_t levels, size_t modules, size_t seats)
+{
+    uint8_t *c = lend(&l->carried, carried), *v = lend(&l->levels, levels);
+    uint64_t *m = lend(&l->modules, 8 * modules);
+    uint32_t *s = lend(&l->seats, 4 * seats);
+    l->answer = arbitrate(load->bytes, load->bytes_length, load->lengths, load->lengths_length, load->acks,
+                          load->acks_length, c, carried, v, levels, m, modules, s, seats);
+}
+
+static void refused(const char *what, const struct load *load, size_t carried, size_t levels, size_t modules,
+                    size_t seats, uint64_t answer)
+{
+    static struct lent l;
+    run(&l, load, carried, levels, modules, seats);
+    check(l.answer == answer, what);
+    check(kept_past(&l.carried, 0) && kept_past(&l.levels, 0) && kept_past(&l.modules, 0) && kept_past(&l.seats, 0),
+          what);
+}
+
+/* the six registers of a module (0: not looked at), and where its master stands */
+struct stands {
+    uint64_t registers;
+    uint32_t seat;
+};
+
+static uint64_t registers_of(const struct lent *l, int master)
+{
+    uint64_t module;
+    memcpy(&module, l->modules.all + GUARD + 8 * master, 8);
+    return module & 0xFFFFFFFFFFFF;
+}
+
+static uint32_t seat_of(const struct lent *l, int master)
+{
+    uint32_t seat;
+    memcpy(&seat, l->seats.all + GUARD + 4 * master, 4);
+    return seat;
+}
+
+static void carries(const struct load *load, const uint8_t *bytes, size_t count, const struct stands *stands,
+                    size_t masters)
+{
+    static struct lent l;
+    run(&l, load, count + 3, 5 + 18 * count + 7, 10, 9);
+    check(l.answer == (uint64_t)count << 24, load->name);
+    check(memcmp(l.carried.all + GUARD, bytes, count) == 0, load->name);
+    check(kept_past(&l.carried, count) && kept_past(&l.levels, 5 + 18 * count), load->name);
+    check(kept_past(&l.modules, 64) && kept_past(&l.seats, 32), load->name);
+    for (size_t i = 0; i < masters; i++) {
+        if (stands[i].registers)
+            check(registers_of(&l, (int)i) == stands[i].registers, load->name);
+        check(seat_of(&l, (int)i) == stands[i].seat, load->name);
+    }
+    /* one byte or one level, one module or one seat too few is 8, and nothing is touched */
+    refused("8: carried", load, count - 1, 5 + 18 * count, 8, 8, 8);
+    refused("8: levels", load, count, 4 + 18 * count, 8, 8, 8);
+    refused("8: modules", load, count, 5 + 18 * count, 7, 8, 8);
+    refused("8: seats", load, count, 5 + 18 * count, 8, 7, 8);
+}
+
+static void arbitrations(void)
+{
+    const struct load p8 = {"P8", {0x90, 0x12, 0x90, 0x0F}, 4, {2, 2}, 2, {0, 0}, 2};
+    const struct load p9 = {"P9", {0x90, 0x12, 0x90, 0x0F}, 4, {2, 2}, 2, {1, 0}, 2};
+    const struct load p10 = {"P10", {0x90, 0x90, 0x00}, 3, {1, 2}, 2, {0, 0}, 2};
+    const struct load p11 = {"P11", {0x90, 0x90, 0x00}, 3, {1, 2}, 2, {1, 0}, 2};
+    const struct load p12 = {"P12", {0x90, 0x90, 0x00, 0x50}, 4, {1, 2, 1}, 3, {0, 0}, 2};
+    const struct stands p8s[] = {{0x000F80224DC0, 2 * 12}, {0x00FF002245C8, 1}};
+    const struct stands both_in[] = {{0, 1}, {0, 1}};
+    const struct stands two_lost[] = {{0, 0}, {0, 0}, {0, 1}};
+    carries(&p8, (const uint8_t[]){0x90, 0x0F}, 2, p8s, 2);
+    carries(&p9, (const uint8_t[]){0x90}, 1, both_in, 2);
+    refused("P10", &p10, 8, 200, 8, 8, 16);
+    carries(&p11, (const uint8_t[]){0x90}, 1, both_in, 2);
+    carries(&p12, (const uint8_t[]){0x50}, 1, two_lost, 3);
+
+    /* 12 to 16 come before 8, each before the next, with short buffers and tables too */
+    const struct load none = {"12", {0}, 0, {0}, 0, {0}, 0};
+    const struct load nine = {"12", {2, 2, 2, 2, 2, 2, 2, 2, 2}, 9, {1, 1, 1, 1, 1, 1, 1, 1, 1}, 9, {0}, 1};
+    const struct load empty = {"13", {0x90}, 1, {1, 0}, 2, {0}, 1};
+    const struct load sum = {"13", {0x90, 0x12}, 2, {1}, 1, {0}, 1};
+    const struct load reads = {"14", {0x90, 0x91}, 2, {1, 1}, 2, {0, 0, 0}, 3};
+    const struct load answers = {"15", {0x90, 0x12}, 2, {2}, 1, {0, 2}, 2};
+    const struct load few = {"15", {0x90, 0x12}, 2, {2}, 1, {0}, 1};
+    const struct load begins = {"16", {0x90, 0x90, 0x00}, 3, {1, 2}, 2, {0, 0}, 2};
+    const struct load *all[] = {&none, &nine, &empty, &sum, &reads, &answers, &few, &begins};
+    const uint64_t numbers[] = {12, 12, 13, 13, 14, 15, 15, 16};
+    for (int i = 0; i < 8; i++)
+        for (int lent = 0; lent < 2; lent++) {
+            static struct lent l;
+            run(&l, all[i], lent ? 32 : 0, lent ? 581 : 0, lent ? 8 : 0, lent ? 8 : 0);
+            check((l.answer & 255) == numbers[i], all[i]->name);
+            check(l.answer >> 24 == 0, all[i]->name);
+            check(kept_past(&l.carried, 0) && kept_past(&l.levels, 0) && kept_past(&l.modules, 0)
+                      && kept_past(&l.seats, 0),
+                  all[i]->name);
+        }
+}
+
+static void traces(void)
+{
+    static struct guarded stamps, levels, events;
+    const uint16_t list[] = {512, 0xA0, 514};
+    const uint8_t drawn[] = {3, 1, 2, 3, 0, 1, 2, 3, 0, 1, 0, 1, 0, 1, 0, 1, 0, 1, 0, 1, 0, 1, 3};
+    uint32_t *t = lend(&stamps, 4 * 25);
+    uint8_t *v = lend(&levels, 24);
+    check(bus_encode(list, 3, 10, 5, t, 25, v, 24) == 256 * 23, "P7 drawn");
+    check(memcmp(v, drawn, 23) == 0 && t[0] == 10 && t[22] == 120, "P7 levels and stamps");
+    check(kept_past(&stamps, 4 * 23) && kept_past(&levels, 23), "P7 rest");
+    uint32_t read_stamps[23];
+    memcpy(read_stamps, t, sizeof read_stamps);
+    uint16_t *e = lend(&events, 2 * 5);
+    check(bus_decode(read_stamps, 23, drawn, 23, e, 5) == (uint64_t)3 << 24, "P7 read");
+    check(memcmp(e, list, sizeof list) == 0 && kept_past(&events, sizeof list), "P7 events");
+
+    e = lend(&events, 2 * 2);
+    check((bus_decode(read_stamps, 23, drawn, 23, e, 2) & 255) == 8 && kept_past(&events, 0), "8: events");
+    e = lend(&events, 2 * 5);
+    check((bus_decode(read_stamps, 22, drawn, 23, e, 5) & 255) == 5 && kept_past(&events, 0), "5");
+    read_stamps[7] = read_stamps[6];
+    check(bus_decode(read_stamps, 23, drawn, 23, e, 5) == 7 + 256 * 7 && kept_past(&events, 0), "7 at sample 7");
+    t = lend(&stamps, 4 * 22), v = lend(&levels, 24);
+    check((bus_encode(list, 3, 10, 5, t, 22, v, 24) & 255) == 8, "8: stamps");
+    check(kept_past(&stamps, 0) && kept_past(&levels, 0), "8: stamps, all kept");
+    t = lend(&stamps, 4 * 25), v = lend(&levels, 22);
+    check((bus_encode(list, 3, 10, 5, t, 25, v, 22) & 255) == 8, "8: levels");
+    check(kept_past(&stamps, 0) && kept_past(&levels, 0), "8: levels, all kept");
+    v = lend(&levels, 24);
+    check((bus_encode(list, 3, 10, 0, t, 25, v, 24) & 255) == 10, "10");
+    check((bus_encode(list, 2, 10, 5, t, 25, v, 24) & 255) == 9, "9");
+    check((bus_encode(list, 3, 0xFFFFFFFF, 5, t, 25, v, 24) & 255) == 11, "11");
+    check(kept_past(&stamps, 0) && kept_past(&levels, 0), "9, 10, 11: all kept");
+}
+
+static void modules(void)
+{
+    uint64_t u = usi_power_up(0, 0);
+    check(usi_read(usi_write(u, 0x7B, 0x08), 0x79) == 0x00, "P1");
+    check(usi_read(usi_write(u, 0x7B, 0x28), 0x79) == 0x01, "P2");
+    check(usi_read(usi_write(usi_write(u, 0x7B, 0x28), 0x7B, 0x00), 0x79) == 0x01, "P3");
+    u = usi_write(usi_write(usi_write(u, 0x7A, 0x22), 0x79, 0x41), 0x78, 0xC8);
+    check((usi_lines(u) & 2) == 0, "SDA is let go");
+    u = usi_write(u, 0x78, 0xCE);
+    check((usi_lines(u) & 2) == 2, "P4");
+    check((usi_lines(usi_write(u, 0x78, 0xCA)) & 2) == 2, "P5");
+    uint64_t slave = usi_write(usi_write(usi_write(usi_power_up(0, 0), 0x7A, 0x22), 0x79, 0x41), 0x78, 0xC0);
+    slave = usi_sample(usi_sample(slave, 3), 1);
+    check((usi_lines(usi_sample(slave, 0)) & 1) == 1, "P6: held");
+    check((usi_lines(usi_sample(usi_write(slave, 0x7B, 0x80), 0)) & 1) == 0, "P6: let go");
+    check(usi_write(u, 0x80, 1) == (u | (uint64_t)1 << 56), "1: the module stays");
+    check(usi_sample(u, 4) == (u | (uint64_t)4 << 56), "4: the module stays");
+    check(usi_read(u, 0x77) >> 16 == 1 && usi_read_word(u, 0x79) >> 16 == 2, "1 and 2 of reads");
+}
+
+int main(void)
+{
+    modules();
+    traces();
+    arbitrations();
+    printf("guards: %d checks, %d failed\n", checks, failures);
+    return failures != 0;
+}
