@@ -1,5 +1,6 @@
 //! The comparison itself: the model behind the C functions is equal to the model, and wrong sides are found.
 
+use rehearsal_model::arbitration::cut;
 use rehearsal_model::compare::{run, Comparison, COMPARISONS};
 use rehearsal_model::packed::{Asked, Interface, Lent, Model, MODULE};
 
@@ -24,6 +25,8 @@ enum Wrong {
     StillIn,
     LevelsRest,
     RefusedModules,
+    LastOfEquals,
+    TwoPasses,
 }
 
 impl Interface for Wrong {
@@ -102,6 +105,17 @@ impl Interface for Wrong {
         }
         reply
     }
+
+    fn least(&self, bytes: &[u8], lengths: &[u32]) -> (u64, u64) {
+        let (index, comparisons) = Model.least(bytes, lengths);
+        let messages = cut(bytes, lengths);
+        let last = messages.iter().rposition(|message| messages.get(index as usize) == Some(message));
+        match self {
+            Wrong::LastOfEquals => (last.unwrap_or(0) as u64, comparisons),
+            Wrong::TwoPasses => (index, 2 * comparisons),
+            _ => (index, comparisons),
+        }
+    }
 }
 
 fn comparison(cases: &str) -> &'static Comparison {
@@ -172,5 +186,5 @@ fn wrong_readers_and_writers_are_found() {
 #[test]
 fn wrong_arbitrations_are_found() {
     use Wrong::*;
-    check_detected("arbitrations", &[Position, Module, StillIn, LevelsRest, RefusedModules]);
+    check_detected("arbitrations", &[Position, Module, StillIn, LevelsRest, RefusedModules, LastOfEquals, TwoPasses]);
 }

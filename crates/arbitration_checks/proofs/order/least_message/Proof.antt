@@ -9,15 +9,16 @@ use Rattle.arbitration_checks.specs.declared.order.Compared.{Compared}
 use Rattle.arbitration_checks.proofs.LeastMessage.{Leading, no-message, leading-start, leading-stays}
 use Rattle.arbitration_checks.proofs.LeastMessage.{leading-yields, leading-done}
 use borrow.Author.Needs.{needs}
-use Rattle.arbitration_checks.proofs.order.least.Statement.{statement}
-use Rattle.arbitration_checks.proofs.order.least.Tie as tie
+use Rattle.arbitration_checks.proofs.order.least_message.Statement.{statement}
+use Rattle.arbitration_checks.proofs.order.least_message.Tie as tie
 
 abbrev Inv-loop : tie.InvT-loop
-Inv-loop bytes lengths best-from₀ from₀ best-to₀ i₀ best-from from best-to i = (i ≤ length lengths) × Leading lengths
-    bytes best-from best-to from i
+Inv-loop bytes lengths from₀ index₀ best-from₀ best-to₀ comparisons₀ i₀ from index best-from best-to comparisons i =
+    (i ≤ length lengths) × Leading lengths bytes from index best-from best-to comparisons i
 
 abbrev μ-loop : tie.MeasureT-loop
-μ-loop bytes lengths best-from₀ from₀ best-to₀ i₀ best-from from best-to i = length lengths - i
+μ-loop bytes lengths from₀ index₀ best-from₀ best-to₀ comparisons₀ i₀ from index best-from best-to comparisons i =
+    length lengths - i
 
 returns : tie.Need-returns Inv-loop μ-loop
 returns c = no-message _ _ (c .if1 .taken)
@@ -80,27 +81,30 @@ loop-again c =
     let at7 = at5 .before .before in
     let at8 = at7 .before in
     let head = at8 .loop in
-    let precedes = ap (λ (r : Compared). r .precedes) (c .before .before .compare .ensures) in (
+    let precedes = ap (λ (r : Compared). r .precedes) (c .before .before .compare .ensures) in
+    let counts = ap (λ (r : Compared). r .comparisons) (c .before .before .compare .ensures) in (
       search needs,
       ⊎-elim
           (λ w.
-          rw (w .1, w .2)
-          (leading-yields _ _ (head .best-from) (head .best-to) (head .from) (head .i) _ (head .inv .1)
+          rw (w .1, w .2, w .3, counts)
+          (leading-yields _ _ (head .from) (head .index) (head .best-from) (head .best-to) (head .comparisons)
+          (head .i) _ (head .inv .1)
           (at7 .loop-test .taken) (at5 .end-of2 .ensures) (sym precedes ∙ not-true
           (c .before .before .compare .result .precedes) (w .0 .taken))))
           (λ w.
-          rw (w .1, w .2)
-          (leading-stays _ _ (head .best-from) (head .best-to) (head .from) (head .i) _ (head .inv .1)
+          rw (w .1, w .2, w .3, counts)
+          (leading-stays _ _ (head .from) (head .index) (head .best-from) (head .best-to) (head .comparisons)
+          (head .i) _ (head .inv .1)
           (at7 .loop-test .taken) (at5 .end-of2 .ensures) (sym precedes ∙ not-false
           (c .before .before .compare .result .precedes) (w .0 .left))))
           (c .if2 .came),
     )
 
 returns-2 : tie.Need-returns-2 Inv-loop μ-loop
-returns-2 c = leading-done _ _ _ _ _ _ (c .before .loop .inv .1) (c .loop-test .left)
+returns-2 c = leading-done _ _ _ _ _ _ _ _ (c .before .loop .inv .1) (c .before .loop .inv .0) (c .loop-test .left)
 
-pub least-spec : {M : Type 1} → statement M
-least-spec =
+pub least-message-spec : {M : Type 1} → statement M
+least-message-spec =
     tie.close
     (tie.spec
     Inv-loop
