@@ -1,13 +1,14 @@
 // The verdict of a load: from arbitrate's reply, the messages and the acknowledges.
 ghost use mathlib.Core.Path.{_≡_};
 ghost use Rattle.arbitration_rules.specs.Reply.{messagesOf};
-ghost use Rattle.verdict.specs.Verdict.{verdictOf};
+ghost use Rattle.verdict.specs.Verdict.{contenders as contendersOf, decided, verdictOf};
 
 mod contenders; // contenders.rt: the boards that are still in, and whether their messages are the same
 mod messages; // messages.rt: where a message lies, two compared, and whether every byte is acknowledged
 
 use arbitration_rules::Arbitrated;
 use arbitration_rules::MAX_MASTERS;
+use arbitration_rules::Seat;
 pub use messages::Span;
 pub use messages::message_at;
 
@@ -23,15 +24,17 @@ pub enum Verdict {
     Sent(usize),
 }
 
-// The verdict of a reply to the messages that lie in bytes one after the other, each of its length.
-pub fn judge(reply: Arbitrated, bytes: &[u8], lengths: &[u32], acks: &[u8]) -> Verdict
-    ensures { λ r. ⌜ r ≡ verdictOf reply (messagesOf (now (lengths .entry)) (now (bytes .entry))) (now (acks .entry)) ⌝ }
+// The verdict where nothing is refused: from what became of each board, and how many bytes were carried.
+fn decide(
+    seats: [Seat; MAX_MASTERS],
+    count: usize,
+    bytes: &[u8],
+    lengths: &[u32],
+    acks: &[u8],
+) -> Verdict
+    ensures { λ r. ⌜ r ≡ decided (contendersOf seats (messagesOf (now (lengths .entry)) (now (bytes .entry)))) count
+        (now (acks .entry)) ⌝ }
 {
-    let refusal = reply.refusal;
-    if refusal.number != 0 {
-        return Verdict::Refused(refusal.number);
-    }
-    let seats = reply.seats;
     let winner = contenders::first(seats);
     if (winner >= MAX_MASTERS) | (winner >= lengths.len()) {
         return Verdict::Undecided;
@@ -43,8 +46,21 @@ pub fn judge(reply: Arbitrated, bytes: &[u8], lengths: &[u32], acks: &[u8]) -> V
     if !contenders::agree(message, seats, bytes, lengths) {
         return Verdict::Undecided;
     }
-    if (reply.count == message.len()) & messages::acknowledged(message, acks) {
+    if (count == message.len()) & messages::acknowledged(message, acks) {
         return Verdict::Sent(message.len());
     }
-    Verdict::Cut(reply.count)
+    Verdict::Cut(count)
+}
+
+// The verdict of a reply to the messages that lie in bytes one after the other, each of its length.
+pub fn judge(reply: Arbitrated, bytes: &[u8], lengths: &[u32], acks: &[u8]) -> Verdict
+    ensures { λ r. ⌜ r ≡ verdictOf reply (messagesOf (now (lengths .entry)) (now (bytes .entry)))
+        (now (acks .entry)) ⌝ }
+{
+    let refusal = reply.refusal;
+    if refusal.number != 0 {
+        return Verdict::Refused(refusal.number);
+    }
+    let seats = reply.seats;
+    decide(seats, reply.count, bytes, lengths, acks)
 }

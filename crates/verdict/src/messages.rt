@@ -31,14 +31,17 @@ pub fn message_at(bytes: &[u8], lengths: &[u32], index: usize) -> Span
 pub(crate) fn same(message: &[u8], other: &[u8]) -> bool
     ensures { λ r. ⌜ r ≡ sameOf (now (message .entry)) (now (other .entry)) ⌝ }
 {
+    if message.len() != other.len() {
+        return false;
+    }
     let mut i: usize = 0;
-    while (i < message.len()) & (i < other.len()) {
+    while i < message.len() {
         if message[i] != other[i] {
             return false;
         }
         i += 1;
     }
-    message.len() == other.len()
+    true
 }
 
 // Every byte of a message is acknowledged.

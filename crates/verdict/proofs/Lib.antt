@@ -1,0 +1,4 @@
+pub mod Pairs
+pub mod Compared
+pub mod Agreeing
+pub mod Judged
