@@ -1,6 +1,6 @@
 -- The boards that are still in: whether all have one message, and the first of them.
 use Prim.Native.Nat.{ℕ, suc, _+_, _-_, _<_, _≤_, min}
-use mathlib.Core.Path.{_≡_, refl, sym, ap, _∙_}
+use mathlib.Core.Path.{_≡_, refl, ap, _∙_}
 use mathlib.Core.Bool.{Bool, cond, true, false, not, _&&_}
 use mathlib.Core.List.{List, [], _∷_}
 use native.Mathlib.Nat.{not-suc-le-zero, le-of-suc-le-suc}
@@ -12,7 +12,6 @@ use Rattle.arbitration_rules.specs.Limits.{maxMasters}
 use Rattle.arbitration_rules.specs.Reply.{messagesOf}
 use Rattle.arbitration_rules.proofs.Accepted.{cut-count}
 use Rattle.arbitration_checks.proofs.Walk.{At, at-start, at-more, message-is}
-use Rattle.verdict.specs.declared.Verdict.{Verdict}
 use Rattle.verdict.specs.declared.Verdict.the-variants.{Undecided}
 use Rattle.verdict.specs.Verdict.{stillIn, contenders, same, ended, decided}
 use Rattle.verdict.proofs.Pairs.{Through, through-start, through-more, through-fails, through-one}

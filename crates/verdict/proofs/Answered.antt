@@ -1,7 +1,7 @@
 -- A reply that is not refused, from messages and acknowledges alone: who is still in, and how many bytes are carried.
 use Prim.Native.Nat.{ℕ, zero, suc}
-use mathlib.Core.Path.{_≡_, refl, sym, ap, _∙_}
-use mathlib.Core.Bool.{Bool, cond, true, false, false≢true}
+use mathlib.Core.Path.{_≡_, refl, ap, _∙_}
+use mathlib.Core.Bool.{Bool, cond, true, false}
 use mathlib.Core.List.{List, [], _∷_, _++_, map}
 use mathlib.Core.Option.{Option, none, some}
 use native.Mathlib.Omega.{arith}
@@ -15,7 +15,7 @@ use Rattle.laws.proofs.Refusals.{Numbered, passed, passed-first, numbered-both}
 use Rattle.arbitration_rules.specs.declared.Arbitrated.{Arbitrated}
 use Rattle.arbitration_rules.specs.declared.Seat.{Seat}
 use Rattle.arbitration_rules.specs.Final.{finalMaster}
-use Rattle.arbitration_rules.specs.Outcome.{least, carriedCount, carriedOf, positionIn, lossFrom, fate, undecided}
+use Rattle.arbitration_rules.specs.Outcome.{least, carriedCount, carriedOf, lossFrom, fate, undecided}
 use Rattle.arbitration_rules.specs.Reply.{messagesOf, messageChecks, shortBuffer, refusal, refused, absent, seatOf}
 use Rattle.arbitration_rules.specs.Reply.{padded, answered, arbitrated}
 use Rattle.arbitration_rules.specs.Run.{Bus, run}

@@ -1,16 +1,16 @@
 -- What is decided of those still in: all have the winner's message, or two differ.
 use Prim.Native.Nat.{ℕ, _<_}
 use mathlib.Core.Path.{_≡_, refl, sym, ap, _∙_}
-use mathlib.Core.Bool.{Bool, cond, true, false, _&&_, false≢true}
+use mathlib.Core.Bool.{Bool, cond, true, false, false≢true}
 use mathlib.Core.List.{List, [], _∷_}
 use native.Mathlib.Omega.{arith}
 use lib.ListN.{length}
 use Rattle.laws.specs.Everyone.{Everyone, nobody, also, Someone, this, another}
 use Rattle.laws.specs.Search.{all}
-use Rattle.laws.proofs.Lists.{everyone-so, someone-so, someone-both}
+use Rattle.laws.proofs.Lists.{everyone-so, someone-both}
 use Rattle.laws.proofs.Bools.{both}
 use Rattle.verdict.specs.declared.Verdict.{Verdict}
-use Rattle.verdict.specs.declared.Verdict.the-variants.{Refused, Undecided, Cut, Sent}
+use Rattle.verdict.specs.declared.Verdict.the-variants.{Undecided}
 use Rattle.verdict.specs.Verdict.{same, ended, decided}
 use Rattle.verdict.proofs.Compared.{same-self, same-equal}
 

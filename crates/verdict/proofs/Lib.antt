@@ -6,3 +6,4 @@ pub mod Answered
 pub mod Decision
 pub mod Acknowledged
 pub mod Meaning
+pub mod Worked

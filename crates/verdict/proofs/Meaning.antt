@@ -8,12 +8,11 @@ use mathlib.Core.List.{List, [], _∷_}
 use mathlib.Core.Logic.{_⊎_, inl, inr}
 use mathlib.Core.Option.{none}
 use native.Mathlib.Omega.{arith}
-use borrow.Author.Tests.{eq-eqb, ne-eqb, eqb-true, eqb-false}
+use borrow.Author.Tests.{eq-eqb, ne-eqb, eqb-false}
 use lib.Dec.{eqb}
 use lib.ListN.{length}
 use Rattle.laws.specs.Everyone.{Everyone}
 use Rattle.laws.specs.Search.{all}
-use Rattle.laws.proofs.Bools.{both}
 use Rattle.arbitration_rules.specs.declared.Arbitrated.{Arbitrated}
 use Rattle.arbitration_rules.specs.Outcome.{least, carriedCount, carriedOf, lossFrom, allAcknowledged}
 use Rattle.arbitration_rules.specs.Reply.{messagesOf, arbitrated}
@@ -84,7 +83,7 @@ refused-exactly reply messages acknowledges number = (to, from)
         → verdictOf reply messages acknowledges ≡ Refused number
     from (is, some) = rw (ne-eqb (reply .refusal .number) 0 (λ zero. some (sym is ∙ zero))) (ap Refused is)
 
--- a reply of arbitrate that is not refused
+-- a reply of arbitrate that is not refused; the bytes lent are bytes
 module _ (bytes lengths acknowledges : List ℕ) (carriedRoom levelRoom : ℕ) (small : Bytes bytes)
     (unrefused : arbitrated bytes lengths acknowledges carriedRoom levelRoom .refusal .number ≡ 0) where
   abbrev reply : Arbitrated

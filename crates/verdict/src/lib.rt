@@ -16,7 +16,7 @@ pub use messages::message_at;
 pub enum Verdict {
     // the library refused it, with this number
     Refused(u8),
-    // boards with different messages are still in
+    // boards with different messages are still in (or none is, which no reply of arbitrate says)
     Undecided,
     // the winner's message was cut short: so many of its bytes were carried, the last of them not acknowledged
     Cut(usize),

@@ -1,7 +1,7 @@
 -- Messages of different lengths differ; of equal lengths, the bytes compared so far are equal.
 use native.Mathlib.Omega.{arith}
 use Prim.Native.Nat.{_-_}
-use mathlib.Core.Path.{_≡_, refl, sym, _∙_}
+use mathlib.Core.Path.{refl}
 use lib.ListN.{length}
 use borrow.Author.Tests.{eq-eqb, ne-eqb}
 use Rattle.verdict.proofs.Compared.{Alike, unequal-lengths}
