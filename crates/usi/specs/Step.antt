@@ -9,6 +9,7 @@ use Rattle.usi_i2c.specs.Rules as rules
 use Rattle.usi.specs.declared.Usi.{Usi}
 use Rattle.usi.specs.declared.Step.{Step}
 use Rattle.usi.specs.declared.Step.the-variants.{Next, Refused}
+use Rattle.usi.specs.declared.Written.{Written}
 use Rattle.usi.specs.declared.Read.{Read}
 use Rattle.usi.specs.declared.Read.the-variants.{Value, Refused as NoValue}
 use Rattle.usi.specs.Module.{withUSICTL0, withUSICTL1, withUSICKCTL, withUSICNT, withUSISRL, withUSISRH}
@@ -89,6 +90,22 @@ unfoldable pub writeWord : Usi → ℕ → ℕ → Step
 writeWord u address value =
     cond (odd address) (Refused 2 u)
     (andThen (writeByte u address (value % 256)) (λ v. writeByte v (address + 1) (value / 256)))
+
+-- A write's answer: the step's module and number, and the flags of USICTL1 that it cleared (02: Ask 12), of both widths
+-- alike. A refused one clears none (proofs/Clearing.antt).
+abbrev pub answered : ℕ → Step → Written
+answered before step =
+    record {
+      usi = moduleOf step;
+      refusal = refusal step;
+      cleared = setUp.cleared before (moduleOf step .usictl1);
+    }
+
+abbrev pub written : Usi → ℕ → ℕ → Written
+written u address value = answered (u .usictl1) (writeByte u address value)
+
+abbrev pub writtenWord : Usi → ℕ → ℕ → Written
+writtenWord u address value = answered (u .usictl1) (writeWord u address value)
 
 -- START and STOP of a sample, on the flags and SCLREL.
 abbrev pub conditioned : Bool → Bool → Usi → Usi
