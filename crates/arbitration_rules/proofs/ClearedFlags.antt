@@ -12,6 +12,7 @@ use lib.Dec.{eqb}
 use lib.ListN.{length, getD, length-map}
 use Rattle.laws.specs.Everyone.{Everyone, nobody, also, Someone}
 use Rattle.laws.proofs.Lists.{everyone, everyone-append, map-alike, zipWith-map, zipWith-length}
+use Rattle.encode.specs.Encode.{byteBits, drawBits}
 use Rattle.usi_registers.specs.Registers.{USICTL0, USICTL1, USICKCTL, USICNT, USISRL}
 use Rattle.usi_registers.specs.Rules.{countFlags}
 use Rattle.usi.specs.declared.Usi.{Usi}
@@ -27,9 +28,12 @@ use Rattle.arbitration_rules.specs.Cleared.{clearedAt, clearedIn, cleare
 use Rattle.arbitration_rules.proofs.Phases as phases
 use Rattle.arbitration_rules.proofs.Phases.{perform-append}
 use Rattle.arbitration_rules.proofs.Wire.{busOf, writes-all}
-use Rattle.arbitration_rules.proofs.Standing.{stays}
-use Rattle.arbitration_rules.proofs.Pause.{afterStart, isIn, masterAt}
-use Rattle.arbitration_rules.proofs.Round.{waits}
+use Rattle.arbitration_rules.proofs.Roles.{Role, drives, lost, gone, contends, masterOf}
+use Rattle.arbitration_rules.proofs.Byte.{Line, turnsOf, lineAfter, inByte}
+use Rattle.arbitration_rules.proofs.Standing.{Standing, stays, out, entersAs}
+use Rattle.arbitration_rules.proofs.Pause.{Pause, afterStart, afterByte, isIn, masterAt, latchAt, enableAt, standingAs}
+use Rattle.arbitration_rules.proofs.Round.{byteAt, waits, three-maps, enters, opened-is, carried-byte}
+use Rattle.arbitration_rules.proofs.Round as round
 use Rattle.arbitration_rules.proofs.Ends as ends
 use Rattle.arbitration_rules.proofs.Ends.{alike, ready, seen, pulling, caught}
 
@@ -270,3 +274,166 @@ module _ {P : List ℕ → Type 0} (messages : List (List ℕ)) (one : Someone P
       (then messages (then messages (then messages idle pulls-low (λ message. refl)) caught-start (λ message. refl))
       clears-start (λ message. refl))
       (λ message. refl)
+
+-- joins of IFG
+joined : (a b : Bool) → bitOr (boolByte a) (boolByte b) ≡ boolByte (a || b)
+joined true true = refl
+joined true false = refl
+joined false true = refl
+joined false false = refl
+
+-- what one master's writes clear, as it stands: before the byte, and after its eight turns
+abbrev loadThen : List (ℕ × ℕ)
+loadThen = (USICTL0, 0xca) ∷ (USICNT, 0x08) ∷ []
+
+abbrev withdraw : List (ℕ × ℕ)
+withdraw = (USICTL0, 0xc0) ∷ (USICNT, 0x80) ∷ []
+
+abbrev listen : List (ℕ × ℕ)
+listen = (USICTL0, 0xc8) ∷ (USICNT, 0x01) ∷ []
+
+opening : (pause : Pause) (own : ℕ) (standing : Standing)
+    → bitOr (clearedAt stillIn (Write USISRL own) (masterAt pause standing))
+    (clearsOf stillIn loadThen (phases.written USISRL own (masterAt pause standing)))
+    ≡ boolByte (isIn standing)
+unfolding clearedAt applied writeByte settled followed countFlags
+opening afterStart own stays = refl
+opening (afterByte byte ninth) own stays = refl
+opening afterStart own (out register latch position) = refl
+opening (afterByte byte ninth) own (out register latch position) = refl
+
+withdrawing : (taken : List Bool) (sda : Bool) (role : Role) → clearsOf beaten withdraw (masterOf 0 taken sda role) ≡ 0
+unfolding clearedAt applied writeByte settled followed countFlags
+withdrawing taken sda (drives rest latch enable) = refl
+withdrawing taken sda (lost rest latch position) = refl
+withdrawing taken sda (gone register latch position) = refl
+
+listening : (taken : List Bool) (sda : Bool) (role : Role)
+    → clearsOf stillIn listen (phases.withdrawn (masterOf 0 taken sda role)) ≡ boolByte (contends role)
+unfolding clearedAt applied writeByte settled followed countFlags
+listening taken sda (drives rest latch enable) = refl
+listening taken sda (lost rest latch position) = refl
+listening taken sda (gone register latch position) = refl
+
+-- who is out does not contend
+gone-stays : (at : ℕ) (bits : List Bool) (register : ℕ) (latch : Bool) (position : ℕ)
+    → contends (turnsOf at bits (gone register latch position)) ≡ false
+gone-stays at [] register latch position = refl
+gone-stays at (bit ∷ bits) register latch position = gone-stays (suc at) bits register latch position
+
+contends-in : (at : ℕ) (bits : List Bool) (latch enable : Bool) (own : ℕ) (standing : Standing)
+    → isIn standing || contends (turnsOf at bits (entersAs latch enable own standing)) ≡ isIn standing
+contends-in at bits latch enable own stays = refl
+contends-in at bits latch enable own (out register latched position) = gone-stays at bits register latched position
+
+-- step 2, a byte: IFG is cleared, of those still in
+module _ (messages : List (List ℕ)) (standing : List ℕ → Standing) (index byte acknowledge : ℕ) (pause : Pause)
+    (pull : Bool) (level old : ℕ) (levels carried : List ℕ) (small : byte < 256)
+    (fits : Everyone (λ message. byteAt index message < 256) messages)
+    (fair : Everyone (λ message. isIn (standing message) ≡ true → byte ≤ byteAt index message) messages)
+    (leader : Someone (λ message. (isIn (standing message) ≡ true) × (byteAt index message ≡ byte)) messages) where
+  abbrev before : Bus
+  before = busOf (waits pause standing messages) pull level old levels carried
+
+  abbrev inside : Bus
+  inside = inByte 8 [] (round.lineAt pause pull level) (map (enters pause standing index) messages) 0 levels carried
+
+  abbrev flags : List ℕ → ℕ
+  flags message = boolByte (isIn (standing message))
+
+  abbrev at : List ℕ → Master
+  at message = masterAt pause (standing message)
+
+  opens : Clears messages (loads index ∷ writes stillIn loadThen) before inside flags
+  unfolding performed clearedIn phases.opened phases.loaded
+  opens =
+      record {
+        leads = opened-is messages standing index pause pull level old levels carried fits;
+        is =
+            ap₂ (zipWith bitOr)
+            (zipWith-map (λ master message. clearedAt stillIn (Write USISRL (byteAt index message)) master) at messages)
+            (writes-clear messages stillIn loadThen (performed messages (loads index) before)
+            ∙ ap (map (clearsOf stillIn loadThen))
+            (zipWith-map (λ master message. phases.written USISRL (byteAt index message) master) at messages)
+            ∙ map-map (clearsOf stillIn loadThen) (λ message. phases.written USISRL (byteAt index message) (at message))
+            messages)
+            ∙ zip-maps (λ message. clearedAt stillIn (Write USISRL (byteAt index message)) (at message))
+            (λ message. clearsOf stillIn loadThen (phases.written USISRL (byteAt index message) (at message))) messages
+            ∙ map-alike (everyone (λ message. opening pause (byteAt index message) (standing message)) messages);
+      }
+
+  -- after the eight turns
+  abbrev line : Line
+  line = lineAfter (round.lineAt pause pull level) (byteBits byte)
+
+  abbrev role : List ℕ → Role
+  role message = turnsOf (9 * index) (byteBits byte) (enters pause standing index message)
+
+  abbrev turned : List ℕ → Master
+  turned message = masterOf 0 (byteBits byte) (line .sda) (role message)
+
+  abbrev over : List Master → List ℕ → Bus
+  over list bytes = busOf list (line .pull) (line .level) byte (levels ++ drawBits (byteBits byte)) bytes
+
+  abbrev all : (List ℕ → Master) → Bus
+  all master = over (map master messages) (carried ++ byte ∷ [])
+
+  turns : Clears messages (dataTurns 8 (9 * index)) inside (over (map turned messages) carried) (λ message. 0)
+  turns =
+      quietly messages (data-turns-quiet 8 (9 * index))
+      (λ message. masterOf 8 [] (round.lineAt pause pull level .sda) (enters pause standing index message))
+      (map-map (masterOf 8 [] (round.lineAt pause pull level .sda)) (enters pause standing index) messages)
+      (phases.data-turns-is messages 8 (9 * index) inside
+      ∙ carried-byte messages standing index byte acknowledge pause pull level old levels carried small fits fair leader
+      ∙ ap (λ list. over list carried)
+      (three-maps (masterOf 0 (byteBits byte) (line .sda)) (turnsOf (9 * index) (byteBits byte))
+      (enters pause standing index) messages))
+
+  -- who lost in it withdraws, the others listen
+  abbrev beatenOnes : List ℕ → Master
+  beatenOnes message = applied beaten (Write USICNT 0x80) (applied beaten (Write USICTL0 0xc0) (turned message))
+
+  abbrev left : List ℕ → Master
+  left message = phases.withdrawn (turned message)
+
+  abbrev listened : List ℕ → Master
+  listened message = phases.written USICNT 0x01 (phases.written USICTL0 0xc8 (left message))
+
+  withdraws : Clears messages (carries ∷ writes beaten withdraw) (over (map turned messages) carried) (all beatenOnes)
+      (λ message. 0)
+  unfolding performed
+  withdraws =
+      then messages
+      (quietly messages {instants = carries ∷ []} (also tt nobody) turned {next = all turned} refl refl)
+      (writing messages beaten withdraw turned refl
+      (ap (λ list. over list (carried ++ byte ∷ []))
+      (three-maps (applied beaten (Write USICNT 0x80)) (applied beaten (Write USICTL0 0xc0)) turned messages))
+      (λ message. withdrawing (byteBits byte) (line .sda) (role message)))
+      (λ message. refl)
+
+  listens : Clears messages (settles ∷ writes stillIn listen) (all beatenOnes) (all listened)
+      (λ message. boolByte (contends (role message)))
+  unfolding performed
+  listens =
+      then messages
+      (quietly messages {instants = settles ∷ []} (also tt nobody) beatenOnes {next = all left} refl
+      (ap (λ list. over list (carried ++ byte ∷ [])) (map-map masters.settled beatenOnes messages)))
+      (writing messages stillIn listen left refl
+      (ap (λ list. over list (carried ++ byte ∷ []))
+      (three-maps (phases.written USICNT 0x01) (phases.written USICTL0 0xc8) left messages))
+      (λ message. listening (byteBits byte) (line .sda) (role message)))
+      (λ message. refl)
+
+  pub byte-clears : clearedOver messages (byteTurn index acknowledge) before ≡ map flags messages
+  byte-clears =
+      then messages
+      (then messages (then messages (then messages opens turns still) withdraws still) listens
+      (λ message. joined (isIn (standing message)) (contends (role message))
+      ∙ ap boolByte (contends-in (9 * index) (byteBits byte) (latchAt pause) (enableAt pause) (byteAt index message)
+      (standing message))))
+      (quietly messages (bit-turn-quiet (eqb acknowledge 0)) listened refl refl)
+      still
+      .is
+    where
+      still : (message : List ℕ) → bitOr (flags message) 0 ≡ flags message
+      still message = or-zero-r (flags message)
