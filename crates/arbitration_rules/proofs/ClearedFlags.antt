@@ -4,19 +4,21 @@ use Prim.Native.Nat.{ℕ, zero, suc, _+_, _*_, _/_, _%_, _≤_, _<_, max}
 use native.Mathlib.Omega.{arith}
 use mathlib.Core.Path.{_≡_, refl, ap, ap₂, sym, _∙_}
 use mathlib.Core.Bool.{Bool, cond, true, false, not, _||_}
-use mathlib.Core.List.{List, [], _∷_, _++_, map, zipWith, map-map}
+use mathlib.Core.List.{List, [], _∷_, _++_, map, zipWith, map-map, append-nil}
 use mir.Val.{boolByte}
 use lib.Arith.{bin-ind}
 use lib.Bits.{bitOr, or-step, or-zero-r}
 use lib.Dec.{eqb}
-use lib.ListN.{length, getD, length-map}
+use lib.ListN.{length, getD, take, length-map}
+use Rattle.bits.specs.Positions.{isSet}
 use Rattle.laws.specs.Everyone.{Everyone, nobody, also, Someone}
-use Rattle.laws.proofs.Lists.{everyone, everyone-append, map-alike, zipWith-map, zipWith-length}
-use Rattle.encode.specs.Encode.{byteBits, drawBits}
+use Rattle.laws.proofs.Lists.{everyone, everyone-append, everyone-so, map-alike, any-none, zipWith-map, zipWith-length}
+use Rattle.encode.specs.Encode.{byteBits, drawBits, drawEvent, drawEvents}
 use Rattle.usi_registers.specs.Registers.{USICTL0, USICTL1, USICKCTL, USICNT, USISRL}
 use Rattle.usi_registers.specs.Rules.{countFlags}
+use Rattle.usi_i2c.specs.Rules.{conditionFlags, conditionCount}
 use Rattle.usi.specs.declared.Usi.{Usi}
-use Rattle.usi.specs.Step.{followed, settled, writeByte}
+use Rattle.usi.specs.Step.{followed, settled, writeByte, edged, fallen, risen, sample}
 use Rattle.arbitration_rules.specs.Masters as masters
 use Rattle.arbitration_rules.specs.Masters.{Master, Who, everybody, stillIn, beaten, Tick, Sample, Write, applied}
 use Rattle.arbitration_rules.specs.Masters.{judged}
@@ -24,18 +26,27 @@ use Rattle.arbitration_rules.specs.Run.{Bus, Instant, does, loads, sampl
 use Rattle.arbitration_rules.specs.Run.{carries, settles, performed, perform, powered, through, bytes}
 use Rattle.arbitration_rules.specs.Run.{writes, bitTurn, dataTurns, byteTurn, bytesScript, setUp, start, stop}
 use Rattle.arbitration_rules.specs.Run.{wire, script}
+use Rattle.arbitration_rules.specs.Outcome.{least, carriedCount, positionIn, byteEvents}
 use Rattle.arbitration_rules.specs.Cleared.{clearedAt, clearedIn, clearedOver, clearedBy}
 use Rattle.arbitration_rules.proofs.Phases as phases
 use Rattle.arbitration_rules.proofs.Phases.{perform-append}
-use Rattle.arbitration_rules.proofs.Wire.{busOf, writes-all}
+use Rattle.arbitration_rules.proofs.Wire.{busOf, record-all, writes-all}
+use Rattle.arbitration_rules.proofs.Turn as turn
 use Rattle.arbitration_rules.proofs.Roles.{Role, drives, lost, gone, contends, masterOf}
 use Rattle.arbitration_rules.proofs.Byte.{Line, turnsOf, lineAfter, inByte}
 use Rattle.arbitration_rules.proofs.Standing.{Standing, stays, out, entersAs}
 use Rattle.arbitration_rules.proofs.Pause.{Pause, afterStart, afterByte, isIn, masterAt, latchAt, enableAt, standingAs}
-use Rattle.arbitration_rules.proofs.Round.{byteAt, waits, three-maps, enters, opened-is, carried-byte}
+use Rattle.arbitration_rules.proofs.Pause.{pullAt, levelAt, takenAt}
+use Rattle.arbitration_rules.proofs.Round.{ninthBit, byteAt, waits, three-maps, enters, opened-is, carried-byte}
 use Rattle.arbitration_rules.proofs.Round as round
 use Rattle.arbitration_rules.proofs.Ends as ends
-use Rattle.arbitration_rules.proofs.Ends.{alike, ready, seen, pulling, caught}
+use Rattle.arbitration_rules.proofs.Ends.{alike, ready, seen, pulling, caught, lastBit, lowBit, letsRise}
+use Rattle.arbitration_rules.proofs.Against.{against, in-has-byte}
+use Rattle.arbitration_rules.proofs.Carry.{Contest, paused, byte-below, small, leader, carry-at, all-sent}
+use Rattle.arbitration_rules.proofs.Carry.{more-to-send}
+use Rattle.arbitration_rules.proofs.Loop.{Carried, longer, on}
+use Rattle.arbitration_rules.proofs.Loop as loop
+use Rattle.arbitration_rules.proofs.Demand.{Sendable, Arbitration, winner-in, contest, least-sendable}
 
 -- joins in any order
 half-joined : (a b : ℕ) → bitOr a b / 2 ≡ bitOr (a / 2) (b / 2)
@@ -437,3 +448,287 @@ module _ (messages : List (List ℕ)) (standing : List ℕ → Standing) (index 
     where
       still : (message : List ℕ) → bitOr (flags message) 0 ≡ flags message
       still message = or-zero-r (flags message)
+
+-- step 4: IFG is cleared, of those still in
+abbrev sendLow : List (ℕ × ℕ)
+sendLow = (USICTL0, 0xca) ∷ (USISRL, 0x00) ∷ (USICNT, 0x01) ∷ []
+
+abbrev letRise : List (ℕ × ℕ)
+letRise = (USISRL, 0xff) ∷ (USICTL0, 0xce) ∷ []
+
+abbrev finish : List (ℕ × ℕ)
+finish = (USICTL0, 0xc8) ∷ []
+
+abbrev stopSeen : Standing → Master
+stopSeen standing = masters.withUsi (turn.samples true true (letsRise standing)) (standingAs letsRise standing)
+
+sending-low : (byte : ℕ) (ninth : Bool) (standing : Standing)
+    → clearsOf stillIn sendLow (masterAt (afterByte byte ninth) standing) ≡ boolByte (isIn standing)
+unfolding clearedAt applied writeByte settled followed countFlags
+sending-low byte ninth stays = refl
+sending-low byte ninth (out register latch position) = refl
+
+letting-rise : (standing : Standing) → clearsOf stillIn letRise (standingAs lowBit standing) ≡ 0
+unfolding clearedAt applied writeByte settled followed
+letting-rise stays = refl
+letting-rise (out register latch position) = refl
+
+finishing : (standing : Standing) → clearsOf stillIn finish (stopSeen standing) ≡ 0
+unfolding clearedAt applied writeByte settled followed conditionFlags conditionCount edged fallen risen sample
+finishing stays = refl
+finishing (out register latch position) = refl
+
+module _ (messages : List (List ℕ)) (standing : List ℕ → Standing) (byte : ℕ) (ninth pull : Bool) (level old : ℕ)
+    (levels carried : List ℕ) (one : Someone (λ message. isIn (standing message) ≡ true) messages) where
+  abbrev allAs : (Standing → Usi) → Bool → ℕ → List ℕ → Bus
+  allAs usi pulling seen recording =
+      busOf (map (λ message. standingAs usi (standing message)) messages) pulling seen old recording carried
+
+  abbrev waiting : Bus
+  waiting = busOf (waits (afterByte byte ninth) standing messages) pull level old levels carried
+
+  abbrev ifIn : List ℕ → ℕ
+  ifIn message = boolByte (isIn (standing message))
+
+  sends-low : Clears messages (writes stillIn sendLow) waiting (allAs (lastBit (afterByte byte ninth)) pull level levels) ifIn
+  unfolding performed
+  sends-low =
+      writing messages stillIn sendLow (λ message. masterAt (afterByte byte ninth) (standing message)) refl
+      (ends.sends-low messages standing byte ninth pull level old levels carried one)
+      (λ message. sending-low byte ninth (standing message))
+
+  low-bit : Clears messages (bitTurn false) (allAs (lastBit (afterByte byte ninth)) pull level levels)
+      (allAs lowBit false 1 (levels ++ 0 ∷ 1 ∷ [])) (λ message. 0)
+  low-bit =
+      quietly messages (bit-turn-quiet false) (λ message. standingAs (lastBit (afterByte byte ninth)) (standing message))
+      refl
+      (phases.bit-turn-is messages false (allAs (lastBit (afterByte byte ninth)) pull level levels)
+      ∙ ends.low-bit messages standing byte ninth pull level old levels carried one)
+
+  lets-rise : Clears messages (writes stillIn letRise) (allAs lowBit false 1 (levels ++ 0 ∷ 1 ∷ []))
+      (allAs letsRise false 1 (levels ++ 0 ∷ 1 ∷ [])) (λ message. 0)
+  unfolding performed
+  lets-rise =
+      writing messages stillIn letRise (λ message. standingAs lowBit (standing message)) refl
+      (ends.lets-rise messages standing byte ninth pull level old levels carried one)
+      (λ message. letting-rise (standing message))
+
+  abbrev stopAt : Bus
+  stopAt =
+      busOf (map (λ message. stopSeen (standing message)) messages) false 3 old (levels ++ 0 ∷ 1 ∷ [] ++ 3 ∷ []) carried
+
+  sees-stop : Clears messages (samples ∷ records ∷ []) (allAs letsRise false 1 (levels ++ 0 ∷ 1 ∷ [])) stopAt
+      (λ message. 0)
+  unfolding performed phases.recorded phases.sampled
+  sees-stop =
+      quietly messages (also tt (also tt nobody)) (λ message. standingAs letsRise (standing message)) refl
+      (record-all (λ message. standingAs letsRise (standing message)) messages
+      (λ message. letsRise (standing message))
+      false 1 old (levels ++ 0 ∷ 1 ∷ []) carried true true
+      (ap not (any-none (everyone (λ message. ends.quiet-scl (standing message)) messages)))
+      (ap not (any-none (everyone (λ message. ends.quiet-sda (standing message)) messages))))
+
+  pub stop-clears : clearedOver messages stop waiting ≡ map ifIn messages
+  stop-clears =
+      then messages (then messages (then messages (then messages sends-low low-bit still) lets-rise still) sees-stop still)
+      (writing messages stillIn finish (λ message. stopSeen (standing message)) refl refl
+      (λ message. finishing (standing message)))
+      still
+      .is
+    where
+      still : (message : List ℕ) → bitOr (ifIn message) 0 ≡ ifIn message
+      still message = or-zero-r (ifIn message)
+
+-- who is in after more bytes was in before
+still-in : (index : ℕ) (carried more message : List ℕ)
+    → isIn (against index carried message) || isIn (against index (carried ++ more) message)
+    ≡ isIn (against index carried message)
+still-in index [] more message = refl
+still-in index (byte ∷ carried) more [] = refl
+still-in index (byte ∷ carried) more (own ∷ message) =
+    go (eqb own byte) (still-in (suc index) carried more message)
+  where
+    go : (same : Bool)
+        → isIn (against (suc index) carried message) || isIn (against (suc index) (carried ++ more) message)
+        ≡ isIn (against (suc index) carried message)
+        → isIn (cond same (against (suc index) carried message) (out byte (isSet 0 own) (positionIn byte own index)))
+        || isIn (cond same (against (suc index) (carried ++ more) message) (out byte (isSet 0 own) (positionIn byte own index)))
+        ≡ isIn (cond same (against (suc index) carried message) (out byte (isSet 0 own) (positionIn byte own index)))
+    go true rest = rest
+    go false rest = refl
+
+-- a master with its IFG, if it is still in after carried bytes
+abbrev ifgOf : List ℕ → List ℕ → ℕ
+ifgOf carried message = boolByte (isIn (against 0 carried message))
+
+-- a byte of the least message
+carried-clears : (messages : List (List ℕ)) (carried : List ℕ) (byte : ℕ) (more : List ℕ)
+    → Contest messages (carried ++ byte ∷ more) → (index acknowledge : ℕ) → length carried ≡ index → acknowledge ≤ 1
+    → (pause : Pause) (levels : List ℕ)
+    → Clears messages (byteTurn index acknowledge) (paused messages pause carried levels)
+    (paused messages (afterByte byte (ninthBit acknowledge)) (carried ++ byte ∷ [])
+    (levels ++ drawEvent (byte + 256 * acknowledge)))
+    (ifgOf carried)
+carried-clears messages carried byte more fought index acknowledge at one pause levels =
+    record {
+      leads =
+          phases.byte-turn-is messages index acknowledge (paused messages pause carried levels)
+          ∙ carry-at messages carried byte more fought index acknowledge at one pause levels;
+      is =
+          ap (λ (i : ℕ). clearedOver messages (byteTurn i acknowledge) (paused messages pause carried levels)) (sym at)
+          ∙ byte-clears messages (against 0 carried) (length carried) byte acknowledge pause (pullAt pause)
+          (levelAt pause) (takenAt pause) levels carried
+          (small messages carried byte more fought)
+          (everyone-so (λ message fit. byte-below fit (length carried)) (fought .bytes))
+          (everyone-so (λ message least still. in-has-byte 0 carried byte more message least still .1) (fought .least))
+          (leader messages carried byte more fought);
+    }
+
+-- one turn of the loop
+module _ (messages : List (List ℕ)) (acknowledge : ℕ) (acknowledges : List ℕ) (index : ℕ) {bus after : Bus}
+    {flags : List ℕ → ℕ} (here : Clears messages (byteTurn index acknowledge) bus after flags) where
+  abbrev rest : List Instant
+  rest = bytesScript messages acknowledges (suc index) after
+
+  unrolled : (last : Bool) → eqb acknowledge 1 || through messages (suc index) (after .masters) ≡ last
+      → clearedOver messages (bytesScript messages (acknowledge ∷ acknowledges) index bus) bus
+      ≡ clearedOver messages (byteTurn index acknowledge ++ cond last [] rest) bus
+  unrolled last test =
+      ap (λ (b : Bus). clearedOver messages
+      (byteTurn index acknowledge
+      ++ cond (eqb acknowledge 1 || through messages (suc index) (b .masters)) []
+      (bytesScript messages acknowledges (suc index) b)) bus)
+      (here .leads)
+      ∙ ap (λ t. clearedOver messages (byteTurn index acknowledge ++ cond t [] rest) bus) test
+
+  stops-here : eqb acknowledge 1 || through messages (suc index) (after .masters) ≡ true
+      → clearedOver messages (bytesScript messages (acknowledge ∷ acknowledges) index bus) bus ≡ map flags messages
+  stops-here test =
+      unrolled true test
+      ∙ ap (λ instants. clearedOver messages instants bus) (append-nil (byteTurn index acknowledge))
+      ∙ here .is
+
+  goes-on : eqb acknowledge 1 || through messages (suc index) (after .masters) ≡ false → (later : List ℕ → ℕ)
+      → clearedOver messages rest after ≡ map later messages
+      → ((message : List ℕ) → bitOr (flags message) (later message) ≡ flags message)
+      → clearedOver messages (bytesScript messages (acknowledge ∷ acknowledges) index bus) bus ≡ map flags messages
+  goes-on test later clears joins =
+      let next : Clears messages rest after (perform messages rest after) later =
+      record { leads = refl; is = clears } in
+      unrolled false test ∙ then messages here next joins .is
+
+bytes-clear : (messages : List (List ℕ)) (acknowledges : List ℕ) (index : ℕ) (carried : List ℕ) (byte : ℕ)
+    (more : List ℕ) (pause : Pause) (levels : List ℕ)
+    → Contest messages (carried ++ byte ∷ more) → length carried ≡ index
+    → Everyone (λ acknowledge. acknowledge ≤ 1) acknowledges → length more < length acknowledges
+    → clearedOver messages (bytesScript messages acknowledges index (paused messages pause carried levels))
+    (paused messages pause carried levels)
+    ≡ map (ifgOf carried) messages
+bytes-clear messages [] index carried byte more pause levels fought at ones enough = absurd (omega arith)
+bytes-clear messages (zero ∷ acknowledges) index carried byte [] pause levels fought at (also one ones) enough =
+    stops-here messages 0 acknowledges index
+    (carried-clears messages carried byte [] fought index 0 at one pause levels)
+    (all-sent messages (carried ++ byte ∷ []) (suc index) (afterByte byte false) fought (longer carried byte index at))
+bytes-clear messages (zero ∷ acknowledges) index carried byte (next ∷ more) pause levels fought at (also one ones)
+    enough =
+    let fought-on = on carried byte next more fought in
+    let counted = longer carried byte index at in
+    goes-on messages 0 acknowledges index
+    (carried-clears messages carried byte (next ∷ more) fought index 0 at one pause levels)
+    (more-to-send messages (carried ++ byte ∷ []) (suc index) next more (afterByte byte false) fought-on counted)
+    (ifgOf (carried ++ byte ∷ []))
+    (bytes-clear messages acknowledges (suc index) (carried ++ byte ∷ []) next more (afterByte byte false)
+    (levels ++ drawEvent (byte + 256 * 0)) fought-on counted ones (omega arith))
+    (λ message. joined (isIn (against 0 carried message)) (isIn (against 0 (carried ++ byte ∷ []) message))
+    ∙ ap boolByte (still-in 0 carried (byte ∷ []) message))
+bytes-clear messages (suc zero ∷ acknowledges) index carried byte more pause levels fought at (also one ones) enough =
+    stops-here messages 1 acknowledges index
+    (carried-clears messages carried byte more fought index 1 at one pause levels)
+    refl
+bytes-clear messages (suc (suc acknowledge) ∷ acknowledges) index carried byte more pause levels fought at
+    (also one ones) enough =
+    absurd (omega arith)
+
+-- the script of the bytes performs them
+bytes-performed : (messages : List (List ℕ)) (acknowledges : List ℕ) (index : ℕ) (bus : Bus)
+    → perform messages (bytesScript messages acknowledges index bus) bus ≡ bytes messages acknowledges index bus
+bytes-performed messages [] index bus = refl
+bytes-performed messages (acknowledge ∷ acknowledges) index bus =
+    perform-append messages (byteTurn index acknowledge) (cond last [] rest) bus
+    ∙ go last (bytes-performed messages acknowledges (suc index) after)
+  where
+    after : Bus
+    after = perform messages (byteTurn index acknowledge) bus
+
+    rest : List Instant
+    rest = bytesScript messages acknowledges (suc index) after
+
+    last : Bool
+    last = eqb acknowledge 1 || through messages (suc index) (after .masters)
+
+    go : (last : Bool) → perform messages rest after ≡ bytes messages acknowledges (suc index) after
+        → perform messages (cond last [] rest) after ≡ cond last after (bytes messages acknowledges (suc index) after)
+    go true later = refl
+    go false later = later
+
+-- both flags, and IFG again
+all-along : (again : Bool) → bitOr 0x03 (boolByte again) ≡ 0x03
+all-along true = refl
+all-along false = refl
+
+script-clears : (messages : List (List ℕ)) (acknowledges winner : List ℕ) → Contest messages winner
+    → Sendable acknowledges winner
+    → Everyone (λ acknowledge. acknowledge ≤ 1) acknowledges
+    → clearedOver messages (script messages acknowledges) (powered messages) ≡ map (λ message. 0x03) messages
+script-clears messages acknowledges [] fought sendable bits = absurd (omega (arith, sendable .some))
+script-clears messages acknowledges (byte ∷ more) fought sendable bits =
+    ap (λ (bus : Bus). clearedOver messages
+    (setUp ++ start ++ bytesScript messages acknowledges 0 bus ++ stop) (powered messages)) (opens-with .leads)
+    ∙ then messages
+    (then messages opens-with sends (λ message. refl))
+    (record {
+      leads = refl;
+      is =
+          stop-clears messages (against 0 carried) (ends-at .last) (ends-at .ninth) (not (ends-at .ninth))
+          (levelAt (afterByte (ends-at .last) (ends-at .ninth))) (ends-at .last) levels carried
+          (winner-in messages (byte ∷ more) (carriedCount (byte ∷ more) acknowledges) (fought .sent));
+    })
+    (λ message. all-along (isIn (against 0 carried message)))
+    .is
+  where
+    carried : List ℕ
+    carried = take (carriedCount (byte ∷ more) acknowledges) (byte ∷ more)
+
+    levels : List ℕ
+    levels = 3 ∷ 1 ∷ drawEvents (byteEvents carried acknowledges)
+
+    first : Bus
+    first = paused messages afterStart [] (3 ∷ 1 ∷ [])
+
+    opens-with : Clears messages (setUp ++ start) (powered messages) first (λ message. 0x02)
+    opens-with = started messages (fought .sent)
+
+    ends-at : Carried (phases.bytesTurn messages acknowledges 0 first) messages carried levels
+    ends-at =
+        loop.carries messages acknowledges 0 [] byte more afterStart (3 ∷ 1 ∷ []) fought refl bits
+        (omega (arith, sendable .answered))
+
+    sends : Clears messages (bytesScript messages acknowledges 0 first) first
+        (paused messages (afterByte (ends-at .last) (ends-at .ninth)) carried levels) (ifgOf [])
+    sends =
+        record {
+          leads =
+              bytes-performed messages acknowledges 0 first ∙ phases.bytes-is messages acknowledges 0 first
+              ∙ ends-at .is;
+          is =
+              bytes-clear messages acknowledges 0 [] byte more afterStart (3 ∷ 1 ∷ []) fought refl bits
+              (omega (arith, sendable .answered));
+        }
+
+-- over a run each master's writes clear STTIFG and IFG, and neither AL nor STP
+pub run-clears : (messages : List (List ℕ)) (acknowledges : List ℕ) → Arbitration messages acknowledges
+    → clearedBy messages acknowledges ≡ map (λ message. 0x03) messages
+unfolding clearedBy
+run-clears messages acknowledges given =
+    script-clears messages acknowledges (least messages) (contest messages given) (least-sendable messages given)
+    (given .bits)
