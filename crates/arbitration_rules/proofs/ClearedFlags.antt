@@ -1,4 +1,4 @@
--- What the writes of each master clear over a run: STTIFG once, after the START, and IFG with each count that it
+-- What the writes of each master clear over a run: STTIFG after the START, and IFG with each count above 0 that it
 -- writes; never AL or STP (02: Ask 12).
 use Prim.Native.Nat.{ℕ, zero, suc, _+_, _*_, _/_, _%_, _≤_, _<_, max}
 use native.Mathlib.Omega.{arith}
@@ -12,40 +12,42 @@ use lib.Dec.{eqb}
 use lib.ListN.{length, getD, take, length-map}
 use Rattle.bits.specs.Positions.{isSet}
 use Rattle.laws.specs.Everyone.{Everyone, nobody, also, Someone}
-use Rattle.laws.proofs.Lists.{everyone, everyone-append, everyone-so, map-alike, any-none, zipWith-map, zipWith-length}
+use Rattle.laws.proofs.Lists.{everyone, everyone-append, everyone-so, map-alike, any-none, zipWith-map}
+use Rattle.laws.proofs.Lists.{zipWith-length}
 use Rattle.encode.specs.Encode.{byteBits, drawBits, drawEvent, drawEvents}
-use Rattle.usi_registers.specs.Registers.{USICTL0, USICTL1, USICKCTL, USICNT, USISRL}
+use Rattle.usi_registers.specs.Registers.{USICTL0, USICNT, USISRL}
 use Rattle.usi_registers.specs.Rules.{countFlags}
 use Rattle.usi_i2c.specs.Rules.{conditionFlags, conditionCount}
 use Rattle.usi.specs.declared.Usi.{Usi}
 use Rattle.usi.specs.Step.{followed, settled, writeByte, edged, fallen, risen, sample}
 use Rattle.arbitration_rules.specs.Masters as masters
-use Rattle.arbitration_rules.specs.Masters.{Master, Who, everybody, stillIn, beaten, Tick, Sample, Write, applied}
-use Rattle.arbitration_rules.specs.Masters.{judged}
-use Rattle.arbitration_rules.specs.Run.{Bus, Instant, does, loads, samples, records, pulls, judges, takes}
-use Rattle.arbitration_rules.specs.Run.{carries, settles, performed, perform, powered, through, bytes}
-use Rattle.arbitration_rules.specs.Run.{writes, bitTurn, dataTurns, byteTurn, bytesScript, setUp, start, stop}
-use Rattle.arbitration_rules.specs.Run.{wire, script}
+use Rattle.arbitration_rules.specs.Masters.{Master, Who, everybody, stillIn, beaten, Tick, Sample, Write}
+use Rattle.arbitration_rules.specs.Masters.{applied, judged}
 use Rattle.arbitration_rules.specs.Outcome.{least, carriedCount, positionIn, byteEvents}
+use Rattle.arbitration_rules.specs.Run.{Bus, Instant, does, loads, samples, records, pulls, judges, takes}
+use Rattle.arbitration_rules.specs.Run.{carries, settles, wire, performed, perform, writes, powered, setUp}
+use Rattle.arbitration_rules.specs.Run.{start, bitTurn, dataTurns, byteTurn, stop, through, bytes}
+use Rattle.arbitration_rules.specs.Run.{bytesScript, script}
 use Rattle.arbitration_rules.specs.Cleared.{clearedAt, clearedIn, clearedOver, clearedBy}
 use Rattle.arbitration_rules.proofs.Phases as phases
-use Rattle.arbitration_rules.proofs.Phases.{perform-append}
-use Rattle.arbitration_rules.proofs.Wire.{busOf, record-all, writes-all}
+use Rattle.arbitration_rules.proofs.Phases.{perform-append, written, withdrawn}
 use Rattle.arbitration_rules.proofs.Turn as turn
+use Rattle.arbitration_rules.proofs.Wire.{busOf, record-all, writes-all}
 use Rattle.arbitration_rules.proofs.Roles.{Role, drives, lost, gone, contends, masterOf}
 use Rattle.arbitration_rules.proofs.Byte.{Line, turnsOf, lineAfter, inByte}
 use Rattle.arbitration_rules.proofs.Standing.{Standing, stays, out, entersAs}
-use Rattle.arbitration_rules.proofs.Pause.{Pause, afterStart, afterByte, isIn, masterAt, latchAt, enableAt, standingAs}
-use Rattle.arbitration_rules.proofs.Pause.{pullAt, levelAt, takenAt}
-use Rattle.arbitration_rules.proofs.Round.{ninthBit, byteAt, waits, three-maps, enters, opened-is, carried-byte}
-use Rattle.arbitration_rules.proofs.Round as round
+use Rattle.arbitration_rules.proofs.Pause.{Pause, afterStart, afterByte, latchAt, enableAt, isIn, pullAt}
+use Rattle.arbitration_rules.proofs.Pause.{levelAt, takenAt, standingAs, masterAt}
+use Rattle.arbitration_rules.proofs.Round.{three-maps, byteAt, waits, enters, lineAt, opened-is, ninthBit}
+use Rattle.arbitration_rules.proofs.Round.{carried-byte}
 use Rattle.arbitration_rules.proofs.Ends as ends
-use Rattle.arbitration_rules.proofs.Ends.{alike, ready, seen, pulling, caught, lastBit, lowBit, letsRise}
+use Rattle.arbitration_rules.proofs.Ends.{prepare, pullLow, clearStart, sendLow, letRise, finish}
+use Rattle.arbitration_rules.proofs.Ends.{ready, seen, pulling, caught, alike, lastBit, lowBit, letsRise}
 use Rattle.arbitration_rules.proofs.Against.{against, in-has-byte}
-use Rattle.arbitration_rules.proofs.Carry.{Contest, paused, byte-below, small, leader, carry-at, all-sent}
+use Rattle.arbitration_rules.proofs.Carry.{Contest, byte-below, paused, small, leader, carry-at, all-sent}
 use Rattle.arbitration_rules.proofs.Carry.{more-to-send}
-use Rattle.arbitration_rules.proofs.Loop.{Carried, longer, on}
 use Rattle.arbitration_rules.proofs.Loop as loop
+use Rattle.arbitration_rules.proofs.Loop.{Carried, longer, on}
 use Rattle.arbitration_rules.proofs.Demand.{Sendable, Arbitration, winner-in, contest, least-sendable}
 
 -- joins in any order
@@ -105,9 +107,12 @@ module _ (messages : List (List ℕ)) where
   unfolding clearedIn
   in-length (does who operation) bus = omega (arith, length-map (bus .masters) (clearedAt who operation))
   in-length (loads index) bus =
-      omega (arith, zipWith-length
-      (λ (master : Master) (message : List ℕ). clearedAt stillIn (Write USISRL (getD message index 0)) master)
-      (bus .masters) messages)
+      omega (
+        arith,
+        zipWith-length
+            (λ (master : Master) (message : List ℕ). clearedAt stillIn (Write USISRL (getD message index 0)) master)
+            (bus .masters) messages,
+      )
   in-length samples bus = omega (arith, none-length (bus .masters))
   in-length records bus = omega (arith, none-length (bus .masters))
   in-length (pulls pull) bus = omega (arith, none-length (bus .masters))
@@ -120,8 +125,12 @@ module _ (messages : List (List ℕ)) where
       → length (clearedOver messages instants bus) ≤ length (bus .masters)
   over-length [] bus = omega (arith, none-length (bus .masters))
   over-length (instant ∷ instants) bus =
-      omega (arith, in-length instant bus, zipWith-length bitOr (clearedIn messages instant bus)
-      (clearedOver messages instants (performed messages instant bus)))
+      omega (
+        arith,
+        in-length instant bus,
+        zipWith-length bitOr (clearedIn messages instant bus)
+            (clearedOver messages instants (performed messages instant bus)),
+      )
 
   cleared-append : (instants more : List Instant) (bus : Bus)
       → clearedOver messages (instants ++ more) bus
@@ -152,8 +161,8 @@ module _ (messages : List (List ℕ)) where
       }
 
   -- masters made from the messages
-  each : {A : Type 0} (f : A → ℕ) (g : List ℕ → A) (h : List ℕ → ℕ) → ((message : List ℕ) → f (g message) ≡ h message)
-      → map f (map g messages) ≡ map h messages
+  each : {A : Type 0} (f : A → ℕ) (g : List ℕ → A) (h : List ℕ → ℕ)
+      → ((message : List ℕ) → f (g message) ≡ h message) → map f (map g messages) ≡ map h messages
   each f g h same = map-map f g messages ∙ map-alike (everyone same messages)
 
 -- instants that write nothing
@@ -255,28 +264,28 @@ module _ {P : List ℕ → Type 0} (messages : List (List ℕ)) (one : Someone P
   set-up : Clears messages setUp (powered messages) (same ready 0 []) (λ message. 0)
   unfolding performed clearedAt applied writeByte settled followed countFlags
   set-up =
-      writing messages stillIn ((USICKCTL, 0x22) ∷ (USICTL1, 0x41) ∷ (USICTL0, 0xc8) ∷ []) (λ message. masters.entering)
-      refl (writes-all ((USICKCTL, 0x22) ∷ (USICTL1, 0x41) ∷ (USICTL0, 0xc8) ∷ []) (λ message. masters.entering) messages false 0 0 [] [])
-      (λ message. refl)
+      writing messages stillIn prepare (λ message. masters.entering) refl
+      (writes-all prepare (λ message. masters.entering) messages false 0 0 [] []) (λ message. refl)
 
   idle : Clears messages (samples ∷ records ∷ []) (same ready 0 []) (same seen 3 (3 ∷ [])) (λ message. 0)
   unfolding performed phases.recorded phases.sampled
   idle = quietly messages (also tt (also tt nobody)) (alike ready) refl (ends.first-sample messages one)
 
-  pulls-low : Clears messages (writes stillIn ((USISRL, 0x00) ∷ (USICTL0, 0xce) ∷ (USICTL0, 0xca) ∷ []))
-      (same seen 3 (3 ∷ [])) (same pulling 3 (3 ∷ [])) (λ message. 0)
+  pulls-low : Clears messages (writes stillIn pullLow) (same seen 3 (3 ∷ [])) (same pulling 3 (3 ∷ []))
+      (λ message. 0)
   unfolding performed clearedAt applied writeByte settled followed
-  pulls-low = writing messages stillIn ((USISRL, 0x00) ∷ (USICTL0, 0xce) ∷ (USICTL0, 0xca) ∷ []) (alike seen) refl (ends.pulls-low messages one) (λ message. refl)
+  pulls-low = writing messages stillIn pullLow (alike seen) refl (ends.pulls-low messages one) (λ message. refl)
 
   caught-start : Clears messages (samples ∷ records ∷ []) (same pulling 3 (3 ∷ [])) (same caught 1 (3 ∷ 1 ∷ []))
       (λ message. 0)
   unfolding performed phases.recorded phases.sampled
   caught-start = quietly messages (also tt (also tt nobody)) (alike pulling) refl (ends.start-sample messages one)
 
-  clears-start : Clears messages (writes stillIn ((USICTL1, 0x41) ∷ [])) (same caught 1 (3 ∷ 1 ∷ []))
+  clears-start : Clears messages (writes stillIn clearStart) (same caught 1 (3 ∷ 1 ∷ []))
       (busOf (waits afterStart (λ message. stays) messages) false 1 0 (3 ∷ 1 ∷ []) []) (λ message. 0x02)
   unfolding performed clearedAt applied writeByte settled followed
-  clears-start = writing messages stillIn ((USICTL1, 0x41) ∷ []) (alike caught) refl (ends.clears-start messages one) (λ message. refl)
+  clears-start =
+      writing messages stillIn clearStart (alike caught) refl (ends.clears-start messages one) (λ message. refl)
 
   started : Clears messages (setUp ++ start) (powered messages)
       (busOf (waits afterStart (λ message. stays) messages) false 1 0 (3 ∷ 1 ∷ []) []) (λ message. 0x02)
@@ -293,9 +302,9 @@ joined true false = refl
 joined false true = refl
 joined false false = refl
 
--- what one master's writes clear, as it stands: before the byte, and after its eight turns
-abbrev loadThen : List (ℕ × ℕ)
-loadThen = (USICTL0, 0xca) ∷ (USICNT, 0x08) ∷ []
+-- the writes of step 2, as 01 lists them
+abbrev openByte : List (ℕ × ℕ)
+openByte = (USICTL0, 0xca) ∷ (USICNT, 0x08) ∷ []
 
 abbrev withdraw : List (ℕ × ℕ)
 withdraw = (USICTL0, 0xc0) ∷ (USICNT, 0x80) ∷ []
@@ -303,9 +312,10 @@ withdraw = (USICTL0, 0xc0) ∷ (USICNT, 0x80) ∷ []
 abbrev listen : List (ℕ × ℕ)
 listen = (USICTL0, 0xc8) ∷ (USICNT, 0x01) ∷ []
 
+-- what one master's writes clear, as it stands before the byte, and in its role after the eight turns
 opening : (pause : Pause) (own : ℕ) (standing : Standing)
     → bitOr (clearedAt stillIn (Write USISRL own) (masterAt pause standing))
-    (clearsOf stillIn loadThen (phases.written USISRL own (masterAt pause standing)))
+    (clearsOf stillIn openByte (written USISRL own (masterAt pause standing)))
     ≡ boolByte (isIn standing)
 unfolding clearedAt applied writeByte settled followed countFlags
 opening afterStart own stays = refl
@@ -320,7 +330,7 @@ withdrawing taken sda (lost rest latch position) = refl
 withdrawing taken sda (gone register latch position) = refl
 
 listening : (taken : List Bool) (sda : Bool) (role : Role)
-    → clearsOf stillIn listen (phases.withdrawn (masterOf 0 taken sda role)) ≡ boolByte (contends role)
+    → clearsOf stillIn listen (withdrawn (masterOf 0 taken sda role)) ≡ boolByte (contends role)
 unfolding clearedAt applied writeByte settled followed countFlags
 listening taken sda (drives rest latch enable) = refl
 listening taken sda (lost rest latch position) = refl
@@ -347,7 +357,7 @@ module _ (messages : List (List ℕ)) (standing : List ℕ → Standing) (index 
   before = busOf (waits pause standing messages) pull level old levels carried
 
   abbrev inside : Bus
-  inside = inByte 8 [] (round.lineAt pause pull level) (map (enters pause standing index) messages) 0 levels carried
+  inside = inByte 8 [] (lineAt pause pull level) (map (enters pause standing index) messages) 0 levels carried
 
   abbrev flags : List ℕ → ℕ
   flags message = boolByte (isIn (standing message))
@@ -355,27 +365,28 @@ module _ (messages : List (List ℕ)) (standing : List ℕ → Standing) (index 
   abbrev at : List ℕ → Master
   at message = masterAt pause (standing message)
 
-  opens : Clears messages (loads index ∷ writes stillIn loadThen) before inside flags
+  opens : Clears messages (loads index ∷ writes stillIn openByte) before inside flags
   unfolding performed clearedIn phases.opened phases.loaded
   opens =
       record {
         leads = opened-is messages standing index pause pull level old levels carried fits;
         is =
             ap₂ (zipWith bitOr)
-            (zipWith-map (λ master message. clearedAt stillIn (Write USISRL (byteAt index message)) master) at messages)
-            (writes-clear messages stillIn loadThen (performed messages (loads index) before)
-            ∙ ap (map (clearsOf stillIn loadThen))
-            (zipWith-map (λ master message. phases.written USISRL (byteAt index message) master) at messages)
-            ∙ map-map (clearsOf stillIn loadThen) (λ message. phases.written USISRL (byteAt index message) (at message))
+            (zipWith-map (λ master message. clearedAt stillIn (Write USISRL (byteAt index message)) master) at
             messages)
+            (writes-clear messages stillIn openByte (performed messages (loads index) before)
+            ∙ ap (map (clearsOf stillIn openByte))
+            (zipWith-map (λ master message. written USISRL (byteAt index message) master) at messages)
+            ∙ map-map (clearsOf stillIn openByte)
+            (λ message. written USISRL (byteAt index message) (at message)) messages)
             ∙ zip-maps (λ message. clearedAt stillIn (Write USISRL (byteAt index message)) (at message))
-            (λ message. clearsOf stillIn loadThen (phases.written USISRL (byteAt index message) (at message))) messages
+            (λ message. clearsOf stillIn openByte (written USISRL (byteAt index message) (at message))) messages
             ∙ map-alike (everyone (λ message. opening pause (byteAt index message) (standing message)) messages);
       }
 
   -- after the eight turns
   abbrev line : Line
-  line = lineAfter (round.lineAt pause pull level) (byteBits byte)
+  line = lineAfter (lineAt pause pull level) (byteBits byte)
 
   abbrev role : List ℕ → Role
   role message = turnsOf (9 * index) (byteBits byte) (enters pause standing index message)
@@ -392,10 +403,11 @@ module _ (messages : List (List ℕ)) (standing : List ℕ → Standing) (index 
   turns : Clears messages (dataTurns 8 (9 * index)) inside (over (map turned messages) carried) (λ message. 0)
   turns =
       quietly messages (data-turns-quiet 8 (9 * index))
-      (λ message. masterOf 8 [] (round.lineAt pause pull level .sda) (enters pause standing index message))
-      (map-map (masterOf 8 [] (round.lineAt pause pull level .sda)) (enters pause standing index) messages)
+      (λ message. masterOf 8 [] (lineAt pause pull level .sda) (enters pause standing index message))
+      (map-map (masterOf 8 [] (lineAt pause pull level .sda)) (enters pause standing index) messages)
       (phases.data-turns-is messages 8 (9 * index) inside
-      ∙ carried-byte messages standing index byte acknowledge pause pull level old levels carried small fits fair leader
+      ∙ carried-byte messages standing index byte acknowledge pause pull level old levels carried small fits fair
+      leader
       ∙ ap (λ list. over list carried)
       (three-maps (masterOf 0 (byteBits byte) (line .sda)) (turnsOf (9 * index) (byteBits byte))
       (enters pause standing index) messages))
@@ -405,10 +417,10 @@ module _ (messages : List (List ℕ)) (standing : List ℕ → Standing) (index 
   beatenOnes message = applied beaten (Write USICNT 0x80) (applied beaten (Write USICTL0 0xc0) (turned message))
 
   abbrev left : List ℕ → Master
-  left message = phases.withdrawn (turned message)
+  left message = withdrawn (turned message)
 
   abbrev listened : List ℕ → Master
-  listened message = phases.written USICNT 0x01 (phases.written USICTL0 0xc8 (left message))
+  listened message = written USICNT 0x01 (written USICTL0 0xc8 (left message))
 
   withdraws : Clears messages (carries ∷ writes beaten withdraw) (over (map turned messages) carried) (all beatenOnes)
       (λ message. 0)
@@ -431,11 +443,11 @@ module _ (messages : List (List ℕ)) (standing : List ℕ → Standing) (index 
       (ap (λ list. over list (carried ++ byte ∷ [])) (map-map masters.settled beatenOnes messages)))
       (writing messages stillIn listen left refl
       (ap (λ list. over list (carried ++ byte ∷ []))
-      (three-maps (phases.written USICNT 0x01) (phases.written USICTL0 0xc8) left messages))
+      (three-maps (written USICNT 0x01) (written USICTL0 0xc8) left messages))
       (λ message. listening (byteBits byte) (line .sda) (role message)))
       (λ message. refl)
 
-  pub byte-clears : clearedOver messages (byteTurn index acknowledge) before ≡ map flags messages
+  byte-clears : clearedOver messages (byteTurn index acknowledge) before ≡ map flags messages
   byte-clears =
       then messages
       (then messages (then messages (then messages opens turns still) withdraws still) listens
@@ -449,16 +461,7 @@ module _ (messages : List (List ℕ)) (standing : List ℕ → Standing) (index 
       still : (message : List ℕ) → bitOr (flags message) 0 ≡ flags message
       still message = or-zero-r (flags message)
 
--- step 4: IFG is cleared, of those still in
-abbrev sendLow : List (ℕ × ℕ)
-sendLow = (USICTL0, 0xca) ∷ (USISRL, 0x00) ∷ (USICNT, 0x01) ∷ []
-
-abbrev letRise : List (ℕ × ℕ)
-letRise = (USISRL, 0xff) ∷ (USICTL0, 0xce) ∷ []
-
-abbrev finish : List (ℕ × ℕ)
-finish = (USICTL0, 0xc8) ∷ []
-
+-- step 4: what one master's writes clear, as it stands
 abbrev stopSeen : Standing → Master
 stopSeen standing = masters.withUsi (turn.samples true true (letsRise standing)) (standingAs letsRise standing)
 
@@ -478,6 +481,7 @@ unfolding clearedAt applied writeByte settled followed conditionFlags conditionC
 finishing stays = refl
 finishing (out register latch position) = refl
 
+-- step 4: IFG is cleared, of those still in
 module _ (messages : List (List ℕ)) (standing : List ℕ → Standing) (byte : ℕ) (ninth pull : Bool) (level old : ℕ)
     (levels carried : List ℕ) (one : Someone (λ message. isIn (standing message) ≡ true) messages) where
   abbrev allAs : (Standing → Usi) → Bool → ℕ → List ℕ → Bus
@@ -490,7 +494,8 @@ module _ (messages : List (List ℕ)) (standing : List ℕ → Standing) (byte :
   abbrev ifIn : List ℕ → ℕ
   ifIn message = boolByte (isIn (standing message))
 
-  sends-low : Clears messages (writes stillIn sendLow) waiting (allAs (lastBit (afterByte byte ninth)) pull level levels) ifIn
+  sends-low : Clears messages (writes stillIn sendLow) waiting
+      (allAs (lastBit (afterByte byte ninth)) pull level levels) ifIn
   unfolding performed
   sends-low =
       writing messages stillIn sendLow (λ message. masterAt (afterByte byte ninth) (standing message)) refl
@@ -500,8 +505,8 @@ module _ (messages : List (List ℕ)) (standing : List ℕ → Standing) (byte :
   low-bit : Clears messages (bitTurn false) (allAs (lastBit (afterByte byte ninth)) pull level levels)
       (allAs lowBit false 1 (levels ++ 0 ∷ 1 ∷ [])) (λ message. 0)
   low-bit =
-      quietly messages (bit-turn-quiet false) (λ message. standingAs (lastBit (afterByte byte ninth)) (standing message))
-      refl
+      quietly messages (bit-turn-quiet false)
+      (λ message. standingAs (lastBit (afterByte byte ninth)) (standing message)) refl
       (phases.bit-turn-is messages false (allAs (lastBit (afterByte byte ninth)) pull level levels)
       ∙ ends.low-bit messages standing byte ninth pull level old levels carried one)
 
@@ -515,7 +520,8 @@ module _ (messages : List (List ℕ)) (standing : List ℕ → Standing) (byte :
 
   abbrev stopAt : Bus
   stopAt =
-      busOf (map (λ message. stopSeen (standing message)) messages) false 3 old (levels ++ 0 ∷ 1 ∷ [] ++ 3 ∷ []) carried
+      busOf (map (λ message. stopSeen (standing message)) messages) false 3 old (levels ++ 0 ∷ 1 ∷ [] ++ 3 ∷ [])
+      carried
 
   sees-stop : Clears messages (samples ∷ records ∷ []) (allAs letsRise false 1 (levels ++ 0 ∷ 1 ∷ [])) stopAt
       (λ message. 0)
@@ -528,9 +534,10 @@ module _ (messages : List (List ℕ)) (standing : List ℕ → Standing) (byte :
       (ap not (any-none (everyone (λ message. ends.quiet-scl (standing message)) messages)))
       (ap not (any-none (everyone (λ message. ends.quiet-sda (standing message)) messages))))
 
-  pub stop-clears : clearedOver messages stop waiting ≡ map ifIn messages
+  stop-clears : clearedOver messages stop waiting ≡ map ifIn messages
   stop-clears =
-      then messages (then messages (then messages (then messages sends-low low-bit still) lets-rise still) sees-stop still)
+      then messages
+      (then messages (then messages (then messages sends-low low-bit still) lets-rise still) sees-stop still)
       (writing messages stillIn finish (λ message. stopSeen (standing message)) refl refl
       (λ message. finishing (standing message)))
       still
@@ -546,18 +553,18 @@ still-in : (index : ℕ) (carried more message : List ℕ)
 still-in index [] more message = refl
 still-in index (byte ∷ carried) more [] = refl
 still-in index (byte ∷ carried) more (own ∷ message) =
-    go (eqb own byte) (still-in (suc index) carried more message)
+    go (eqb own byte) (against (suc index) carried message) (against (suc index) (carried ++ more) message)
+    (still-in (suc index) carried more message)
   where
-    go : (same : Bool)
-        → isIn (against (suc index) carried message) || isIn (against (suc index) (carried ++ more) message)
-        ≡ isIn (against (suc index) carried message)
-        → isIn (cond same (against (suc index) carried message) (out byte (isSet 0 own) (positionIn byte own index)))
-        || isIn (cond same (against (suc index) (carried ++ more) message) (out byte (isSet 0 own) (positionIn byte own index)))
-        ≡ isIn (cond same (against (suc index) carried message) (out byte (isSet 0 own) (positionIn byte own index)))
-    go true rest = rest
-    go false rest = refl
+    lost-here : Standing
+    lost-here = out byte (isSet 0 own) (positionIn byte own index)
 
--- a master with its IFG, if it is still in after carried bytes
+    go : (same : Bool) (one other : Standing) → isIn one || isIn other ≡ isIn one
+        → isIn (cond same one lost-here) || isIn (cond same other lost-here) ≡ isIn (cond same one lost-here)
+    go true one other rest = rest
+    go false one other rest = refl
+
+-- IFG of those that are still in after carried bytes
 abbrev ifgOf : List ℕ → List ℕ → ℕ
 ifgOf carried message = boolByte (isIn (against 0 carried message))
 
@@ -617,6 +624,7 @@ module _ (messages : List (List ℕ)) (acknowledge : ℕ) (acknowledges : List �
       record { leads = refl; is = clears } in
       unrolled false test ∙ then messages here next joins .is
 
+-- all bytes: IFG of those that are in before the first of them
 bytes-clear : (messages : List (List ℕ)) (acknowledges : List ℕ) (index : ℕ) (carried : List ℕ) (byte : ℕ)
     (more : List ℕ) (pause : Pause) (levels : List ℕ)
     → Contest messages (carried ++ byte ∷ more) → length carried ≡ index
@@ -671,11 +679,12 @@ bytes-performed messages (acknowledge ∷ acknowledges) index bus =
     go true later = refl
     go false later = later
 
--- both flags, and IFG again
+-- both flags, and IFG again or not
 all-along : (again : Bool) → bitOr 0x03 (boolByte again) ≡ 0x03
 all-along true = refl
 all-along false = refl
 
+-- the whole script
 script-clears : (messages : List (List ℕ)) (acknowledges winner : List ℕ) → Contest messages winner
     → Sendable acknowledges winner
     → Everyone (λ acknowledge. acknowledge ≤ 1) acknowledges

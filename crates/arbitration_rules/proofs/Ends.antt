@@ -25,22 +25,22 @@ use Rattle.arbitration_rules.proofs.Pause.{standingAs, masterAt}
 use Rattle.arbitration_rules.proofs.Round.{waits}
 
 -- the writes of step 1 and of step 4, as 01 lists them
-abbrev prepare : List (ℕ × ℕ)
+abbrev pub prepare : List (ℕ × ℕ)
 prepare = (USICKCTL, 0x22) ∷ (USICTL1, 0x41) ∷ (USICTL0, 0xc8) ∷ []
 
-abbrev pullLow : List (ℕ × ℕ)
+abbrev pub pullLow : List (ℕ × ℕ)
 pullLow = (USISRL, 0x00) ∷ (USICTL0, 0xce) ∷ (USICTL0, 0xca) ∷ []
 
-abbrev clearStart : List (ℕ × ℕ)
+abbrev pub clearStart : List (ℕ × ℕ)
 clearStart = (USICTL1, 0x41) ∷ []
 
-abbrev sendLow : List (ℕ × ℕ)
+abbrev pub sendLow : List (ℕ × ℕ)
 sendLow = (USICTL0, 0xca) ∷ (USISRL, 0x00) ∷ (USICNT, 0x01) ∷ []
 
-abbrev letRise : List (ℕ × ℕ)
+abbrev pub letRise : List (ℕ × ℕ)
 letRise = (USISRL, 0xff) ∷ (USICTL0, 0xce) ∷ []
 
-abbrev finish : List (ℕ × ℕ)
+abbrev pub finish : List (ℕ × ℕ)
 finish = (USICTL0, 0xc8) ∷ []
 
 -- a module made ready, before and after it has seen the lines; one that pulls SDA low, before and after it has seen
@@ -68,7 +68,7 @@ module _ {P : List ℕ → Type 0} (messages : List (List ℕ)) (one : Someone P
   everybody-pulls : any {A = List ℕ} (λ message. true) messages ≡ true
   everybody-pulls = any-one (someone-so (λ message h. refl) one)
 
-  abbrev pub same : Usi → ℕ → List ℕ → Bus
+  abbrev same : Usi → ℕ → List ℕ → Bus
   same usi level levels = busOf (map (alike usi) messages) false level 0 levels []
 
   pub first-sample : recorded (same ready 0 []) ≡ same seen 3 (3 ∷ [])
@@ -157,7 +157,7 @@ sees-stop (out register latch position) = refl
 -- the STOP: who is in drives one low bit, then lets SDA rise
 module _ (messages : List (List ℕ)) (standing : List ℕ → Standing) (byte : ℕ) (ninth pull : Bool) (level old : ℕ)
     (levels carried : List ℕ) (one : Someone (λ message. isIn (standing message) ≡ true) messages) where
-  abbrev pub allAs : (Standing → Usi) → Bool → ℕ → List ℕ → Bus
+  abbrev allAs : (Standing → Usi) → Bool → ℕ → List ℕ → Bus
   allAs usi pulling seen recording =
       busOf (map (λ message. standingAs usi (standing message)) messages) pulling seen old recording carried
 

@@ -129,23 +129,23 @@ module _ (messages : List (List ℕ)) (standing : List ℕ → Standing) (index 
     (fair : Everyone (λ message. isIn (standing message) ≡ true → byte ≤ byteAt index message) messages)
     (leader : Someone (λ message. (isIn (standing message) ≡ true) × (byteAt index message ≡ byte)) messages) where
   -- the line before and after the eight turns, and the roles
-  abbrev pub line : Line
+  abbrev line : Line
   line = lineAt pause pull level
 
-  abbrev pub end : Line
+  abbrev end : Line
   end = lineAfter line (byteBits byte)
 
-  abbrev pub entered : List Role
+  abbrev entered : List Role
   entered = map (enters pause standing index) messages
 
-  abbrev pub sent : List Role
+  abbrev sent : List Role
   sent = map (turnsOf (9 * index) (byteBits byte)) entered
 
   -- how each master stands then
   abbrev next : List ℕ → Standing
   next message = standingAfter index byte (byteAt index message) (standing message)
 
-  abbrev pub drawing : List ℕ
+  abbrev drawing : List ℕ
   drawing = levels ++ drawBits (byteBits byte)
 
   all : Everyone (Within (byteBits byte)) entered
