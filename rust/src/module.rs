@@ -155,6 +155,13 @@ impl Module {
         self.write(address, low)?.write(address + 1, high)
     }
 
+    /// The flags of USICTL1 (AL, STP, STTIFG, IFG) that were 1 before a write and are 0 after it (02: Ask 12).
+    pub fn cleared_since(&self, before: &Module) -> u8 {
+        let flags = |module: &Module| [AL, STP, STTIFG, IFG].map(|flag| module.is(flag));
+        let both = flags(before).into_iter().zip(flags(self));
+        both.fold(0, |bits, (was, is)| bits << 1 | u8::from(was && !is))
+    }
+
     /// Write to USICNT: CNT above 0 with IFGCC=0 clears IFG and STP; CNT=0 sets IFG.
     fn count_written(&mut self) {
         if self.count() > 0 && !self.is(IFGCC) {

@@ -1,7 +1,7 @@
 //! The C functions of the proved library as a trait, and the model behind the same functions.
 //!
 //! A module is one number: six registers from bit 0 up, the hidden state in bits 48 to 54; a step's answer has
-//! the refusal number in bits 56 to 63.
+//! the refusal number in bits 55 to 59, a write's also the flags that it cleared in bits 60 to 63.
 
 use crate::arbitration::{runner, Request, Run, MASTERS};
 use crate::bus;
@@ -25,7 +25,7 @@ pub struct Buffers {
     pub carried: Vec<u8>,
     pub levels: Vec<u8>,
     pub modules: Vec<u64>,
-    /// Of each master twice its position, and 1 more while it contends.
+    /// Of each master: 1 while it contends, from bit 1 the flags that its writes cleared, from bit 5 its position.
     pub seats: Vec<u32>,
 }
 
@@ -94,8 +94,15 @@ pub fn unpack(packed: u64) -> Module {
 fn step(packed: u64, step: impl Fn(Module) -> Result<Module, Refusal>) -> u64 {
     match step(unpack(packed)) {
         Ok(next) => pack(&next),
-        Err(refusal) => packed & MODULE | u64::from(refusal.number()) << 56,
+        Err(refusal) => packed & MODULE | u64::from(refusal.number()) << 55,
     }
+}
+
+/// The same of a write, with the flags that it cleared.
+fn written(packed: u64, write: impl Fn(Module) -> Result<Module, Refusal>) -> u64 {
+    let before = unpack(packed);
+    let cleared = write(before).map_or(0, |after| after.cleared_since(&before));
+    step(packed, write) | u64::from(cleared) << 60
 }
 
 /// A value read, or the refusal number times 65536.
@@ -114,11 +121,11 @@ impl Interface for Model {
     }
 
     fn write(&self, module: u64, address: u16, value: u8) -> u64 {
-        step(module, |module| module.write(address, value))
+        written(module, |module| module.write(address, value))
     }
 
     fn write_word(&self, module: u64, address: u16, value: u16) -> u64 {
-        step(module, |module| module.write_word(address, value))
+        written(module, |module| module.write_word(address, value))
     }
 
     fn sample(&self, module: u64, level: u8) -> u64 {
@@ -188,6 +195,8 @@ fn fill(run: &Run, lent: Lent) {
     lent.levels[..outcome.levels.len()].copy_from_slice(&outcome.levels);
     for master in 0..MASTERS {
         lent.modules[master] = pack(&run.modules[master]);
-        lent.seats[master] = 2 * u32::from(outcome.positions[master]) + u32::from(outcome.remaining[master]);
+        lent.seats[master] = 32 * u32::from(outcome.positions[master])
+            + 2 * u32::from(run.cleared[master])
+            + u32::from(outcome.remaining[master]);
     }
 }

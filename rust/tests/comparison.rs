@@ -24,6 +24,9 @@ enum Wrong {
     StillIn,
     LevelsRest,
     RefusedModules,
+    SetsCounted,
+    WordsLowByte,
+    LosersCleared,
 }
 
 impl Interface for Wrong {
@@ -34,8 +37,8 @@ impl Interface for Wrong {
     fn write(&self, module: u64, address: u16, value: u8) -> u64 {
         let next = Model.write(module, address, value);
         match self {
-            Wrong::HighBitsMatter => next | module & !MODULE & !(0xFF << 56),
-            Wrong::RefusalNumber if next >> 56 == 1 => next ^ 3 << 56,
+            Wrong::HighBitsMatter => next | module & 1 << 55,
+            Wrong::RefusalNumber if next >> 55 & 31 == 1 => next ^ 3 << 55,
             _ => next,
         }
     }
@@ -91,7 +94,7 @@ impl Interface for Wrong {
         let reply = Model.arbitrate(asked, lent);
         let carried = (reply >> 24 & 0xFFFF) as usize;
         match self {
-            Wrong::Position if carried == 32 => seats[0] ^= 2,
+            Wrong::Position if carried == 32 => seats[0] ^= 32,
             Wrong::Module if carried > 5 => modules[asked.lengths.len() - 1] ^= 1 << 48,
             Wrong::StillIn if asked.lengths.len() == 8 && reply & 0xFF == 0 => seats[7] ^= 1,
             Wrong::LevelsRest if reply & 0xFF == 0 => {
