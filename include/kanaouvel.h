@@ -44,4 +44,9 @@ uint64_t arbitrate(const uint8_t *bytes, size_t bytes_length, const uint32_t *le
                    const uint8_t *acks, size_t acks_length, uint8_t *carried, size_t carried_length, uint8_t *levels,
                    size_t levels_length, uint64_t *modules, size_t modules_length, uint32_t *seats,
                    size_t seats_length);
+
+/* Which of such messages is least, the first of equal ones (0 where there is none), and how many comparisons of two
+ * messages find it: one for each message but the first. A message that runs past the bytes is cut there. */
+uint64_t least_message(const uint8_t *bytes, size_t bytes_length, const uint32_t *lengths, size_t lengths_length);
+uint64_t least_comparisons(const uint8_t *bytes, size_t bytes_length, const uint32_t *lengths, size_t lengths_length);
 #endif

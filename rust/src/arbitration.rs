@@ -96,14 +96,25 @@ fn check_lengths(bytes: &[u8], lengths: &[u32]) -> Result<(), Refusal> {
     Ok(())
 }
 
-/// The messages, one after the other in the lent bytes.
-fn cut(bytes: &[u8], lengths: &[u32]) -> Vec<Vec<u8>> {
+/// The messages, one after the other in the lent bytes; one that runs past them is cut there.
+pub fn cut(bytes: &[u8], lengths: &[u32]) -> Vec<Vec<u8>> {
     let mut rest = bytes;
     let mut messages = Vec::new();
     for &length in lengths {
-        let (message, after) = rest.split_at(length as usize);
+        let (message, after) = rest.split_at(rest.len().min(length as usize));
         messages.push(message.to_vec());
         rest = after;
     }
     messages
+}
+
+/// The first of the least messages, and how many comparisons of two messages found it (02: Ask 3).
+pub fn least(messages: &[Vec<u8>]) -> (usize, usize) {
+    let mut comparisons = 0;
+    let in_order = |&one: &usize, &other: &usize| {
+        comparisons += 1;
+        messages[one].cmp(&messages[other])
+    };
+    let index = (0..messages.len()).min_by(in_order).unwrap_or(0);
+    (index, comparisons)
 }

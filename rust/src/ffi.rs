@@ -46,6 +46,8 @@ extern "C" {
         seats: *mut u32,
         seats_len: usize,
     ) -> u64;
+    fn least_message(bytes: *const u8, bytes_len: usize, lengths: *const u32, lengths_len: usize) -> u64;
+    fn least_comparisons(bytes: *const u8, bytes_len: usize, lengths: *const u32, lengths_len: usize) -> u64;
 }
 
 /// The proved library.
@@ -133,6 +135,13 @@ impl Interface for Archive {
             )
         }
     }
+
+    fn least(&self, bytes: &[u8], lengths: &[u32]) -> (u64, u64) {
+        let ask = |call: unsafe extern "C" fn(*const u8, usize, *const u32, usize) -> u64| unsafe {
+            call(bytes.as_ptr(), bytes.len(), lengths.as_ptr(), lengths.len())
+        };
+        (ask(least_message), ask(least_comparisons))
+    }
 }
 
 /// The proved library, which is lent every buffer between guards; a call that writes one panics.
@@ -211,5 +220,9 @@ impl Interface for Guarded {
                 })
             })
         })
+    }
+
+    fn least(&self, bytes: &[u8], lengths: &[u32]) -> (u64, u64) {
+        Archive.least(bytes, lengths)
     }
 }

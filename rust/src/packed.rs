@@ -3,7 +3,7 @@
 //! A module is one number: six registers from bit 0 up, the hidden state in bits 48 to 54; a step's answer has
 //! the refusal number in bits 55 to 59, a write's also the flags that it cleared in bits 60 to 63.
 
-use crate::arbitration::{runner, Request, Run, MASTERS};
+use crate::arbitration::{self, runner, Request, Run, MASTERS};
 use crate::bus;
 use crate::module::Module;
 use crate::refusal::{Reason, Refusal};
@@ -61,6 +61,8 @@ pub trait Interface {
     fn decode(&self, stamps: &[u32], levels: &[u8], events: &mut [u16]) -> u64;
     fn encode(&self, events: &[u16], start: u32, gap: u32, stamps: &mut [u32], levels: &mut [u8]) -> u64;
     fn arbitrate(&self, asked: &Asked, lent: Lent) -> u64;
+    /// The index of the least message, and how many comparisons found it.
+    fn least(&self, bytes: &[u8], lengths: &[u32]) -> (u64, u64);
 }
 
 /// The model of this crate.
@@ -177,6 +179,11 @@ impl Interface for Model {
         }
         fill(&run, lent);
         (run.outcome.carried.len() as u64) << 24
+    }
+
+    fn least(&self, bytes: &[u8], lengths: &[u32]) -> (u64, u64) {
+        let (index, comparisons) = arbitration::least(&arbitration::cut(bytes, lengths));
+        (index as u64, comparisons as u64)
     }
 }
 

@@ -1,5 +1,6 @@
 //! The comparison itself: the model behind the C functions is equal to the model, and wrong sides are found.
 
+use rehearsal_model::arbitration::cut;
 use rehearsal_model::compare::{run, Comparison, COMPARISONS};
 use rehearsal_model::packed::{Asked, Interface, Lent, Model, MODULE};
 
@@ -24,6 +25,8 @@ enum Wrong {
     StillIn,
     LevelsRest,
     RefusedModules,
+    LastOfEquals,
+    TwoPasses,
     SetsCounted,
     WordsLowByte,
     LosersCleared,
@@ -37,6 +40,7 @@ impl Interface for Wrong {
     fn write(&self, module: u64, address: u16, value: u8) -> u64 {
         let next = Model.write(module, address, value);
         match self {
+            Wrong::SetsCounted => next | (!module >> 8 & next >> 8 & 15) << 60,
             Wrong::HighBitsMatter => next | module & 1 << 55,
             Wrong::RefusalNumber if next >> 55 & 31 == 1 => next ^ 3 << 55,
             _ => next,
@@ -45,7 +49,8 @@ impl Interface for Wrong {
 
     fn write_word(&self, module: u64, address: u16, value: u16) -> u64 {
         let address = if *self == Wrong::OddWord && address == 0x07F { 0x07E } else { address };
-        Model.write_word(module, address, value)
+        let next = Model.write_word(module, address, value);
+        next & if *self == Wrong::WordsLowByte { u64::MAX >> 4 } else { u64::MAX }
     }
 
     fn sample(&self, module: u64, level: u8) -> u64 {
@@ -97,6 +102,9 @@ impl Interface for Wrong {
             Wrong::Position if carried == 32 => seats[0] ^= 32,
             Wrong::Module if carried > 5 => modules[asked.lengths.len() - 1] ^= 1 << 48,
             Wrong::StillIn if asked.lengths.len() == 8 && reply & 0xFF == 0 => seats[7] ^= 1,
+            Wrong::LosersCleared if reply & 0xFF == 0 => {
+                seats.iter_mut().filter(|seat| **seat > 0 && **seat & 1 == 0).for_each(|seat| *seat |= 16)
+            }
             Wrong::LevelsRest if reply & 0xFF == 0 => {
                 levels.iter_mut().skip(585).for_each(|level| *level = 0)
             }
@@ -104,6 +112,17 @@ impl Interface for Wrong {
             _ => {}
         }
         reply
+    }
+
+    fn least(&self, bytes: &[u8], lengths: &[u32]) -> (u64, u64) {
+        let (index, comparisons) = Model.least(bytes, lengths);
+        let messages = cut(bytes, lengths);
+        let last = messages.iter().rposition(|message| messages.get(index as usize) == Some(message));
+        match self {
+            Wrong::LastOfEquals => (last.unwrap_or(0) as u64, comparisons),
+            Wrong::TwoPasses => (index, 2 * comparisons),
+            _ => (index, comparisons),
+        }
     }
 }
 
@@ -162,6 +181,7 @@ fn every_refusal_occurs() {
 fn wrong_modules_are_found() {
     use Wrong::*;
     let wrong = [PowerUp, KeptScl, RefusalNumber, OddWord, NeverWaits, HighBitsMatter, ReadsZero, Lines];
+    check_detected("step sequences", &[SetsCounted, WordsLowByte]);
     check_detected("step sequences", &wrong);
 }
 
@@ -175,5 +195,5 @@ fn wrong_readers_and_writers_are_found() {
 #[test]
 fn wrong_arbitrations_are_found() {
     use Wrong::*;
-    check_detected("arbitrations", &[Position, Module, StillIn, LevelsRest, RefusedModules]);
+    check_detected("arbitrations", &[Position, Module, StillIn, LevelsRest, RefusedModules, LastOfEquals, TwoPasses, LosersCleared]);
 }

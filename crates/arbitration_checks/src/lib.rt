@@ -11,6 +11,8 @@ mod order; // order.rt: two messages compared, and the least of several
 use arbitration_rules::MAX_MASTERS;
 use laws::Refusal;
 pub use messages::end_of;
+pub use order::least_message;
+pub use order::Least;
 
 // The first refusal of 12 to 16 that applies, and how many bytes the bus will carry, 0 at a refusal.
 pub struct Settled {
@@ -46,7 +48,7 @@ fn decide(bytes: &[u8], lengths: &[u32], acks: &[u8]) -> Settled
     if (acks.len() != lengths::longest(lengths)) | acknowledges::any_above_one(acks) {
         return stopped(15, 0);
     }
-    let least = order::least(bytes, lengths);
+    let least = order::least_message(bytes, lengths);
     let from = least.from;
     let to = least.to;
     let message = &bytes[from..to];

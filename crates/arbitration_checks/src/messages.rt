@@ -46,7 +46,7 @@ pub(crate) fn first_read(bytes: &[u8], lengths: &[u32]) -> usize
     i
 }
 
-// A message is a proper beginning of some message.
+// A message is a proper beginning of some message (16). These comparisons are not counted.
 pub(crate) fn begins_any(message: &[u8], bytes: &[u8], lengths: &[u32]) -> bool
     ensures { λ r. ⌜ r
         ≡ any (begins (now (message .entry))) (messagesOf (now (lengths .entry)) (now (bytes .entry))) ⌝ }
@@ -55,7 +55,7 @@ pub(crate) fn begins_any(message: &[u8], bytes: &[u8], lengths: &[u32]) -> bool
     let mut i: usize = 0;
     while i < lengths.len() {
         let to = end_of(bytes.len(), from, lengths[i]);
-        if order::compare(message, &bytes[from..to]).begins {
+        if order::compare(message, &bytes[from..to], 0).begins {
             return true;
         }
         from = to;

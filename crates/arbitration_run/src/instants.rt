@@ -75,7 +75,8 @@ fn sample(effect: Effect, ticks: bool) -> Instant
     }
 }
 
-// Step 1.
+// Step 1. The bus is idle, both lines high, until the pull; SCL stays high in the sample that shows START, and falls once
+// its flag is cleared.
 fn opening(at: usize) -> Instant
     ensures { λ r. ⌜ r ≡ rows.opening at ⌝ }
 {
@@ -105,6 +106,7 @@ fn turn(at: usize, pull: Effect, last: Effect, ticks: bool) -> Instant
 fn byte(at: usize) -> Instant
     ensures { λ r. ⌜ r ≡ rows.byte at ⌝ }
 {
+    // SCL is low here, since START or the acknowledge's turn: SDA may change
     if at == 0 {
         return Instant {
             operation: Operation::Load,
@@ -121,6 +123,7 @@ fn byte(at: usize) -> Instant
             bit < 7,
         );
     }
+    // SCL is low here, after the eighth bit: whoever lets go of SDA makes no STOP
     if at == 25 {
         return Instant {
             operation: Operation::LetGo,
@@ -135,12 +138,14 @@ fn byte(at: usize) -> Instant
 fn closing(at: usize) -> Instant
     ensures { λ r. ⌜ r ≡ rows.closing at ⌝ }
 {
+    // SCL is low here, after the last acknowledge: SDA goes low unseen
     if at == 0 {
         return write(Operation::Lower, true);
     }
     if at < 4 {
         return turn(at - 1, Effect::Release, Effect::Record, false);
     }
+    // SCL is high here and SDA low: its rise is the STOP
     if at == 4 {
         return write(Operation::Raise, false);
     }

@@ -39,6 +39,23 @@ pub record Returned : Type 0 where
   pub modules : List ℕ
   pub seats : List ℕ
 
+-- both, of the slices one by one
+abbrev pub lent : List ℕ → List ℕ → List ℕ → List ℕ → List ℕ → List ℕ → List ℕ → Lent
+lent bytes lengths acks carried levels modules seats =
+    record {
+      bytes = bytes;
+      lengths = lengths;
+      acks = acks;
+      carried = carried;
+      levels = levels;
+      modules = modules;
+      seats = seats;
+    }
+
+abbrev pub gave : ℕ → List ℕ → List ℕ → List ℕ → List ℕ → Returned
+gave answer carried levels modules seats =
+    record { answer = answer; carried = carried; levels = levels; modules = modules; seats = seats }
+
 -- 8: a lent slice is shorter than the reply needs, which has an entry in each table for each of the most masters
 abbrev pub shortTables : ℕ → ℕ → Bool
 shortTables modules seats = ltb modules maxMasters || ltb seats maxMasters

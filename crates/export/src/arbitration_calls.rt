@@ -9,7 +9,7 @@ ghost use Rattle.arbitration_rules.specs.Limits.{maxMasters};
 ghost use Rattle.arbitration_rules.specs.Outcome.{outcome};
 ghost use Rattle.arbitration_rules.specs.Reply.{messagesOf, refused as refusedReply};
 ghost use Rattle.export.specs.Packed.{packed as packedModule};
-ghost use Rattle.export.specs.Arbitration.{Lent, Returned, packedReply, packedSeat, returned, shownIn};
+ghost use Rattle.export.specs.Arbitration.{gave, lent, packedReply, packedSeat, returned, shownIn};
 use arbitration::Arbitrated;
 use arbitration_rules::MAX_MASTERS;
 use arbitration_rules::Seat;
@@ -77,32 +77,12 @@ pub extern "C" fn arbitrate(
     modules: &mut [u64],
     seats: &mut [u32],
 ) -> u64
-    ensures returns { λ r. ⌜ _≡_ {A = Returned}
-        (record {
-          answer = r;
-          carried = now (carried .exit);
-          levels = now (levels .exit);
-          modules = now (modules .exit);
-          seats = now (seats .exit);
-        })
-        (returned (record {
-          bytes = now (bytes .entry);
-          lengths = now (lengths .entry);
-          acks = now (acks .entry);
-          carried = now (carried .entry);
-          levels = now (levels .entry);
-          modules = now (modules .entry);
-          seats = now (seats .entry);
-        })) ⌝ }
+    ensures returns { λ r. ⌜ gave r (now (carried .exit)) (now (levels .exit)) (now (modules .exit)) (now (seats .exit))
+        ≡ returned (lent (now (bytes .entry)) (now (lengths .entry)) (now (acks .entry)) (now (carried .entry))
+        (now (levels .entry)) (now (modules .entry)) (now (seats .entry))) ⌝ }
     ensures follows { λ r. ⌜ (r % 256 ≡ 0
         → shownIn (length (now (lengths .entry)))
-        (record {
-          answer = r;
-          carried = now (carried .exit);
-          levels = now (levels .exit);
-          modules = now (modules .exit);
-          seats = now (seats .exit);
-        })
+        (gave r (now (carried .exit)) (now (levels .exit)) (now (modules .exit)) (now (seats .exit)))
         ≡ outcome (messagesOf (now (lengths .entry)) (now (bytes .entry))) (now (acks .entry))) ⌝ }
 {
     if (modules.len() < MAX_MASTERS) | (seats.len() < MAX_MASTERS) {

@@ -36,15 +36,3 @@ pub fn stop(scl_before: bool, sda_before: bool, scl: bool, sda: bool) -> bool
 {
     scl_before & scl & !sda_before & sda
 }
-
-pub fn rises(scl_before: bool, scl: bool) -> bool
-    ensures { λ r. ⌜ r ≡ levels.rises «scl_before» scl ⌝ }
-{
-    !scl_before & scl
-}
-
-pub fn falls(scl_before: bool, scl: bool) -> bool
-    ensures { λ r. ⌜ r ≡ levels.falls «scl_before» scl ⌝ }
-{
-    scl_before & !scl
-}

@@ -1,7 +1,7 @@
 // The USI's registers: their bits and fields by position, the set-up, and what a write to USICNT does to the flags.
 // Crate usi_i2c has the rules of edges, ticks and lines, and crate usi composes them.
 ghost use mathlib.Core.Path.{_≡_};
-ghost use Rattle.usi_registers.specs.Rules.{divider, clockSource, bitCount, counting as countingRule};
+ghost use Rattle.usi_registers.specs.Rules.{divider, counting as countingRule};
 ghost use Rattle.usi_registers.specs.Rules.{fits as fitsRule, countFlags, cleared as clearedRule};
 ghost use Rattle.usi_registers.specs.Rules.{outputEnable, transparent as transparentRule};
 
@@ -63,20 +63,6 @@ pub fn divider(usickctl: u8) -> u8
     ensures { λ r. ⌜ r ≡ divider usickctl ⌝ }
 {
     (usickctl >> 5) & 0x07
-}
-
-// SSEL, the clock source of USICKCTL.
-pub fn clock_source(usickctl: u8) -> u8
-    ensures { λ r. ⌜ r ≡ clockSource usickctl ⌝ }
-{
-    (usickctl >> 2) & 0x07
-}
-
-// CNT, the bit count of USICNT.
-pub fn bit_count(usicnt: u8) -> u8
-    ensures { λ r. ⌜ r ≡ bitCount usicnt ⌝ }
-{
-    usicnt & USICNTX
 }
 
 // CNT above 0.

@@ -3,7 +3,8 @@ use mathlib.Core.Path.{_≡_, refl}
 use mathlib.Core.List.{List, [], _∷_, _++_}
 use Prim.Native.Nat.{ℕ}
 use lib.ListN.{replicate}
-use Rattle.arbitration_rules.specs.Reply.{arbitrated}
+use Rattle.arbitration_rules.specs.Reply.{arbitrated, messagesOf}
+use Rattle.arbitration_checks.specs.Order.{leastIndex}
 use Rattle.worked_numbers.proofs.Computed as computed
 use Rattle.worked_numbers.proofs.Worked.{answer, stopped, winner, idle, in-seat, no-seat}
 
@@ -51,3 +52,10 @@ pub takes-32 : arbitrated (replicate 32 0x90) (32 ∷ []) (replicate 32 0) 32 58
     ≡ answer (winner ∷ replicate 7 idle) 32 (in-seat ∷ replicate 7 no-seat)
 unfolding computed.arbitrated
 takes-32 = refl
+
+-- the least message: P8's second, a beginning of another, the first of equal ones, one that is cut by the bytes' end
+pub least-messages : (leastIndex (messagesOf (2 ∷ 2 ∷ []) (0x90 ∷ 0x12 ∷ 0x90 ∷ 0x0F ∷ [])) ≡ 1)
+    × (leastIndex (messagesOf (2 ∷ 1 ∷ []) (0x90 ∷ 0x12 ∷ 0x90 ∷ [])) ≡ 1)
+    × (leastIndex (messagesOf (1 ∷ 1 ∷ 1 ∷ []) (0x92 ∷ 0x90 ∷ 0x90 ∷ [])) ≡ 1)
+    × (leastIndex (messagesOf (1 ∷ 4294967295 ∷ 1 ∷ []) (0x92 ∷ 0x90 ∷ 0x90 ∷ [])) ≡ 2)
+least-messages = (refl, refl, refl, refl)

@@ -15,6 +15,7 @@ pub fn case(other: &dyn Interface, random: &mut Random, counts: &mut Counts) -> 
     if random.once_in(4) {
         spoil(random, &mut asked);
     }
+    compare_least(other, &asked)?;
     let lent = draw_buffers(random, &asked);
     let ask = |side: &dyn Interface| {
         let mut lent = lent.clone();
@@ -29,6 +30,15 @@ pub fn case(other: &dyn Interface, random: &mut Random, counts: &mut Counts) -> 
     };
     equal(&model, &other, inputs, |(reply, lent)| format!("{}, {lent:X?}", reply_words(*reply)))?;
     compare_outcome(&asked, &lent, &other)
+}
+
+/// Which message is least, and how many comparisons found it: of refused messages too.
+fn compare_least(other: &dyn Interface, asked: &Asked) -> Result<(), Difference> {
+    let (bytes, lengths) = (&asked.bytes, &asked.lengths);
+    let inputs = || format!("least of {bytes:X?}, lengths {lengths:?}");
+    equal(&Model.least(bytes, lengths), &other.least(bytes, lengths), inputs, |(index, comparisons)| {
+        format!("index {index}, {comparisons} comparisons")
+    })
 }
 
 fn reply_words(reply: u64) -> String {

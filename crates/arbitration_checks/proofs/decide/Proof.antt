@@ -27,17 +27,17 @@ returns c =
     ∙ decided-15 (a .bytes .now) (a .lengths .now) (a .acks .now)
     (rw (← c .before .before .any-above-one .ensures, ← at3 .longest .ensures) (c .before .if1 .taken))
 
-least-requires : tie.Need-least-requires
-least-requires c κs = tt
+least-message-requires : tie.Need-least-message-requires
+least-message-requires c κs = tt
 
 sub-message : tie.Need-sub-message
-sub-message c = c .least .ensures .ordered
+sub-message c = c .least-message .ensures .ordered
 
 part-message-start : tie.Need-part-message-start
-part-message-start c = c .least .ensures .ordered
+part-message-start c = c .least-message .ensures .ordered
 
 part-message-end : tie.Need-part-message-end
-part-message-end c = c .least .ensures .within
+part-message-end c = c .least-message .ensures .within
 
 first-refused-requires : tie.Need-first-refused-requires
 first-refused-requires c κs =
@@ -45,7 +45,7 @@ first-refused-requires c κs =
     let at4 = at3 .before in
     let at8 = at4 .before .before .before .before in
     let a = at8 .args in
-    rw (c .before .least .ensures .same) (enough (a .bytes .now) (a .lengths .now) (a .acks .now)
+    rw (c .before .least-message .ensures .same) (enough (a .bytes .now) (a .lengths .now) (a .acks .now)
     (rw (← at3 .any-above-one .ensures, ← at4 .longest .ensures) (c .before .before .if1 .left)))
 
 add-carrying : tie.Need-add-carrying
@@ -62,7 +62,7 @@ returns-2 c =
     let at7 = at6 .before in
     let at11 = at7 .before .before .before .before in
     let a = at11 .args in
-    let same = at4 .least .ensures .same in
+    let same = at4 .least-message .ensures .same in
     let end = rw same at (c .before .before .first-refused .ensures) in
     let less = rw (same, end) at (c .before .if2 .taken) in
     c .carrying .ensures
@@ -86,7 +86,7 @@ returns-3 c =
     let at9 = at8 .before in
     let at13 = at9 .before .before .before .before in
     let a = at13 .args in
-    let same = at6 .least .ensures .same in
+    let same = at6 .least-message .ensures .same in
     let end = rw same at (at4 .first-refused .ensures) in
     let all = rw (same, end) at (at3 .if2 .left) in
     c .stopped2 .ensures
@@ -107,7 +107,7 @@ returns-4 c =
     let at9 = at8 .before in
     let at13 = at9 .before .before .before .before in
     let a = at13 .args in
-    let same = at6 .least .ensures .same in
+    let same = at6 .least-message .ensures .same in
     let end = rw same at (at4 .first-refused .ensures) in
     let all = rw (same, end) at (at3 .if2 .left) in
     c .carrying2 .ensures
@@ -124,7 +124,7 @@ decide-spec =
     any-above-one-requires
     stopped-requires
     returns
-    least-requires
+    least-message-requires
     sub-message
     part-message-start
     part-message-end

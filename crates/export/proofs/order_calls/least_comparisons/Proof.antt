@@ -1,0 +1,13 @@
+-- The count of what was compared.
+use borrow.Author.Needs.{needs}
+use Rattle.export.proofs.order_calls.least_comparisons.Statement.{statement}
+use Rattle.export.proofs.order_calls.least_comparisons.Tie as tie
+
+least-message-requires : tie.Need-least-message-requires
+least-message-requires c κs = tt
+
+returns : tie.Need-returns
+returns c = c .least-message .ensures .counted
+
+pub least-comparisons-spec : {M : Type 1} → statement M
+least-comparisons-spec = tie.close (tie.spec least-message-requires returns)

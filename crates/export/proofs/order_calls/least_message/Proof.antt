@@ -1,0 +1,13 @@
+-- The index that is found.
+use borrow.Author.Needs.{needs}
+use Rattle.export.proofs.order_calls.least_message.Statement.{statement}
+use Rattle.export.proofs.order_calls.least_message.Tie as tie
+
+least-message-requires : tie.Need-least-message-requires
+least-message-requires c κs = tt
+
+returns : tie.Need-returns
+returns c = c .least-message .ensures .foremost
+
+pub least-message-spec : {M : Type 1} → statement M
+least-message-spec = tie.close (tie.spec least-message-requires returns)

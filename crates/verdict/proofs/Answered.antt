@@ -1,0 +1,145 @@
+-- A reply that is not refused, from messages and acknowledges alone: who is still in, and how many bytes are carried.
+use Prim.Native.Nat.{ℕ, zero, suc}
+use mathlib.Core.Path.{_≡_, refl, ap, _∙_}
+use mathlib.Core.Bool.{Bool, cond, true, false}
+use mathlib.Core.List.{List, [], _∷_, _++_, map}
+use mathlib.Core.Option.{Option, none, some}
+use native.Mathlib.Omega.{arith}
+use borrow.Author.Tests.{eq-eqb, eqb-true}
+use lib.Dec.{eqb}
+use lib.ListN.{length, take}
+use Rattle.laws.specs.Everyone.{Everyone, nobody, also, Someone, this, another}
+use Rattle.laws.specs.Refusals.{Check, check}
+use Rattle.laws.proofs.Lists.{someone-so}
+use Rattle.laws.proofs.Refusals.{Numbered, passed, passed-first, numbered-both}
+use Rattle.arbitration_rules.specs.declared.Arbitrated.{Arbitrated}
+use Rattle.arbitration_rules.specs.declared.Seat.{Seat}
+use Rattle.arbitration_rules.specs.Final.{finalMaster}
+use Rattle.arbitration_rules.specs.Outcome.{least, carriedCount, carriedOf, lossFrom, fate, undecided}
+use Rattle.arbitration_rules.specs.Reply.{messagesOf, messageChecks, shortBuffer, refusal, refused, absent, seatOf}
+use Rattle.arbitration_rules.specs.Reply.{padded, answered, arbitrated}
+use Rattle.arbitration_rules.specs.Run.{Bus, run}
+use Rattle.arbitration_rules.proofs.Accepted.{accepted, message-numbered}
+use Rattle.arbitration_rules.proofs.Carry.{Bytes}
+use Rattle.arbitration_rules.proofs.Demand.{Arbitration, ended, contest, carried-length}
+use Rattle.arbitration_rules.proofs.FinalMasters.{final-masters}
+use Rattle.verdict.specs.Verdict.{contenders}
+
+-- the messages that lose nothing against the carried bytes, in their order
+abbrev pub unbeaten : List ℕ → List (List ℕ) → List (List ℕ)
+unbeaten carried [] = []
+unbeaten carried (message ∷ messages) =
+    cond (fate (lossFrom 0 carried message) .contending) (message ∷ unbeaten carried messages)
+    (unbeaten carried messages)
+
+seats-in : (carried : List ℕ) (messages : List (List ℕ)) (seats : List Seat)
+    → contenders (map seatOf (map (finalMaster carried) messages) ++ seats) messages ≡ unbeaten carried messages
+seats-in carried [] [] = refl
+seats-in carried [] (seat ∷ seats) = refl
+seats-in carried (message ∷ messages) seats =
+    ap (λ rest. cond (fate (lossFrom 0 carried message) .contending) (message ∷ rest) rest)
+    (seats-in carried messages seats)
+
+-- whoever sends what is carried loses nothing
+own-start : (index count : ℕ) (message : List ℕ) → lossFrom index (take count message) message ≡ none
+own-start index zero message = refl
+own-start index (suc count) [] = refl
+own-start index (suc count) (byte ∷ message) =
+    rw (eq-eqb byte byte refl) (own-start (suc index) count message)
+
+-- what holds of someone who loses nothing holds of someone unbeaten
+unbeaten-some : {P : List ℕ → Type 0} {messages : List (List ℕ)} (carried : List ℕ)
+    → Someone (λ own. P own × (lossFrom 0 carried own ≡ none)) messages → Someone P (unbeaten carried messages)
+unbeaten-some {P} carried (this {a} {l} (holds, still)) = rw still (this holds)
+unbeaten-some {P} carried (another {a} {l} some-one) =
+    go (fate (lossFrom 0 carried a) .contending) (unbeaten-some carried some-one)
+  where
+    go : (contending : Bool) → Someone P (unbeaten carried l)
+        → Someone P (cond contending (a ∷ unbeaten carried l) (unbeaten carried l))
+    go true rest = another rest
+    go false rest = rest
+
+-- what holds of all who lose nothing holds of everyone unbeaten
+pub unbeaten-every : {P : List ℕ → Type 0} {messages : List (List ℕ)} (carried : List ℕ)
+    → Everyone (λ own. lossFrom 0 carried own ≡ none → P own) messages → Everyone P (unbeaten carried messages)
+unbeaten-every carried nobody = nobody
+unbeaten-every {P} carried (also {a} {l} holds more) = go (lossFrom 0 carried a) holds (unbeaten-every carried more)
+  where
+    go : (loss : Option ℕ) → (loss ≡ none → P a) → Everyone P (unbeaten carried l)
+        → Everyone P (cond (fate loss .contending) (a ∷ unbeaten carried l) (unbeaten carried l))
+    go none holds rest = also (holds refl) rest
+    go (some position) holds rest = rest
+
+-- a reply that is not refused
+module _ (bytes lengths acknowledges : List ℕ) (carriedRoom levelRoom : ℕ) where
+  abbrev pub replyTo : Arbitrated
+  replyTo = arbitrated bytes lengths acknowledges carriedRoom levelRoom
+
+  abbrev messages : List (List ℕ)
+  messages = messagesOf lengths bytes
+
+  abbrev bus : Bus
+  bus = run messages acknowledges
+
+  abbrev carried : List ℕ
+  carried = carriedOf messages acknowledges
+
+  module _ (small : Bytes bytes) (unrefused : replyTo .refusal .number ≡ 0) where
+    none-applies : refusal bytes lengths acknowledges carriedRoom levelRoom .number ≡ 0
+    unfolding arbitrated refused
+    none-applies = go (eqb (refusal bytes lengths acknowledges carriedRoom levelRoom .number) 0) refl
+      where
+        go : (none-so : Bool) → eqb (refusal bytes lengths acknowledges carriedRoom levelRoom .number) 0 ≡ none-so
+            → refusal bytes lengths acknowledges carriedRoom levelRoom .number ≡ 0
+        go true is = eqb-true (refusal bytes lengths acknowledges carriedRoom levelRoom .number) 0 is
+        go false is = rw is at unrefused
+
+    reply-is : replyTo ≡ answered bus
+    unfolding arbitrated
+    reply-is = rw (eq-eqb (refusal bytes lengths acknowledges carriedRoom levelRoom .number) 0 none-applies)
+
+    pub given : Arbitration messages acknowledges
+    given = accepted bytes lengths acknowledges carriedRoom levelRoom small none-applies
+
+    -- refusal 16 does not apply
+    pub decides : undecided messages acknowledges ≡ false
+    unfolding refusal
+    decides =
+        let room : List Check = check 8 (shortBuffer bus carriedRoom levelRoom) ∷ [] in
+        let numbered : Numbered (messageChecks bytes lengths acknowledges ++ room) =
+        numbered-both (messageChecks bytes lengths acknowledges) room
+        (message-numbered bytes lengths acknowledges) ((λ e. omega arith), tt) in
+        let all = passed-first (messageChecks bytes lengths acknowledges) room
+        (passed (messageChecks bytes lengths acknowledges ++ room) numbered none-applies) in
+        all .1 .1 .1 .1 .0
+
+    -- those still in are those that lose nothing against the carried bytes
+    pub those-in : contenders (replyTo .seats) messages ≡ unbeaten carried messages
+    unfolding answered
+    those-in =
+        ap (λ (r : Arbitrated). contenders (r .seats) messages) reply-is
+        ∙ ap (λ masters. contenders (padded absent (map seatOf masters)) messages)
+        (final-masters messages acknowledges given)
+        ∙ seats-in carried messages _
+
+    -- k is what the least message and the acknowledges say
+    pub count-is : replyTo .count ≡ carriedCount (least messages) acknowledges
+    unfolding answered
+    count-is =
+        ap (λ (r : Arbitrated). r .count) reply-is
+        ∙ ap length (ended messages acknowledges given .bytes)
+        ∙ carried-length messages acknowledges
+
+    -- someone still in has the least message
+    pub winner-in : Someone (λ own. own ≡ least messages) (contenders (replyTo .seats) messages)
+    unfolding carriedOf
+    winner-in =
+        rw those-in
+        (unbeaten-some carried
+        (someone-so
+        (λ own same. (
+          same,
+          ap (lossFrom 0 carried) same
+              ∙ own-start 0 (carriedCount (least messages) acknowledges) (least messages),
+        ))
+        (contest messages given .sent)))

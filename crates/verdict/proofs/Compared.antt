@@ -1,0 +1,80 @@
+-- Messages: two compared, one acknowledged, one found by its index.
+use Prim.Native.Nat.{ℕ, suc, _+_, _<_, _≤_, min}
+use mathlib.Core.Path.{_≡_, refl, sym, ap, ap₂}
+use mathlib.Core.Bool.{Bool, true, false, _&&_, false≢true}
+use mathlib.Core.List.{List, [], _∷_}
+use native.Mathlib.Omega.{arith}
+use borrow.Author.Tests.{eq-eqb, eqb-true}
+use lib.Dec.{eqb}
+use lib.ListN.{length, getD, List·getD-eq-default}
+use Rattle.laws.proofs.Bools.{both}
+use Rattle.arbitration_rules.specs.Outcome.{allAcknowledged}
+use Rattle.arbitration_rules.specs.Reply.{messagesOf}
+use Rattle.arbitration_rules.proofs.Accepted.{cut-count}
+use Rattle.arbitration_checks.proofs.Walk as walk
+use Rattle.verdict.specs.Message.{MessageAt}
+use Rattle.verdict.specs.Verdict.{same}
+use Rattle.verdict.proofs.Pairs.{Through}
+
+-- messages of different lengths differ
+pub unequal-lengths : (message other : List ℕ) → (length message ≡ length other → ⊥) → false ≡ same message other
+unequal-lengths [] [] unequal = absurd (unequal refl)
+unequal-lengths [] (other ∷ others) unequal = refl
+unequal-lengths (byte ∷ bytes) [] unequal = refl
+unequal-lengths (byte ∷ bytes) (other ∷ others) unequal =
+    go (eqb byte other) (unequal-lengths bytes others (λ e. unequal (ap suc e)))
+  where
+    go : (equal : Bool) → false ≡ same bytes others → false ≡ equal && same bytes others
+    go true rest = rest
+    go false rest = refl
+
+-- the test says that they are equal
+pub same-self : (message : List ℕ) → same message message ≡ true
+same-self [] = refl
+same-self (byte ∷ bytes) = rw (eq-eqb byte byte refl) (same-self bytes)
+
+pub same-equal : (message other : List ℕ) → same message other ≡ true → message ≡ other
+same-equal [] [] holds = refl
+same-equal [] (other ∷ others) holds = absurd (false≢true holds)
+same-equal (byte ∷ bytes) [] holds = absurd (false≢true holds)
+same-equal (byte ∷ bytes) (other ∷ others) holds =
+    let two = both (eqb byte other) (same bytes others) holds in
+    ap₂ _∷_ (eqb-true byte other (two .0)) (same-equal bytes others (two .1))
+
+-- the bytes compared so far are equal
+abbrev pub Alike : List ℕ → List ℕ → ℕ → Type 0
+Alike message other i = Through same eqb (λ byte other bytes others. refl) message other i
+
+-- the bytes passed so far are acknowledged
+abbrev pub taken : ℕ → ℕ → Bool
+taken byte acknowledge = eqb acknowledge 0
+
+abbrev pub Taken : List ℕ → List ℕ → ℕ → Type 0
+Taken message acknowledges i =
+    Through allAcknowledged taken (λ byte acknowledge bytes acknowledges. refl) message acknowledges i
+
+pub none-left : (message : List ℕ) → allAcknowledged message [] ≡ true
+none-left [] = refl
+none-left (byte ∷ bytes) = refl
+
+-- a message found by its index
+module _ (lengths bytes : List ℕ) (index : ℕ) where
+  pub message-past : length lengths ≤ index → MessageAt lengths bytes index (record { from = 0; to = 0 })
+  message-past past =
+      let all : length (messagesOf lengths bytes) ≤ index = omega (arith, past, cut-count lengths bytes) in
+      record {
+        ordered = omega arith;
+        within = omega arith;
+        same = sym (List·getD-eq-default (messagesOf lengths bytes) [] all);
+      }
+
+  pub message-found : (i from to : ℕ) → walk.At lengths bytes i from → i ≡ index → index < length lengths
+      → to ≡ min (from + getD lengths index 0) (length bytes)
+      → MessageAt lengths bytes index (record { from = from; to = to })
+  message-found i from to at there less end =
+      let here : walk.At lengths bytes index from = rw (← there) at in
+      record {
+        ordered = walk.ordered lengths bytes index from to here less end;
+        within = walk.end-within lengths bytes index from to here less end;
+        same = walk.message-is lengths bytes index from to here less end;
+      }

@@ -1,0 +1,59 @@
+// Messages: where one lies in the bytes, whether two are the same, whether every byte is acknowledged.
+ghost use mathlib.Core.Path.{_≡_};
+ghost use Rattle.arbitration_rules.specs.Outcome.{allAcknowledged};
+ghost use Rattle.verdict.specs.Message.{MessageAt};
+ghost use Rattle.verdict.specs.Verdict.{same as sameOf};
+
+// A part of the bytes: from one index to another.
+pub struct Span {
+    pub from: usize,
+    pub to: usize,
+}
+
+// Where a message lies in the bytes, by its index; an empty part past the last.
+pub fn message_at(bytes: &[u8], lengths: &[u32], index: usize) -> Span
+    ensures { λ r. ⌜ MessageAt (now (lengths .entry)) (now (bytes .entry)) index r ⌝ }
+{
+    if index >= lengths.len() {
+        return Span { from: 0, to: 0 };
+    }
+    let mut from: usize = 0;
+    let mut i: usize = 0;
+    while i < index {
+        from = arbitration_checks::end_of(bytes.len(), from, lengths[i]);
+        i += 1;
+    }
+    let to = arbitration_checks::end_of(bytes.len(), from, lengths[index]);
+    Span { from, to }
+}
+
+// Two messages are the same, byte by byte.
+pub(crate) fn same(message: &[u8], other: &[u8]) -> bool
+    ensures { λ r. ⌜ r ≡ sameOf (now (message .entry)) (now (other .entry)) ⌝ }
+{
+    if message.len() != other.len() {
+        return false;
+    }
+    let mut i: usize = 0;
+    while i < message.len() {
+        if message[i] != other[i] {
+            return false;
+        }
+        i += 1;
+    }
+    true
+}
+
+// Every byte of a message is acknowledged.
+pub(crate) fn acknowledged(message: &[u8], acks: &[u8]) -> bool
+    ensures { λ r. ⌜ r ≡ allAcknowledged (now (message .entry)) (now (acks .entry)) ⌝ }
+{
+    let mut i: usize = 0;
+    while (i < message.len()) & (i < acks.len()) {
+        if acks[i] != 0 {
+            return false;
+        }
+        i += 1;
+    }
+    true
+}
