@@ -15,7 +15,8 @@
 /* the module after power-up, with these shift bytes */
 uint64_t usi_power_up(uint8_t usisrl, uint8_t usisrh);
 
-/* the module after the step in bits 0 to 54, the refusal's number (0: none) from bit 56 on */
+/* the module after the step in bits 0 to 54, the refusal's number (0: none) in bits 55 to 59; of a write the flags of
+ * USICTL1 (AL, STP, STTIFG, IFG from bit 3 down) that it cleared in bits 60 to 63 */
 uint64_t usi_write(uint64_t module, uint16_t address, uint8_t value);
 uint64_t usi_write_word(uint64_t module, uint16_t address, uint16_t value);
 uint64_t usi_sample(uint64_t module, uint8_t level); /* level: SCL + 2 * SDA */
@@ -39,7 +40,8 @@ uint64_t bus_encode(const uint16_t *events, size_t events_length, uint32_t start
 
 /* Masters that start together, with messages that lie in bytes one after the other. The answer: the refusal's number in
  * byte 0, the place in bytes 1 and 2, the count of bytes carried from byte 3 on. Each table has an entry for each of the
- * most masters: a module, and a seat, 1 where the master is still in, plus 2 * the position where it lost. */
+ * most masters: a module, and a seat, 1 where the master is still in, plus 2 * the flags that its writes cleared, plus
+ * 32 * the position where it lost. */
 uint64_t arbitrate(const uint8_t *bytes, size_t bytes_length, const uint32_t *lengths, size_t lengths_length,
                    const uint8_t *acks, size_t acks_length, uint8_t *carried, size_t carried_length, uint8_t *levels,
                    size_t levels_length, uint64_t *modules, size_t modules_length, uint32_t *seats,

@@ -122,9 +122,9 @@ static void arbitrations(void)
     const struct load p10 = {"P10", {0x90, 0x90, 0x00}, 3, {1, 2}, 2, {0, 0}, 2};
     const struct load p11 = {"P11", {0x90, 0x90, 0x00}, 3, {1, 2}, 2, {1, 0}, 2};
     const struct load p12 = {"P12", {0x90, 0x90, 0x00, 0x50}, 4, {1, 2, 1}, 3, {0, 0}, 2};
-    const struct stands p8s[] = {{0x000F80224DC0, 2 * 12}, {0x00FF002245C8, 1}};
-    const struct stands both_in[] = {{0, 1}, {0, 1}};
-    const struct stands two_lost[] = {{0, 0}, {0, 0}, {0, 1}};
+    const struct stands p8s[] = {{0x000F80224DC0, 6 + 32 * 12}, {0x00FF002245C8, 7}};
+    const struct stands both_in[] = {{0, 7}, {0, 7}};
+    const struct stands two_lost[] = {{0, 6}, {0, 6}, {0, 7}};
     carries(&p8, (const uint8_t[]){0x90, 0x0F}, 2, p8s, 2);
     carries(&p9, (const uint8_t[]){0x90}, 1, both_in, 2);
     refused("P10", &p10, 8, 200, 8, 8, 16);
@@ -193,6 +193,8 @@ static void modules(void)
 {
     uint64_t u = usi_power_up(0, 0);
     check(usi_read(usi_write(u, 0x7B, 0x08), 0x79) == 0x00, "P1");
+    check(usi_write(u, 0x7B, 0x08) >> 60 == 1, "P1 clears IFG");
+    check((usi_write(u, 0x7E, 0) >> 55 & 31) == 1 && usi_write(u, 0x7E, 0) >> 60 == 0, "1, nothing cleared");
     check(usi_read(usi_write(u, 0x7B, 0x28), 0x79) == 0x01, "P2");
     check(usi_read(usi_write(usi_write(u, 0x7B, 0x28), 0x7B, 0x00), 0x79) == 0x01, "P3");
     u = usi_write(usi_write(usi_write(u, 0x7A, 0x22), 0x79, 0x41), 0x78, 0xC8);
