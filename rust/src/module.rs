@@ -277,10 +277,19 @@ impl Module {
         }
         let clocking = self.is(MST) && !self.is(IFG) && self.count() > 0;
         let scl_seen_high = self.seen && self.scl;
+        let scl_seen_low = self.seen && !self.scl;
+        if clocking && self.phase && scl_seen_low && self.divider() == 0 {
+            return Err(Reason::NoWaiting.refusal());
+        }
         let mut next = self;
         next.phase = !(clocking && self.phase && scl_seen_high);
         next.settle();
         Ok(next)
+    }
+
+    /// DIV, bits 7 to 5 of USICKCTL: the clock is divided by 2 to this power.
+    const fn divider(&self) -> u8 {
+        self.registers[2] >> 5
     }
 
     /// The lines pulled low; both are released while the set-up doesn't fit.

@@ -20,6 +20,7 @@ pub enum Reason {
     ReadMessage = 14,
     Acknowledges = 15,
     Undecided = 16,
+    NoWaiting = 17,
 }
 
 /// A refusal as a reply states it; the place is 0 where the table gives none.

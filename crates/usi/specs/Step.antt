@@ -159,14 +159,18 @@ sample u level =
     cond (ltb levels.maxLevel level) (Refused 4 u)
     (cond (fits u) (Next (sampled (levels.scl level) (levels.sda level) u)) (Refused 3 u))
 
--- Tick. Refusal 3.
+-- Tick. Refusals 3, 17 (02: Ask 5).
 abbrev pub ticked : Usi → Usi
 ticked u =
     followed (withPhase (rules.phaseAfter (rules.clocks (u .usictl0) (u .usictl1) (u .usicnt)) (u .phase) (u .seen)
     (u .scl)) u)
 
+abbrev pub overruns : Usi → Bool
+overruns u =
+    rules.overruns (u .usickctl) (rules.clocks (u .usictl0) (u .usictl1) (u .usicnt)) (u .phase) (u .seen) (u .scl)
+
 unfoldable pub tick : Usi → Step
-tick u = cond (fits u) (Next (ticked u)) (Refused 3 u)
+tick u = cond (fits u) (cond (overruns u) (Refused 17 u) (Next (ticked u))) (Refused 3 u)
 
 -- A sample and then, where asked, a tick, each with the module that it hands back.
 abbrev pub sampleThen : ℕ → Bool → Usi → Usi

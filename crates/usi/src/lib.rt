@@ -10,6 +10,7 @@ ghost use Rattle.usi.specs.Step.{answered as answeredBy, written, writte
 ghost use Rattle.usi.specs.Step.{readWord, writeWord, arbitrated as arbitratedRule, clocked as clockedRule};
 ghost use Rattle.usi.specs.Step.{bitTaken, recorded as recordedRule, edged as edgedRule, sampled as sampledRule};
 ghost use Rattle.usi.specs.Step.{sample as sampleRule, ticked as tickedRule, tick as tickRule, sampleThen};
+ghost use Rattle.usi.specs.Step.{overruns as overrunsRule};
 
 pub struct Usi {
     pub usictl0: u8,
@@ -417,12 +418,23 @@ impl Usi {
         self.followed()
     }
 
+    // A tick would have to wait for SCL, and the divider is 1, which does not wait.
+    fn overruns(self) -> bool
+        ensures { λ r. ⌜ r ≡ overrunsRule self ⌝ }
+    {
+        let clocking = usi_i2c::clocks(self.usictl0, self.usictl1, self.usicnt);
+        usi_i2c::overruns(self.usickctl, clocking, self.phase, self.seen, self.scl)
+    }
+
     // A tick of the module's clock.
     pub fn tick(self) -> Step
         ensures { λ r. ⌜ r ≡ tickRule self ⌝ }
     {
         if !self.fits() {
             return Step::Refused(3, self);
+        }
+        if self.overruns() {
+            return Step::Refused(17, self);
         }
         Step::Next(self.ticked())
     }
@@ -432,6 +444,9 @@ impl Usi {
         ensures { λ r. ⌜ r ≡ moduleOf (tickRule self) ⌝ }
     {
         if !self.fits() {
+            return self;
+        }
+        if self.overruns() {
             return self;
         }
         self.ticked()
@@ -457,7 +472,7 @@ impl Usi {
         }
         let seen = self.observed(level);
         if ticks {
-            return seen.ticked();
+            return seen.next_tick();
         }
         seen
     }

@@ -12,12 +12,19 @@ returns : tie.Need-returns
 unfolding tick
 returns c = rw (call-false _ _ (c .before .fits2 .ensures) (c .if1 .taken))
 
-ticked-requires : tie.Need-ticked-requires
-ticked-requires c κs = search needs
+overruns-requires : tie.Need-overruns-requires
+overruns-requires c κs = search needs
 
 returns-2 : tie.Need-returns-2
 unfolding tick
-returns-2 c = rw (call-true _ _ (c .before .before .fits2 .ensures) (c .before .if1 .left), c .ticked .ensures)
+returns-2 c = ?
+
+ticked-requires : tie.Need-ticked-requires
+ticked-requires c κs = search needs
+
+returns-3 : tie.Need-returns-3
+unfolding tick
+returns-3 c = rw (call-true _ _ (c .before .before .fits2 .ensures) (c .before .if1 .left), c .ticked .ensures)
 
 pub next-tick-spec : {M : Type 1} → statement M
-next-tick-spec = tie.close (tie.spec fits-requires returns ticked-requires returns-2)
+next-tick-spec = tie.close (tie.spec fits-requires returns overruns-requires returns-2 ticked-requires returns-3)
