@@ -11,8 +11,8 @@ mod order; // order.rt: two messages compared, and the least of several
 use arbitration_rules::MAX_MASTERS;
 use laws::Refusal;
 pub use messages::end_of;
-pub use order::least_message;
 pub use order::Least;
+pub use order::least_message;
 
 // The first refusal of 12 to 16 that applies, and how many bytes the bus will carry, 0 at a refusal.
 pub struct Settled {

@@ -198,7 +198,7 @@ few-seats (flag ∷ flags) (master ∷ masters) (also here rest) = also here (fe
 
 all-few : (count : ℕ) → Everyone Few (replicate count absent)
 all-few zero = nobody
-all-few (suc count) = also (omega arith) (all-few count)
+all-few (suc count) = also {a = absent} (omega arith) (all-few count)
 
 module _ (lent : Lent) (small : Bytes (lent .bytes)) (passes : found lent .number ≡ 0) (enough : short lent ≡ false)
     (roomy : shortTable lent ≡ false) where
@@ -414,7 +414,7 @@ module _ (lent : Lent) (roomy : shortTable lent ≡ false) where
   answered-by-library small done answer exit levelsExit modules seats same none-so is carried-is levels-are
       modules-are seats-are follows-so =
       let ran-so = runs (rw same at none-so) in
-      let its : done ≡ answered (busOf lent) = same ∙ ran-so .1 in
+      let its : done ≡ answered (clearedOf lent) (busOf lent) = same ∙ ran-so .1 in
       let zero-so : eqb (done .refusal .number) 0 ≡ true = eq-eqb (done .refusal .number) 0 none-so in
       let bytes-are : exit ≡ filled (busOf lent .carried) (lent .carried) = carried-is ∙ rw zero-so in
       let recorded-are : levelsExit ≡ filled (busOf lent .levels) (lent .levels) = levels-are ∙ rw zero-so in

@@ -83,7 +83,9 @@ fn write_answer(w: Written) -> u64
     requires { ⌜ (w .refusal < 32) × (w .cleared < 16) ⌝ }
     ensures { λ r. ⌜ r ≡ packedWritten w ⌝ }
 {
-    packed(w.usi) + 36028797018963968 * (w.refusal as u64) + 1152921504606846976 * (w.cleared as u64)
+    packed(w.usi)
+        + 36028797018963968 * (w.refusal as u64)
+        + 1152921504606846976 * (w.cleared as u64)
 }
 
 fn read_answer(r: Read) -> u32
