@@ -2,7 +2,7 @@
 -- register and the byte's other masters: it pulls SCL while low, drives the first bit of USISRL, and at the rise
 -- takes the bus's bit.
 use Prim.Native.Nat.{ℕ}
-use mathlib.Core.Path.{_≡_, ap, ap₂, _∙_}
+use mathlib.Core.Path.{_≡_, refl, ap, ap₂, _∙_}
 use mathlib.Core.Bool.{Bool, cond, true, false, not, _&&_, _||_}
 use Rattle.usi_registers.specs.Rules as setUp
 use Rattle.usi_i2c.specs.Rules as rules
@@ -118,7 +118,7 @@ module _ (control flags count register : ℕ) (clocking : Clocking control flags
       ≡ state control flags count register latch enable false true sda
   unfolding phaseAfter
   tick-down latch enable sda =
-      tick-fits _ (clocking .fitting) refl ∙ held _ (clocking .opaque)
+      tick-fits (between control flags count register latch enable sda) (clocking .fitting) refl ∙ held _ (clocking .opaque)
       ∙ ap (λ runs. state control flags count register latch enable (phaseAfter runs true true true) true sda)
       (clocking .clocks)
 
@@ -148,7 +148,7 @@ module _ (control flags count register : ℕ) (clocking : Clocking control flags
       ≡ state control flags count register latch enable true false sda
   unfolding phaseAfter
   tick-up latch enable sda =
-      tick-fits _ (clocking .fitting) refl ∙ held _ (clocking .opaque)
+      tick-fits (state control flags count register latch enable false false sda) (clocking .fitting) refl ∙ held _ (clocking .opaque)
       ∙ ap (λ runs. state control flags count register latch enable (phaseAfter runs false true false) false sda)
       (clocking .clocks)
 
