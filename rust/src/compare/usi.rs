@@ -74,7 +74,7 @@ fn fitting_value(random: &mut Random, register: usize) -> u8 {
     match register {
         0 => value & 0x2E | 0xC0 | if random.once_in(2) { 0x08 } else { 0x00 },
         1 => value & 0x3F | 0x40,
-        2 => value | 0x02,
+        2 => value & if random.once_in(2) { 0x1F } else { 0xFF } | 0x02,
         3 if random.once_in(4) => value & 0xBF,
         3 => value & 0xA3,
         _ => value,
