@@ -206,8 +206,8 @@ static void modules(void)
     slave = usi_sample(usi_sample(slave, 3), 1);
     check((usi_lines(usi_sample(slave, 0)) & 1) == 1, "P6: held");
     check((usi_lines(usi_sample(usi_write(slave, 0x7B, 0x80), 0)) & 1) == 0, "P6: let go");
-    check(usi_write(u, 0x80, 1) == (u | (uint64_t)1 << 56), "1: the module stays");
-    check(usi_sample(u, 4) == (u | (uint64_t)4 << 56), "4: the module stays");
+    check(usi_write(u, 0x80, 1) == (u | (uint64_t)1 << 55), "1: the module stays");
+    check(usi_sample(u, 4) == (u | (uint64_t)4 << 55), "4: the module stays");
     check(usi_read(u, 0x77) >> 16 == 1 && usi_read_word(u, 0x79) >> 16 == 2, "1 and 2 of reads");
 }
 

@@ -422,6 +422,9 @@ impl Usi {
     fn overruns(self) -> bool
         ensures { λ r. ⌜ r ≡ overrunsRule self ⌝ }
     {
+        if usi_registers::divider(self.usickctl) != 0 {
+            return false;
+        }
         let clocking = usi_i2c::clocks(self.usictl0, self.usictl1, self.usicnt);
         usi_i2c::overruns(self.usickctl, clocking, self.phase, self.seen, self.scl)
     }
