@@ -1,0 +1,3 @@
+-- The laws that the functions' proofs cite, and the theorems about replies.
+pub mod Searched
+pub mod Reply
