@@ -33,7 +33,7 @@ none-empty limits (stamp ∷ stamps) [] empty = refl
 none-empty limits (stamp ∷ stamps) (level ∷ levels) empty = absurd (omega arith)
 
 -- a phase that runs at a sample began no later
-next-began : (phase : Phase) (stamp level : ℕ) → phase .began ≤ stamp → next phase stamp level .began ≤ stamp
+pub next-began : (phase : Phase) (stamp level : ℕ) → phase .began ≤ stamp → next phase stamp level .began ≤ stamp
 unfolding next
 next-began phase stamp level before = go (goesOn phase level)
   where
