@@ -2,14 +2,15 @@
 -- a mode exactly when its gap is wide enough.
 use Prim.Native.Nat.{ℕ, zero, suc, _+_, _*_, _-_, _≤_, _<_}
 use native.Mathlib.Omega.{arith}
+use mathlib.Core.Logic.{_⊎_, inl, inr, ⊎-elim}
 use mathlib.Core.Path.{_≡_, refl, sym, ap, ap₂, _∙_}
 use mathlib.Core.Bool.{Bool, true, false, cond}
 use mathlib.Core.List.{List, [], _∷_, _++_}
 use mir.Val.{boolByte}
-use lib.Dec.{eqb}
+use lib.Dec.{eqb, ltb}
 use lib.ListN.{length, take}
 use lib.Seq.{take-at}
-use borrow.Author.Tests.{eqb-true, eqb-false}
+use borrow.Author.Tests.{eqb-true, eqb-false, ltb-true, ltb-false}
 use Rattle.laws.specs.Buffer.{filled}
 use Rattle.laws.specs.declared.Refusal.{Refusal}
 use Rattle.laws.specs.Refusals.{given}
@@ -39,25 +40,43 @@ use Rattle.phases.specs.DecodedIn.{decodedIn}
 use Rattle.phases.proofs.Reply.{trace-refused, short-refused, long-enough}
 use Rattle.phases.proofs.Apart.{Apart, apart-none, stamps-apart, third-ends}
 
+-- ---- every mode: the reply as it was, or 18 with its place for a trace that decode does not refuse by 5, 6, 4 or 7
+module _ (mode : Mode) (stamps levels : List ℕ) (room : ℕ) where
+  abbrev AsBefore : Type 0
+  AsBefore = decodedIn mode stamps levels room ≡ decoded stamps levels room
+
+  pub record Short : Type 0 where
+    pub trace : Checked stamps levels
+    pub within : firstShort mode stamps levels < length levels
+    pub reply : decodedIn mode stamps levels room ≡ Refused 18 (firstShort mode stamps levels)
+
+  pub before-or-18 : AsBefore ⊎ Short
+  before-or-18 = go (eqb (refusal .number) 0) refl
+    where
+      refusal : Refusal
+      refusal = given (traceChecks stamps levels)
+
+      by-length : (short : Bool) → ltb (firstShort mode stamps levels) (length levels) ≡ short → refusal .number ≡ 0
+          → AsBefore ⊎ Short
+      by-length true is none =
+          let less = ltb-true (firstShort mode stamps levels) (length levels) is in
+          inr (record {
+            trace = checked stamps levels none;
+            within = less;
+            reply = sym (short-refused mode stamps levels room refusal refl none less);
+          })
+      by-length false is none =
+          inl (long-enough mode stamps levels room (ltb-false (firstShort mode stamps levels) (length levels) is))
+
+      go : (none : Bool) → eqb (refusal .number) 0 ≡ none → AsBefore ⊎ Short
+      go true is =
+          by-length (ltb (firstShort mode stamps levels) (length levels)) refl (eqb-true (refusal .number) 0 is)
+      go false is =
+          let some = eqb-false (refusal .number) 0 is in
+          inl (sym (trace-refused mode stamps levels room refusal refl some)
+          ∙ trace-refused-before stamps levels room refusal refl some)
+
 -- ---- unchecked
--- a mode that finds no short phase in any trace reads as decode does
-as-before : (mode : Mode) (stamps levels : List ℕ) (room : ℕ)
-    → (Checked stamps levels → length levels ≤ firstShort mode stamps levels)
-    → decodedIn mode stamps levels room ≡ decoded stamps levels room
-as-before mode stamps levels room long = go (eqb (refusal .number) 0) refl
-  where
-    refusal : Refusal
-    refusal = given (traceChecks stamps levels)
-
-    go : (none : Bool) → eqb (refusal .number) 0 ≡ none
-        → decodedIn mode stamps levels room ≡ decoded stamps levels room
-    go true is =
-        long-enough mode stamps levels room (long (checked stamps levels (eqb-true (refusal .number) 0 is)))
-    go false is =
-        let some = eqb-false (refusal .number) 0 is in
-        sym (trace-refused mode stamps levels room refusal refl some)
-        ∙ trace-refused-before stamps levels room refusal refl some
-
 -- rising stamps are apart by no less than 0
 rising-apart : (stamps : List ℕ) → Rising stamps → Apart 0 stamps
 rising-apart stamps rises = record { apart = λ i within. omega (arith, rises .above i within) }
@@ -66,12 +85,14 @@ rising-apart stamps rises = record { apart = λ i within. omega (arith, rises .a
 pub unchecked-as-before : (stamps levels : List ℕ) (room : ℕ)
     → decodedIn Unchecked stamps levels room ≡ decoded stamps levels room
 unchecked-as-before stamps levels room =
-    as-before Unchecked stamps levels room (λ trace.
-    omega (
-      arith,
-      apart-none (least Unchecked) 0 (omega arith) (omega arith) stamps levels
-          (rising-apart stamps (trace .rises)) (trace .same),
-    ))
+    ⊎-elim (λ same. same)
+    (λ short. absurd (omega (arith, short .within, none (short .trace))))
+    (before-or-18 Unchecked stamps levels room)
+  where
+    none : Checked stamps levels → firstShort Unchecked stamps levels ≡ length levels
+    none trace =
+        apart-none (least Unchecked) 0 (omega arith) (omega arith) stamps levels (rising-apart stamps (trace .rises))
+        (trace .same)
 
 -- ---- what encode draws
 high-is-less : (mode : Mode) → least mode .high ≤ least mode .low
