@@ -34,6 +34,13 @@ uint8_t usi_lines(uint64_t module);
 uint64_t bus_decode(const uint32_t *stamps, size_t stamps_length, const uint8_t *levels, size_t levels_length,
                     uint16_t *events, size_t events_length);
 
+/* The same with stamps in units of 100 ns for a bus in Standard-mode or in Fast-mode: 18, with the sample that ends it,
+ * where a whole phase of SCL is shorter than UM10204 allows (low below 47 or 13, high below 40 or 6). */
+uint64_t bus_decode_standard(const uint32_t *stamps, size_t stamps_length, const uint8_t *levels, size_t levels_length,
+                             uint16_t *events, size_t events_length);
+uint64_t bus_decode_fast(const uint32_t *stamps, size_t stamps_length, const uint8_t *levels, size_t levels_length,
+                         uint16_t *events, size_t events_length);
+
 /* The trace of an event list. The answer: byte 0 the refusal's number, from byte 1 on how many samples there are. */
 uint64_t bus_encode(const uint16_t *events, size_t events_length, uint32_t start, uint32_t gap, uint32_t *stamps,
                     size_t stamps_length, uint8_t *levels, size_t levels_length);

@@ -176,6 +176,21 @@ static void traces(void)
     check((bus_decode(read_stamps, 22, drawn, 23, e, 5) & 255) == 5 && kept_past(&events, 0), "5");
     read_stamps[7] = read_stamps[6];
     check(bus_decode(read_stamps, 23, drawn, 23, e, 5) == 7 + 256 * 7 && kept_past(&events, 0), "7 at sample 7");
+    for (int i = 0; i < 23; i++)
+        read_stamps[i] = 47 * i;
+    check(bus_decode_standard(read_stamps, 23, drawn, 23, e, 5) == (uint64_t)3 << 24, "gap 47 read");
+    check(memcmp(e, list, sizeof list) == 0 && kept_past(&events, sizeof list), "gap 47 events");
+    e = lend(&events, 2 * 5);
+    read_stamps[2]++;
+    check(bus_decode_standard(read_stamps, 23, drawn, 23, e, 5) == 18 + 256 * 3 && kept_past(&events, 0), "18 at 3");
+    check(bus_decode_standard(read_stamps, 23, drawn, 23, NULL, 0) == 18 + 256 * 3, "18 before 8");
+    check(bus_decode_fast(read_stamps, 23, drawn, 23, e, 5) == (uint64_t)3 << 24, "fast reads it");
+    e = lend(&events, 2 * 5);
+    for (int i = 0; i < 23; i++)
+        read_stamps[i] = 12 * i;
+    check(bus_decode_fast(read_stamps, 23, drawn, 23, e, 5) == 18 + 256 * 3 && kept_past(&events, 0), "gap 12");
+    read_stamps[22] = 0;
+    check(bus_decode_fast(read_stamps, 23, drawn, 23, e, 5) == 7 + 256 * 22 && kept_past(&events, 0), "7 before 18");
     t = lend(&stamps, 4 * 22), v = lend(&levels, 24);
     check((bus_encode(list, 3, 10, 5, t, 22, v, 24) & 255) == 8, "8: stamps");
     check(kept_past(&stamps, 0) && kept_past(&levels, 0), "8: stamps, all kept");

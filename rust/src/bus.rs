@@ -52,7 +52,7 @@ pub fn event_samples(levels: &[u8]) -> Vec<usize> {
 }
 
 /// Refusals 5, 6, 4, 7, each looked for in the whole record before the next.
-fn check_record(stamps: &[u32], levels: &[u8]) -> Result<(), Refusal> {
+pub fn check_record(stamps: &[u32], levels: &[u8]) -> Result<(), Refusal> {
     if stamps.len() != levels.len() {
         return Err(Reason::StampsAndLevelsDiffer.refusal());
     }

@@ -1,6 +1,7 @@
 //! The C functions of the proved library's archive, each with a safe wrapper; and the same on guarded memory.
 
 use crate::packed::{Asked, Interface, Lent};
+use crate::phases::Mode;
 use std::fmt::Debug;
 
 extern "C" {
@@ -13,6 +14,22 @@ extern "C" {
     fn usi_read_word(module: u64, address: u16) -> u32;
     fn usi_lines(module: u64) -> u8;
     fn bus_decode(
+        stamps: *const u32,
+        stamps_len: usize,
+        levels: *const u8,
+        levels_len: usize,
+        events: *mut u16,
+        events_len: usize,
+    ) -> u64;
+    fn bus_decode_standard(
+        stamps: *const u32,
+        stamps_len: usize,
+        levels: *const u8,
+        levels_len: usize,
+        events: *mut u16,
+        events_len: usize,
+    ) -> u64;
+    fn bus_decode_fast(
         stamps: *const u32,
         stamps_len: usize,
         levels: *const u8,
@@ -88,8 +105,17 @@ impl Interface for Archive {
     }
 
     fn decode(&self, stamps: &[u32], levels: &[u8], events: &mut [u16]) -> u64 {
+        self.decode_in(Mode::Unchecked, stamps, levels, events)
+    }
+
+    fn decode_in(&self, mode: Mode, stamps: &[u32], levels: &[u8], events: &mut [u16]) -> u64 {
+        let call = match mode {
+            Mode::Unchecked => bus_decode,
+            Mode::Standard => bus_decode_standard,
+            Mode::Fast => bus_decode_fast,
+        };
         unsafe {
-            bus_decode(
+            call(
                 stamps.as_ptr(),
                 stamps.len(),
                 levels.as_ptr(),
@@ -201,6 +227,10 @@ impl Interface for Guarded {
 
     fn decode(&self, stamps: &[u32], levels: &[u8], events: &mut [u16]) -> u64 {
         guarded(events, 0xA5A5, |events| Archive.decode(stamps, levels, events))
+    }
+
+    fn decode_in(&self, mode: Mode, stamps: &[u32], levels: &[u8], events: &mut [u16]) -> u64 {
+        guarded(events, 0xA5A5, |events| Archive.decode_in(mode, stamps, levels, events))
     }
 
     fn encode(&self, events: &[u16], start: u32, gap: u32, stamps: &mut [u32], levels: &mut [u8]) -> u64 {

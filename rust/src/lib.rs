@@ -10,6 +10,7 @@ pub mod compare;
 pub mod ffi;
 pub mod module;
 pub mod packed;
+pub mod phases;
 pub mod random;
 pub mod refusal;
 pub mod rig;

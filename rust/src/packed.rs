@@ -4,8 +4,9 @@
 //! the refusal number in bits 55 to 59, a write's also the flags that it cleared in bits 60 to 63.
 
 use crate::arbitration::{self, runner, Request, Run, MASTERS};
-use crate::bus;
+use crate::bus::{self, Decoded};
 use crate::module::Module;
+use crate::phases::{self, Mode};
 use crate::refusal::{Reason, Refusal};
 
 /// The bits of a packed module.
@@ -59,6 +60,7 @@ pub trait Interface {
     fn read_word(&self, module: u64, address: u16) -> u32;
     fn lines(&self, module: u64) -> u8;
     fn decode(&self, stamps: &[u32], levels: &[u8], events: &mut [u16]) -> u64;
+    fn decode_in(&self, mode: Mode, stamps: &[u32], levels: &[u8], events: &mut [u16]) -> u64;
     fn encode(&self, events: &[u16], start: u32, gap: u32, stamps: &mut [u32], levels: &mut [u8]) -> u64;
     fn arbitrate(&self, asked: &Asked, lent: Lent) -> u64;
     /// The index of the least message, and how many comparisons found it.
@@ -112,6 +114,19 @@ fn value(read: Result<u16, Refusal>) -> u32 {
     read.map_or_else(|refusal| u32::from(refusal.number()) << 16, u32::from)
 }
 
+/// The reader's reply as a number.
+pub fn read(reply: Result<Decoded, Refusal>) -> u64 {
+    match reply {
+        Ok(decoded) => {
+            (decoded.count as u64) << 24
+                | u64::from(decoded.open) << 40
+                | u64::from(decoded.pending) << 48
+                | u64::from(decoded.value) << 56
+        }
+        Err(refusal) => refused(refusal),
+    }
+}
+
 /// A refused reply: number and place.
 fn refused(refusal: Refusal) -> u64 {
     u64::from(refusal.number()) | (refusal.place as u64) << 8
@@ -152,15 +167,11 @@ impl Interface for Model {
     }
 
     fn decode(&self, stamps: &[u32], levels: &[u8], events: &mut [u16]) -> u64 {
-        match bus::decode(stamps, levels, events) {
-            Ok(decoded) => {
-                (decoded.count as u64) << 24
-                    | u64::from(decoded.open) << 40
-                    | u64::from(decoded.pending) << 48
-                    | u64::from(decoded.value) << 56
-            }
-            Err(refusal) => refused(refusal),
-        }
+        read(bus::decode(stamps, levels, events))
+    }
+
+    fn decode_in(&self, mode: Mode, stamps: &[u32], levels: &[u8], events: &mut [u16]) -> u64 {
+        read(phases::decode_in(mode, stamps, levels, events))
     }
 
     fn encode(&self, events: &[u16], start: u32, gap: u32, stamps: &mut [u32], levels: &mut [u8]) -> u64 {

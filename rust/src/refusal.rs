@@ -21,6 +21,7 @@ pub enum Reason {
     Acknowledges = 15,
     Undecided = 16,
     NoWaiting = 17,
+    ShortPhase = 18,
 }
 
 /// A refusal as a reply states it; the place is 0 where the table gives none.

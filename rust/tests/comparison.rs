@@ -2,7 +2,8 @@
 
 use rehearsal_model::arbitration::cut;
 use rehearsal_model::compare::{run, Comparison, COMPARISONS};
-use rehearsal_model::packed::{Asked, Interface, Lent, Model, MODULE};
+use rehearsal_model::packed::{read, Asked, Interface, Lent, Model};
+use rehearsal_model::phases::{decode_within, edges, Limits, Mode};
 
 /// The model with one function that is wrong now and then.
 #[derive(Clone, Copy, PartialEq, Debug)]
@@ -19,6 +20,12 @@ enum Wrong {
     EventsRest,
     PendingValue,
     RefusedBuffer,
+    LimitRefused,
+    LowForHigh,
+    FirstPhase,
+    LastToLast,
+    ShortBefore7,
+    NoPlace,
     LastStamp,
     Position,
     Module,
@@ -85,6 +92,37 @@ impl Interface for Wrong {
             _ => {}
         }
         reply
+    }
+
+    fn decode_in(&self, mode: Mode, stamps: &[u32], levels: &[u8], events: &mut [u16]) -> u64 {
+        let reply = Model.decode_in(mode, stamps, levels, events);
+        let Limits { low, high } = mode.limits();
+        match self {
+            Wrong::LimitRefused => {
+                read(decode_within(Limits { low: low + 1, high: high + 1 }, stamps, levels, events))
+            }
+            Wrong::LowForHigh => read(decode_within(Limits { low: high, high: low }, stamps, levels, events)),
+            Wrong::FirstPhase if ![4, 5, 6, 7].contains(&(reply & 0xFF)) => match edges(levels).first() {
+                Some(&edge) if stamps[edge] - stamps[0] < high.min(low) => 18 | (edge as u64) << 8,
+                _ => reply,
+            },
+            Wrong::LastToLast if !levels.is_empty() && stamps.len() == levels.len() => {
+                let one_late = stamps[..levels.len() - 1].iter().map(|stamp| stamp.saturating_add(1));
+                let stamps: Vec<u32> = [stamps[0]].into_iter().chain(one_late).collect();
+                Model.decode_in(mode, &stamps, levels, events)
+            }
+            Wrong::ShortBefore7 if reply & 0xFF == 7 => {
+                let before = (reply >> 8 & 0xFFFF) as usize;
+                let early = Model.decode_in(mode, &stamps[..before], &levels[..before], &mut []);
+                if early & 0xFF == 18 {
+                    early
+                } else {
+                    reply
+                }
+            }
+            Wrong::NoPlace if reply & 0xFF == 18 => 18,
+            _ => reply,
+        }
     }
 
     fn encode(&self, events: &[u16], start: u32, gap: u32, stamps: &mut [u32], levels: &mut [u8]) -> u64 {
@@ -163,9 +201,10 @@ fn the_model_is_equal_to_itself_in_full() {
 
 #[test]
 fn every_refusal_occurs() {
-    let expected: [(&str, &[usize]); 4] = [
+    let expected: [(&str, &[usize]); 5] = [
         ("step sequences", &[1, 2, 3, 4]),
         ("traces", &[0, 4, 5, 6, 7, 8]),
+        ("timed traces", &[0, 4, 5, 6, 7, 8, 18]),
         ("lists", &[0, 6, 8, 9, 10, 11]),
         ("arbitrations", &[0, 8, 12, 13, 14, 15, 16]),
     ];
@@ -189,11 +228,18 @@ fn wrong_modules_are_found() {
 fn wrong_readers_and_writers_are_found() {
     use Wrong::*;
     check_detected("traces", &[EventCount, EventsRest, PendingValue, RefusedBuffer]);
+    check_detected(
+        "timed traces",
+        &[LimitRefused, LowForHigh, FirstPhase, LastToLast, ShortBefore7, NoPlace],
+    );
     check_detected("lists", &[LastStamp]);
 }
 
 #[test]
 fn wrong_arbitrations_are_found() {
     use Wrong::*;
-    check_detected("arbitrations", &[Position, Module, StillIn, LevelsRest, RefusedModules, LastOfEquals, TwoPasses, LosersCleared]);
+    check_detected(
+        "arbitrations",
+        &[Position, Module, StillIn, LevelsRest, RefusedModules, LastOfEquals, TwoPasses, LosersCleared],
+    );
 }

@@ -22,6 +22,7 @@ fn words(reason: Reason) -> &'static str {
         Reason::Acknowledges => "there is not one acknowledge, 0 or 1, for each byte of the longest board",
         Reason::Undecided => "the least message is acknowledged to its end and begins another",
         Reason::NoWaiting => "a divider of 1 does not wait, and SCL was last seen low",
+        Reason::ShortPhase => "a phase of SCL is too short for the mode",
     }
 }
 
