@@ -1,6 +1,7 @@
 //! The comparison itself: the model behind the C functions is equal to the model, and wrong sides are found.
 
 use rehearsal_model::arbitration::cut;
+use rehearsal_model::bus::frame_open_after;
 use rehearsal_model::compare::{run, Comparison, COMPARISONS};
 use rehearsal_model::packed::{read, Asked, Interface, Lent, Model};
 use rehearsal_model::phases::{decode_within, edges, Limits, Mode};
@@ -25,6 +26,7 @@ enum Wrong {
     FirstPhase,
     LastToLast,
     ShortBefore7,
+    InFrames,
     NoPlace,
     LastStamp,
     Position,
@@ -119,6 +121,11 @@ impl Interface for Wrong {
                 } else {
                     reply
                 }
+            }
+            Wrong::InFrames
+                if reply & 0xFF == 18 && !frame_open_after(levels)[(reply >> 8 & 0xFFFF) as usize] =>
+            {
+                Model.decode(stamps, levels, events)
             }
             Wrong::NoPlace if reply & 0xFF == 18 => 18,
             _ => reply,
@@ -230,7 +237,7 @@ fn wrong_readers_and_writers_are_found() {
     check_detected("traces", &[EventCount, EventsRest, PendingValue, RefusedBuffer]);
     check_detected(
         "timed traces",
-        &[LimitRefused, LowForHigh, FirstPhase, LastToLast, ShortBefore7, NoPlace],
+        &[LimitRefused, LowForHigh, FirstPhase, LastToLast, ShortBefore7, InFrames, NoPlace],
     );
     check_detected("lists", &[LastStamp]);
 }
