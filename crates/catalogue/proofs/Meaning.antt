@@ -1,30 +1,35 @@
 -- What the numbers mean, both ways: a board is found exactly where both catalogues are sound and one of them lists it;
 -- its index is its only one; a correction comes before the standing message.
-use Prim.Native.Nat.{ℕ, zero, suc, _<_}
-use mathlib.Core.Path.{_≡_, refl, sym, ap, _∙_}
-use mathlib.Core.Bool.{Bool, cond, true, false, not, _||_}
+use Prim.Native.Nat.{ℕ, suc, _<_}
+use mathlib.Core.Path.{_≡_, refl, sym, ap, ap₂, _∙_}
+use mathlib.Core.Bool.{Bool, cond, true, false, not, _||_, false≢true}
 use mathlib.Core.List.{List, [], _∷_}
 use native.Mathlib.Omega.{arith}
-use lib.Dec.{eqb, ltb}
-use borrow.Author.Tests.{eqb-true, eqb-false, eq-eqb, ltb-true, ltb-false}
+use lib.Dec.{eqb}
+use borrow.Author.Tests.{eqb-true, eq-eqb, ltb-true}
 use lib.ListN.{length, getD}
+use Rattle.laws.specs.declared.Refusal.{Refusal}
 use Rattle.laws.specs.Search.{first, any}
+use Rattle.laws.proofs.Refusals.{unrefused}
 use Rattle.laws.proofs.Search.{any-first}
-use Rattle.catalogue.specs.Catalogue.{Catalogue, rises, catalogueChecks, judged, is, lists, indexIn, numberOf}
-use Rattle.catalogue.specs.Catalogue.{chosen, messageIn, messageOf}
+use Rattle.catalogue.specs.Catalogue.{Catalogue, badLengths, catalogueChecks, judged, is, lists}
+use Rattle.catalogue.specs.Catalogue.{indexIn, numberOf, messageIn, messageOf}
 use Rattle.catalogue.proofs.Rising.{in-order}
 use Rattle.catalogue.proofs.Judged.{Sound, number-is}
-use Rattle.catalogue.proofs.Placed.{Found, found}
+use Rattle.catalogue.proofs.Placed.{Found}
 
 sound-back : (catalogue : Catalogue) → Sound catalogue → judged catalogue ≡ 0
 unfolding judged
 sound-back catalogue good =
-    rw (good .rising, eq-eqb _ _ (good .paired), eq-eqb _ _ (good .summed)) refl
+    let lengths-pass : badLengths catalogue ≡ false =
+    ap₂ (λ (a b : Bool). not a || not b) (eq-eqb _ _ (good .paired)) (eq-eqb _ _ (good .summed)) in
+    ap (λ (r : Refusal). r .number)
+    (unrefused (catalogueChecks catalogue) (ap not (good .rising), (lengths-pass, tt)))
 
 -- the board stands at its index, and nowhere else
 first-is : (board : ℕ) (boards : List ℕ) → any (is board) boards ≡ true
     → getD boards (first (is board) boards) 0 ≡ board
-first-is board [] some = absurd (omega (arith, ap (λ (b : Bool). cond b 1 0) some))
+first-is board [] some = absurd (false≢true some)
 first-is board (other ∷ boards) some = go (eqb other board) refl some (first-is board boards)
   where
     go : (here : Bool) → eqb other board ≡ here → here || any (is board) boards ≡ true
@@ -37,26 +42,31 @@ pub stands : (board : ℕ) (catalogue : Catalogue) → lists board catalogue ≡
     → getD (catalogue .boards) (indexIn board catalogue) 0 ≡ board
 stands board catalogue listed = first-is board (catalogue .boards) listed
 
-pub only-there : (board : ℕ) (catalogue : Catalogue) → Sound catalogue → lists board catalogue ≡ true → (j : ℕ)
-    → j < length (catalogue .boards) → getD (catalogue .boards) j 0 ≡ board → j ≡ indexIn board catalogue
-only-there board catalogue good listed j within same =
-    go (ltb j i) refl (ltb i j) refl
-  where
-    abbrev i : ℕ
-    i = indexIn board catalogue
+module _ (board : ℕ) (catalogue : Catalogue) (good : Sound catalogue) (listed : lists board catalogue ≡ true) (j : ℕ)
+    (within : j < length (catalogue .boards)) (same : getD (catalogue .boards) j 0 ≡ board) where
+  index-inside : indexIn board catalogue < length (catalogue .boards)
+  index-inside = ltb-true _ _ (sym (any-first (is board) (catalogue .boards)) ∙ listed)
 
-    at : getD (catalogue .boards) i 0 ≡ board
-    at = stands board catalogue listed
+  not-before : j < indexIn board catalogue → ⊥
+  not-before less =
+      omega (
+        arith,
+        same,
+        stands board catalogue listed,
+        in-order (catalogue .boards) (good .rising) j (indexIn board catalogue) less index-inside,
+      )
 
-    inside : i < length (catalogue .boards)
-    inside = ltb-true _ _ (sym (any-first (is board) (catalogue .boards)) ∙ listed)
+  not-after : indexIn board catalogue < j → ⊥
+  not-after less =
+      omega (
+        arith,
+        same,
+        stands board catalogue listed,
+        in-order (catalogue .boards) (good .rising) (indexIn board catalogue) j less within,
+      )
 
-    go : (before : Bool) → ltb j i ≡ before → (after : Bool) → ltb i j ≡ after → j ≡ i
-    go true before after later =
-        absurd (omega (arith, same, at, in-order (catalogue .boards) (good .rising) j i (ltb-true j i before) inside))
-    go false before true later =
-        absurd (omega (arith, same, at, in-order (catalogue .boards) (good .rising) i j (ltb-true i j later) within))
-    go false before false later = omega (arith, ltb-false j i before, ltb-false i j later)
+  pub only-there : j ≡ indexIn board catalogue
+  only-there = omega (arith, not-before, not-after)
 
 module _ (board : ℕ) (corrections standing : Catalogue) where
   -- the other way round is `found`

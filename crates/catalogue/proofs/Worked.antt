@@ -4,7 +4,7 @@ use mathlib.Core.Path.{_≡_, refl}
 use mathlib.Core.Bool.{true, false}
 use mathlib.Core.List.{List, [], _∷_}
 use Rattle.catalogue.specs.declared.places.Located.{Located}
-use Rattle.catalogue.specs.Catalogue.{Catalogue, lent, judged, numberOf, messageOf, located}
+use Rattle.catalogue.specs.Catalogue.{Catalogue, lent, numberOf, messageOf, located}
 
 -- the replies of `number`, `part` and `locate`
 pub record Reply : Type 0 where
