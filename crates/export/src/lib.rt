@@ -8,6 +8,7 @@ ghost use Rattle.export.specs.Packed.{unpacked as unpackedNumber, regist
 ghost use Rattle.export.specs.Packed.{packed as packedModule, packedStep, packedWritten, packedRead, lines};
 
 mod arbitration_calls; // arbitration_calls.rt: arbitration
+mod catalogue_calls; // catalogue_calls.rt: corrections over the standing catalogue
 mod order_calls; // order_calls.rt: the least message
 mod trace_calls; // trace_calls.rt: decode and encode
 
