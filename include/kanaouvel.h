@@ -58,4 +58,34 @@ uint64_t arbitrate(const uint8_t *bytes, size_t bytes_length, const uint32_t *le
  * messages find it: one for each message but the first. A message that runs past the bytes is cut there. */
 uint64_t least_message(const uint8_t *bytes, size_t bytes_length, const uint32_t *lengths, size_t lengths_length);
 uint64_t least_comparisons(const uint8_t *bytes, size_t bytes_length, const uint32_t *lengths, size_t lengths_length);
+
+/* A board's message among tonight's corrections and the standing catalogue: each a block in which the messages lie one
+ * after the other, with a rising list of boards and a list of lengths. The number: 0 where the board is found, else 40,
+ * 41 of the corrections, 40, 41 of the standing catalogue, 42, in this order. The message is a part of the caller's own
+ * bytes: of the corrections where `corrected` is 1, else of the standing block, `length` bytes from `offset` on (no
+ * bytes are a message too). At a refusal all three are 0. */
+uint8_t catalogue_number(uint32_t board, const uint8_t *corrections, size_t corrections_length,
+                         const uint32_t *correction_boards, size_t correction_boards_length,
+                         const uint32_t *correction_lengths, size_t correction_lengths_length,
+                         const uint8_t *standing, size_t standing_length, const uint32_t *standing_boards,
+                         size_t standing_boards_length, const uint32_t *standing_lengths,
+                         size_t standing_lengths_length);
+uint8_t catalogue_corrected(uint32_t board, const uint8_t *corrections, size_t corrections_length,
+                            const uint32_t *correction_boards, size_t correction_boards_length,
+                            const uint32_t *correction_lengths, size_t correction_lengths_length,
+                            const uint8_t *standing, size_t standing_length, const uint32_t *standing_boards,
+                            size_t standing_boards_length, const uint32_t *standing_lengths,
+                            size_t standing_lengths_length);
+uint64_t catalogue_offset(uint32_t board, const uint8_t *corrections, size_t corrections_length,
+                          const uint32_t *correction_boards, size_t correction_boards_length,
+                          const uint32_t *correction_lengths, size_t correction_lengths_length,
+                          const uint8_t *standing, size_t standing_length, const uint32_t *standing_boards,
+                          size_t standing_boards_length, const uint32_t *standing_lengths,
+                          size_t standing_lengths_length);
+uint32_t catalogue_length(uint32_t board, const uint8_t *corrections, size_t corrections_length,
+                          const uint32_t *correction_boards, size_t correction_boards_length,
+                          const uint32_t *correction_lengths, size_t correction_lengths_length,
+                          const uint8_t *standing, size_t standing_length, const uint32_t *standing_boards,
+                          size_t standing_boards_length, const uint32_t *standing_lengths,
+                          size_t standing_lengths_length);
 #endif

@@ -226,11 +226,50 @@ static void modules(void)
     check(usi_read(u, 0x77) >> 16 == 1 && usi_read_word(u, 0x79) >> 16 == 2, "1 and 2 of reads");
 }
 
+struct catalogue {
+    uint8_t block[8];
+    size_t block_length;
+    uint32_t boards[4];
+    size_t boards_length;
+    uint32_t lengths[4];
+    size_t lengths_length;
+};
+
+#define CATALOGUE(c) (c)->block, (c)->block_length, (c)->boards, (c)->boards_length, (c)->lengths, (c)->lengths_length
+
+static void located(const char *what, uint32_t board, const struct catalogue *c, const struct catalogue *s, int number,
+                    int corrected, uint64_t offset, uint32_t length)
+{
+    check(catalogue_number(board, CATALOGUE(c), CATALOGUE(s)) == number, what);
+    check(catalogue_corrected(board, CATALOGUE(c), CATALOGUE(s)) == corrected, what);
+    check(catalogue_offset(board, CATALOGUE(c), CATALOGUE(s)) == offset, what);
+    check(catalogue_length(board, CATALOGUE(c), CATALOGUE(s)) == length, what);
+}
+
+/* the numbers of document 02, request 10 */
+static void catalogues(void)
+{
+    const struct catalogue corrections = {{0x90, 0x12, 0x0F}, 3, {4, 9}, 2, {0, 3}, 2};
+    const struct catalogue standing = {{0xA0, 0xA1, 0xB0, 0xC0, 0xC1}, 5, {2, 4, 7}, 3, {2, 1, 2}, 3};
+    const struct catalogue equal = {{1}, 1, {5, 5}, 2, {7}, 1}, unsummed = {{1}, 1, {5}, 1, {2}, 1};
+    const struct catalogue beyond = {{1}, 1, {2, 3}, 2, {0xFFFFFFFF, 2}, 2};
+    located("a correction", 9, &corrections, &standing, 0, 1, 0, 3);
+    located("a standing message", 7, &corrections, &standing, 0, 0, 3, 2);
+    located("a correction of no bytes", 4, &corrections, &standing, 0, 1, 0, 0);
+    located("42", 8, &corrections, &standing, 42, 0, 0, 0);
+    located("40 of the corrections", 9, &equal, &unsummed, 40, 0, 0, 0);
+    located("41 of the corrections", 9, &unsummed, &equal, 41, 0, 0, 0);
+    located("40 of the standing catalogue", 9, &corrections, &equal, 40, 0, 0, 0);
+    located("41: a sum beyond 32 bits", 9, &corrections, &beyond, 41, 0, 0, 0);
+    check(catalogue_number(0, NULL, 0, NULL, 0, NULL, 0, NULL, 0, NULL, 0, NULL, 0) == 42, "42: nothing lent");
+}
+
 int main(void)
 {
     modules();
     traces();
     arbitrations();
+    catalogues();
     printf("guards: %d checks, %d failed\n", checks, failures);
     return failures != 0;
 }

@@ -1,6 +1,7 @@
 //! The C functions of the proved library's archive, each with a safe wrapper; and the same on guarded memory.
 
-use crate::packed::{Asked, Interface, Lent};
+use crate::catalogue::Catalogue;
+use crate::packed::{Asked, Interface, Lent, Place};
 use crate::phases::Mode;
 use std::fmt::Debug;
 
@@ -65,6 +66,36 @@ extern "C" {
     ) -> u64;
     fn least_message(bytes: *const u8, bytes_len: usize, lengths: *const u32, lengths_len: usize) -> u64;
     fn least_comparisons(bytes: *const u8, bytes_len: usize, lengths: *const u32, lengths_len: usize) -> u64;
+}
+
+/// A function over a board and two catalogues: block, boards and lengths of each.
+macro_rules! of_catalogues {
+    ($($name:ident -> $answer:ty;)*) => {
+        extern "C" {
+            $(fn $name(
+                board: u32,
+                corrections: *const u8,
+                corrections_len: usize,
+                correction_boards: *const u32,
+                correction_boards_len: usize,
+                correction_lengths: *const u32,
+                correction_lengths_len: usize,
+                standing: *const u8,
+                standing_len: usize,
+                standing_boards: *const u32,
+                standing_boards_len: usize,
+                standing_lengths: *const u32,
+                standing_lengths_len: usize,
+            ) -> $answer;)*
+        }
+    };
+}
+
+of_catalogues! {
+    catalogue_number -> u8;
+    catalogue_corrected -> u8;
+    catalogue_offset -> u64;
+    catalogue_length -> u32;
 }
 
 /// The proved library.
@@ -168,6 +199,36 @@ impl Interface for Archive {
         };
         (ask(least_message), ask(least_comparisons))
     }
+
+    fn place(&self, board: u32, corrections: &Catalogue, standing: &Catalogue) -> Place {
+        macro_rules! ask {
+            ($call:ident) => {
+                unsafe {
+                    $call(
+                        board,
+                        corrections.block.as_ptr(),
+                        corrections.block.len(),
+                        corrections.boards.as_ptr(),
+                        corrections.boards.len(),
+                        corrections.lengths.as_ptr(),
+                        corrections.lengths.len(),
+                        standing.block.as_ptr(),
+                        standing.block.len(),
+                        standing.boards.as_ptr(),
+                        standing.boards.len(),
+                        standing.lengths.as_ptr(),
+                        standing.lengths.len(),
+                    )
+                }
+            };
+        }
+        Place {
+            number: ask!(catalogue_number),
+            corrected: ask!(catalogue_corrected),
+            offset: ask!(catalogue_offset),
+            length: ask!(catalogue_length),
+        }
+    }
 }
 
 /// The proved library, which is lent every buffer between guards; a call that writes one panics.
@@ -254,5 +315,9 @@ impl Interface for Guarded {
 
     fn least(&self, bytes: &[u8], lengths: &[u32]) -> (u64, u64) {
         Archive.least(bytes, lengths)
+    }
+
+    fn place(&self, board: u32, corrections: &Catalogue, standing: &Catalogue) -> Place {
+        Archive.place(board, corrections, standing)
     }
 }

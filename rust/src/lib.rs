@@ -5,6 +5,7 @@
 pub mod arbitration;
 pub mod bus;
 pub mod cases;
+pub mod catalogue;
 pub mod compare;
 #[cfg(feature = "rattle")]
 pub mod ffi;

@@ -5,6 +5,7 @@
 
 use crate::arbitration::{self, runner, Request, Run, MASTERS};
 use crate::bus::{self, Decoded};
+use crate::catalogue::{self, Catalogue, Part};
 use crate::module::Module;
 use crate::phases::{self, Mode};
 use crate::refusal::{Reason, Refusal};
@@ -49,6 +50,15 @@ impl Buffers {
     }
 }
 
+/// Where a board's message lies: 1 for a correction, its offset in the block and its length; all 0 at a refusal.
+#[derive(Clone, PartialEq, Eq, Debug)]
+pub struct Place {
+    pub number: u8,
+    pub corrected: u8,
+    pub offset: u64,
+    pub length: u32,
+}
+
 /// The C functions; each implementation is one side of a comparison.
 pub trait Interface {
     fn power_up(&self, usisrl: u8, usisrh: u8) -> u64;
@@ -65,6 +75,8 @@ pub trait Interface {
     fn arbitrate(&self, asked: &Asked, lent: Lent) -> u64;
     /// The index of the least message, and how many comparisons found it.
     fn least(&self, bytes: &[u8], lengths: &[u32]) -> (u64, u64);
+    /// The answers of the four functions of a catalogue.
+    fn place(&self, board: u32, corrections: &Catalogue, standing: &Catalogue) -> Place;
 }
 
 /// The model of this crate.
@@ -195,6 +207,18 @@ impl Interface for Model {
     fn least(&self, bytes: &[u8], lengths: &[u32]) -> (u64, u64) {
         let (index, comparisons) = arbitration::least(&arbitration::cut(bytes, lengths));
         (index as u64, comparisons as u64)
+    }
+
+    fn place(&self, board: u32, corrections: &Catalogue, standing: &Catalogue) -> Place {
+        match catalogue::find(board, corrections, standing) {
+            Ok(Part { corrected, bytes }) => Place {
+                number: 0,
+                corrected: u8::from(corrected),
+                offset: bytes.start as u64,
+                length: bytes.len() as u32,
+            },
+            Err(refusal) => Place { number: refusal.number(), corrected: 0, offset: 0, length: 0 },
+        }
     }
 }
 

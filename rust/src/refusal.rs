@@ -22,6 +22,9 @@ pub enum Reason {
     Undecided = 16,
     NoWaiting = 17,
     ShortPhase = 18,
+    BoardsDoNotRise = 40,
+    BoardLengths = 41,
+    BoardAbsent = 42,
 }
 
 /// A refusal as a reply states it; the place is 0 where the table gives none.

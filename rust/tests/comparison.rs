@@ -2,8 +2,10 @@
 
 use rehearsal_model::arbitration::cut;
 use rehearsal_model::bus::frame_open_after;
+use rehearsal_model::catalogue::Catalogue;
+use rehearsal_model::compare::catalogue::wraps;
 use rehearsal_model::compare::{run, Comparison, COMPARISONS};
-use rehearsal_model::packed::{read, Asked, Interface, Lent, Model};
+use rehearsal_model::packed::{read, Asked, Interface, Lent, Model, Place};
 use rehearsal_model::phases::{decode_within, edges, Limits, Mode};
 
 /// The model with one function that is wrong now and then.
@@ -39,6 +41,13 @@ enum Wrong {
     SetsCounted,
     WordsLowByte,
     LosersCleared,
+    StandingFirst,
+    EqualBoards,
+    WrappingSum,
+    EmptyIsAbsent,
+    OneByteLate,
+    StandingBoardsFirst,
+    LengthsNotCounted,
 }
 
 impl Interface for Wrong {
@@ -169,6 +178,27 @@ impl Interface for Wrong {
             _ => (index, comparisons),
         }
     }
+
+    fn place(&self, board: u32, corrections: &Catalogue, standing: &Catalogue) -> Place {
+        let place = Model.place(board, corrections, standing);
+        let swapped = Model.place(board, standing, corrections);
+        let falls = |boards: &[u32]| boards.windows(2).any(|pair| pair[1] < pair[0]);
+        let uncounted = |one: &Catalogue| one.lengths.len() != one.boards.len();
+        match (self, place.number) {
+            (Wrong::StandingFirst, 0) => Place { corrected: 1 - swapped.corrected, ..swapped },
+            (Wrong::EqualBoards, 40) if !falls(&corrections.boards) && !falls(&standing.boards) => {
+                Place { number: 42, ..place }
+            }
+            (Wrong::WrappingSum, 41) if wraps(corrections) || wraps(standing) => {
+                Place { number: 42, ..place }
+            }
+            (Wrong::LengthsNotCounted, 41) if uncounted(corrections) => Place { number: 42, ..place },
+            (Wrong::EmptyIsAbsent, 0) if place.length == 0 => Place { number: 42, corrected: 0, ..place },
+            (Wrong::OneByteLate, 0) => Place { offset: place.offset + 1, ..place },
+            (Wrong::StandingBoardsFirst, 41) if swapped.number == 40 => swapped,
+            _ => place,
+        }
+    }
 }
 
 fn comparison(cases: &str) -> &'static Comparison {
@@ -208,12 +238,13 @@ fn the_model_is_equal_to_itself_in_full() {
 
 #[test]
 fn every_refusal_occurs() {
-    let expected: [(&str, &[usize]); 5] = [
+    let expected: [(&str, &[usize]); 6] = [
         ("step sequences", &[1, 2, 3, 4]),
         ("traces", &[0, 4, 5, 6, 7, 8]),
         ("timed traces", &[0, 4, 5, 6, 7, 8, 18]),
         ("lists", &[0, 6, 8, 9, 10, 11]),
         ("arbitrations", &[0, 8, 12, 13, 14, 15, 16]),
+        ("catalogues", &[0, 40, 41, 42]),
     ];
     for (cases, numbers) in expected {
         let counts = run(comparison(cases), &Model, 1, 20_000).unwrap();
@@ -249,4 +280,11 @@ fn wrong_arbitrations_are_found() {
         "arbitrations",
         &[Position, Module, StillIn, LevelsRest, RefusedModules, LastOfEquals, TwoPasses, LosersCleared],
     );
+}
+
+#[test]
+fn wrong_catalogues_are_found() {
+    use Wrong::*;
+    check_detected("catalogues", &[StandingFirst, EqualBoards, WrappingSum, LengthsNotCounted]);
+    check_detected("catalogues", &[EmptyIsAbsent, OneByteLate, StandingBoardsFirst]);
 }

@@ -23,6 +23,9 @@ fn words(reason: Reason) -> &'static str {
         Reason::Undecided => "the least message is acknowledged to its end and begins another",
         Reason::NoWaiting => "a divider of 1 does not wait, and SCL was last seen low",
         Reason::ShortPhase => "a phase of SCL is too short for the mode",
+        Reason::BoardsDoNotRise | Reason::BoardLengths | Reason::BoardAbsent => {
+            unreachable!("no command asks a catalogue")
+        }
     }
 }
 
