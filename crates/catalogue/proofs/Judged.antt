@@ -1,21 +1,18 @@
 -- What a catalogue that is not refused is; the first refusal of two catalogues; where a board's message lies.
 use Prim.Native.Nat.{ℕ, _+_, _<_, _≤_}
-use mathlib.Core.Path.{_≡_, refl, sym, ap, _∙_}
+use mathlib.Core.Path.{_≡_, refl, sym, _∙_}
 use mathlib.Core.Bool.{Bool, cond, true, false, not, _||_}
-use mathlib.Core.List.{List, [], _∷_}
+use mathlib.Core.List.{[], _∷_}
 use native.Mathlib.Omega.{arith}
 use lib.Dec.{eqb, ltb}
 use borrow.Author.Tests.{eqb-true, ne-eqb, ltb-true, lt-ltb, le-ltb, not-false}
-use lib.ListN.{length, getD, take, drop}
-use Rattle.laws.specs.Search.{first}
+use lib.ListN.{length}
 use Rattle.laws.specs.Refusals.{check, given}
 use Rattle.laws.proofs.Bools.{neither}
 use Rattle.laws.proofs.Refusals.{passed}
 use Rattle.laws.proofs.Search.{any-first}
-use Rattle.catalogue.specs.declared.places.Located.{Located}
 use Rattle.catalogue.specs.Catalogue.{Catalogue, rises, total, badLengths, catalogueChecks, judged, is, lists}
-use Rattle.catalogue.specs.Catalogue.{indexIn, numberOf, chosen, offsetAt, lengthAt, messageIn, messageOf}
-use Rattle.catalogue.specs.Catalogue.{refusedBy, foundAt, located}
+use Rattle.catalogue.specs.Catalogue.{indexIn, numberOf, offsetAt, lengthAt, refusedBy, foundAt, located}
 use Rattle.catalogue.proofs.Sums.{both-within}
 
 -- boards that rise, a length for each, and a block of just their sum

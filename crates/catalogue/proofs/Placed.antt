@@ -1,15 +1,14 @@
 -- The part that a place names: inside its block, and the board's message.
 use Prim.Native.Nat.{ℕ, zero, suc, _+_, _-_, _≤_, max}
 use mathlib.Core.Path.{_≡_, refl, sym, ap, _∙_}
-use mathlib.Core.Bool.{Bool, cond, true, false, not, _||_}
-use mathlib.Core.List.{List, []}
+use mathlib.Core.Bool.{Bool, cond, true, false, _||_}
+use mathlib.Core.List.{[]}
 use native.Mathlib.Omega.{arith}
 use lib.Dec.{eqb}
 use borrow.Author.Tests.{eqb-true, ne-eqb, not-false}
 use lib.ListN.{length, take, drop}
 use Rattle.catalogue.specs.declared.places.Located.{Located}
-use Rattle.catalogue.specs.Catalogue.{Catalogue, judged, lists, numberOf, chosen, messageOf, refusedBy, foundIn}
-use Rattle.catalogue.specs.Catalogue.{located}
+use Rattle.catalogue.specs.Catalogue.{Catalogue, lists, numberOf, chosen, messageOf, refusedBy, foundIn, located}
 use Rattle.catalogue.proofs.Judged.{Sound, sound, message-within, number-is}
 
 -- nothing is refused

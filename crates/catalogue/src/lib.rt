@@ -22,13 +22,13 @@ pub fn locate(
         (lent (now (corrections .entry)) (now («correction_boards» .entry)) (now («correction_lengths» .entry)))
         (lent (now (standing .entry)) (now («standing_boards» .entry)) (now («standing_lengths» .entry))) ⌝ }
 {
-    let corrected = places::judge(corrections, correction_boards, correction_lengths);
-    if corrected != 0 {
-        return places::refused(corrected);
+    let correction_number = places::judge(corrections, correction_boards, correction_lengths);
+    if correction_number != 0 {
+        return places::refused(correction_number);
     }
-    let stood = places::judge(standing, standing_boards, standing_lengths);
-    if stood != 0 {
-        return places::refused(stood);
+    let standing_number = places::judge(standing, standing_boards, standing_lengths);
+    if standing_number != 0 {
+        return places::refused(standing_number);
     }
     let index = lists::index_of(board, correction_boards);
     if index < correction_boards.len() {

@@ -1,6 +1,6 @@
 -- The refusals in their order, then the board sought in the corrections, then in the standing catalogue.
 use native.Mathlib.Omega.{arith}
-use mathlib.Core.Path.{_≡_, sym, ap, _∙_}
+use mathlib.Core.Path.{sym, _∙_}
 use Rattle.catalogue.proofs.Judged.{sound, corrections-refused, standing-refused}
 use Rattle.catalogue.proofs.Judged.{corrected-found, standing-found, neither-found}
 use borrow.Author.Needs.{needs}
@@ -34,27 +34,31 @@ index-of-requires c κs = search needs
 
 found-requires : tie.Need-found-requires
 found-requires c κs =
-    let good = sound _ (sym (c .before .before .before .before .before .judge .ensures) ∙ c .before .before .before .before .if1 .left) in
-    (omega (arith, good .paired), omega (arith, good .summed))
+    let at4 = c .before .before .before .before in
+    let at8 = at4 .before .before .before .before in
+    let start = at8 .before .before .before .before in
+    let good = sound _ (sym (at4 .before .judge .ensures) ∙ at4 .if1 .left) in
+    (omega (arith, good .paired), omega (arith, good .summed, start .good .1 .0 .0))
 
 returns-3 : tie.Need-returns-3
 returns-3 c =
     let at2 = c .before .before in
     let at4 = at2 .before .before in
     let at6 = at4 .before .before in
-    let index = at2 .index-of in
     c .found .ensures
     ∙ corrected-found _ _ _ (sym (at6 .judge .ensures) ∙ at4 .before .if1 .left)
-    (sym (at4 .judge2 .ensures) ∙ at2 .before .if2 .left) _ (index .ensures)
-    (c .before .if3 .taken)
+    (sym (at4 .judge2 .ensures) ∙ at2 .before .if2 .left) _ (at2 .index-of .ensures) (c .before .if3 .taken)
 
 index-of-requires-2 : tie.Need-index-of-requires-2
 index-of-requires-2 c κs = search needs
 
 found-requires-2 : tie.Need-found-requires-2
 found-requires-2 c κs =
-    let good = sound _ (sym (c .before .before .before .before .before .judge2 .ensures) ∙ c .before .before .before .before .if2 .left) in
-    (omega (arith, good .paired), omega (arith, good .summed))
+    let at4 = c .before .before .before .before in
+    let at9 = at4 .before .before .before .before .before in
+    let start = at9 .before .before .before .before .before in
+    let good = sound _ (sym (at4 .before .judge2 .ensures) ∙ at4 .if2 .left) in
+    (omega (arith, good .paired), omega (arith, good .summed, start .good .1 .1 .1 .1 .0 .0))
 
 returns-4 : tie.Need-returns-4
 returns-4 c =

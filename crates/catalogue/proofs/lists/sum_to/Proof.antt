@@ -1,6 +1,6 @@
 -- What is left of the size, and what is left of the lengths.
 use native.Mathlib.Omega.{arith}
-use Prim.Native.Nat.{_<_, _≤_, _-_}
+use Prim.Native.Nat.{_-_}
 use lib.ListN.{length}
 use Rattle.catalogue.proofs.Sums.{Left, left-start, left-more, left-short, left-done}
 use borrow.Author.Needs.{needs}
