@@ -15,7 +15,8 @@
 /* the module after power-up, with these shift bytes */
 uint64_t usi_power_up(uint8_t usisrl, uint8_t usisrh);
 
-/* the module after the step in bits 0 to 54, the refusal's number (0: none) from bit 56 on */
+/* the module after the step in bits 0 to 54, the refusal's number (0: none) in bits 55 to 59; of a write the flags of
+ * USICTL1 (AL, STP, STTIFG, IFG from bit 3 down) that it cleared in bits 60 to 63 */
 uint64_t usi_write(uint64_t module, uint16_t address, uint8_t value);
 uint64_t usi_write_word(uint64_t module, uint16_t address, uint16_t value);
 uint64_t usi_sample(uint64_t module, uint8_t level); /* level: SCL + 2 * SDA */
@@ -33,13 +34,21 @@ uint8_t usi_lines(uint64_t module);
 uint64_t bus_decode(const uint32_t *stamps, size_t stamps_length, const uint8_t *levels, size_t levels_length,
                     uint16_t *events, size_t events_length);
 
+/* The same with stamps in units of 100 ns for a bus in Standard-mode or in Fast-mode: 18, with the sample that ends it,
+ * where a whole phase of SCL is shorter than UM10204 allows (low below 47 or 13, high below 40 or 6). */
+uint64_t bus_decode_standard(const uint32_t *stamps, size_t stamps_length, const uint8_t *levels, size_t levels_length,
+                             uint16_t *events, size_t events_length);
+uint64_t bus_decode_fast(const uint32_t *stamps, size_t stamps_length, const uint8_t *levels, size_t levels_length,
+                         uint16_t *events, size_t events_length);
+
 /* The trace of an event list. The answer: byte 0 the refusal's number, from byte 1 on how many samples there are. */
 uint64_t bus_encode(const uint16_t *events, size_t events_length, uint32_t start, uint32_t gap, uint32_t *stamps,
                     size_t stamps_length, uint8_t *levels, size_t levels_length);
 
 /* Masters that start together, with messages that lie in bytes one after the other. The answer: the refusal's number in
  * byte 0, the place in bytes 1 and 2, the count of bytes carried from byte 3 on. Each table has an entry for each of the
- * most masters: a module, and a seat, 1 where the master is still in, plus 2 * the position where it lost. */
+ * most masters: a module, and a seat, 1 where the master is still in, plus 2 * the flags that its writes cleared, plus
+ * 32 * the position where it lost. */
 uint64_t arbitrate(const uint8_t *bytes, size_t bytes_length, const uint32_t *lengths, size_t lengths_length,
                    const uint8_t *acks, size_t acks_length, uint8_t *carried, size_t carried_length, uint8_t *levels,
                    size_t levels_length, uint64_t *modules, size_t modules_length, uint32_t *seats,
@@ -49,4 +58,34 @@ uint64_t arbitrate(const uint8_t *bytes, size_t bytes_length, const uint32_t *le
  * messages find it: one for each message but the first. A message that runs past the bytes is cut there. */
 uint64_t least_message(const uint8_t *bytes, size_t bytes_length, const uint32_t *lengths, size_t lengths_length);
 uint64_t least_comparisons(const uint8_t *bytes, size_t bytes_length, const uint32_t *lengths, size_t lengths_length);
+
+/* A board's message among tonight's corrections and the standing catalogue: each a block in which the messages lie one
+ * after the other, with a rising list of boards and a list of lengths. The number: 0 where the board is found, else 40,
+ * 41 of the corrections, 40, 41 of the standing catalogue, 42, in this order. The message is a part of the caller's own
+ * bytes: of the corrections where `corrected` is 1, else of the standing block, `length` bytes from `offset` on (no
+ * bytes are a message too). At a refusal all three are 0. */
+uint8_t catalogue_number(uint32_t board, const uint8_t *corrections, size_t corrections_length,
+                         const uint32_t *correction_boards, size_t correction_boards_length,
+                         const uint32_t *correction_lengths, size_t correction_lengths_length,
+                         const uint8_t *standing, size_t standing_length, const uint32_t *standing_boards,
+                         size_t standing_boards_length, const uint32_t *standing_lengths,
+                         size_t standing_lengths_length);
+uint8_t catalogue_corrected(uint32_t board, const uint8_t *corrections, size_t corrections_length,
+                            const uint32_t *correction_boards, size_t correction_boards_length,
+                            const uint32_t *correction_lengths, size_t correction_lengths_length,
+                            const uint8_t *standing, size_t standing_length, const uint32_t *standing_boards,
+                            size_t standing_boards_length, const uint32_t *standing_lengths,
+                            size_t standing_lengths_length);
+uint64_t catalogue_offset(uint32_t board, const uint8_t *corrections, size_t corrections_length,
+                          const uint32_t *correction_boards, size_t correction_boards_length,
+                          const uint32_t *correction_lengths, size_t correction_lengths_length,
+                          const uint8_t *standing, size_t standing_length, const uint32_t *standing_boards,
+                          size_t standing_boards_length, const uint32_t *standing_lengths,
+                          size_t standing_lengths_length);
+uint32_t catalogue_length(uint32_t board, const uint8_t *corrections, size_t corrections_length,
+                          const uint32_t *correction_boards, size_t correction_boards_length,
+                          const uint32_t *correction_lengths, size_t correction_lengths_length,
+                          const uint8_t *standing, size_t standing_length, const uint32_t *standing_boards,
+                          size_t standing_boards_length, const uint32_t *standing_lengths,
+                          size_t standing_lengths_length);
 #endif

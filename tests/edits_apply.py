@@ -7,43 +7,57 @@ from pathlib import Path
 ROOT = Path(__file__).resolve().parent.parent
 
 
-def faults(edit):
+class Fault(Exception):
+    """Why a wrong version does not apply."""
+
+
+def changed(text, old, new):
+    if text.count(old) != 1:
+        raise Fault(f"{text.count(old)} times in the file: {old.strip()}")
+    if old == new:
+        raise Fault(f"changes nothing: {old.strip()}")
+    return text.replace(old, new)
+
+
+def applied(edit):
+    """The files that the edit changes, by their paths below the root, with their new text."""
     crate = edit.parent
     while crate.name != "must-fail":
         crate = crate.parent
-    crate, text, old, changes = crate.parent, None, None, 0
+    files, path, old = {}, None, None
     for line in edit.read_text().split("\n"):
         if line.startswith("file: "):
-            path = crate / line[len("file: "):]
-            if not path.is_file():
-                yield f"no file {path.relative_to(ROOT)}"
-                return
-            text = path.read_text()
+            path = (crate.parent / line[len("file: "):]).relative_to(ROOT)
+            if not (ROOT / path).is_file():
+                raise Fault(f"no file {path}")
+            files.setdefault(path, (ROOT / path).read_text())
         elif line.startswith("old: "):
             old = line[len("old: "):]
         elif line.startswith("new:"):
-            new = line[len("new:"):].removeprefix(" ")
-            if text is None or old is None:
-                yield "new without file and old before it"
-                return
-            if text.count(old) != 1:
-                yield f"{text.count(old)} times in the file: {old.strip()}"
-            elif old == new:
-                yield f"changes nothing: {old.strip()}"
-            else:
-                text = text.replace(old, new)
-                changes += 1
-    if not changes:
-        yield "no line is changed"
+            if path is None or old is None:
+                raise Fault("new without file and old before it")
+            files[path] = changed(files[path], old, line[len("new:"):].removeprefix(" "))
+    if old is None:
+        raise Fault("no line is changed")
+    return files
+
+
+def fault(edit):
+    try:
+        applied(edit)
+    except Fault as why:
+        return str(why)
+    return None
 
 
 def main():
     edits = sorted(ROOT.glob("crates/*/must-fail/**/*.edit"))
-    bad = [(edit, fault) for edit in edits for fault in faults(edit)]
-    for edit, fault in bad:
-        print(f"{edit.relative_to(ROOT)}: {fault}")
-    print(f"{len(edits)} wrong versions, {len({edit for edit, _ in bad})} do not apply")
+    bad = [(edit, why) for edit in edits if (why := fault(edit))]
+    for edit, why in bad:
+        print(f"{edit.relative_to(ROOT)}: {why}")
+    print(f"{len(edits)} wrong versions, {len(bad)} do not apply")
     return 1 if bad or not edits else 0
 
 
-sys.exit(main())
+if __name__ == "__main__":
+    sys.exit(main())

@@ -122,9 +122,9 @@ static void arbitrations(void)
     const struct load p10 = {"P10", {0x90, 0x90, 0x00}, 3, {1, 2}, 2, {0, 0}, 2};
     const struct load p11 = {"P11", {0x90, 0x90, 0x00}, 3, {1, 2}, 2, {1, 0}, 2};
     const struct load p12 = {"P12", {0x90, 0x90, 0x00, 0x50}, 4, {1, 2, 1}, 3, {0, 0}, 2};
-    const struct stands p8s[] = {{0x000F80224DC0, 2 * 12}, {0x00FF002245C8, 1}};
-    const struct stands both_in[] = {{0, 1}, {0, 1}};
-    const struct stands two_lost[] = {{0, 0}, {0, 0}, {0, 1}};
+    const struct stands p8s[] = {{0x000F80224DC0, 6 + 32 * 12}, {0x00FF002245C8, 7}};
+    const struct stands both_in[] = {{0, 7}, {0, 7}};
+    const struct stands two_lost[] = {{0, 6}, {0, 6}, {0, 7}};
     carries(&p8, (const uint8_t[]){0x90, 0x0F}, 2, p8s, 2);
     carries(&p9, (const uint8_t[]){0x90}, 1, both_in, 2);
     refused("P10", &p10, 8, 200, 8, 8, 16);
@@ -176,6 +176,21 @@ static void traces(void)
     check((bus_decode(read_stamps, 22, drawn, 23, e, 5) & 255) == 5 && kept_past(&events, 0), "5");
     read_stamps[7] = read_stamps[6];
     check(bus_decode(read_stamps, 23, drawn, 23, e, 5) == 7 + 256 * 7 && kept_past(&events, 0), "7 at sample 7");
+    for (int i = 0; i < 23; i++)
+        read_stamps[i] = 47 * i;
+    check(bus_decode_standard(read_stamps, 23, drawn, 23, e, 5) == (uint64_t)3 << 24, "gap 47 read");
+    check(memcmp(e, list, sizeof list) == 0 && kept_past(&events, sizeof list), "gap 47 events");
+    e = lend(&events, 2 * 5);
+    read_stamps[2]++;
+    check(bus_decode_standard(read_stamps, 23, drawn, 23, e, 5) == 18 + 256 * 3 && kept_past(&events, 0), "18 at 3");
+    check(bus_decode_standard(read_stamps, 23, drawn, 23, NULL, 0) == 18 + 256 * 3, "18 before 8");
+    check(bus_decode_fast(read_stamps, 23, drawn, 23, e, 5) == (uint64_t)3 << 24, "fast reads it");
+    e = lend(&events, 2 * 5);
+    for (int i = 0; i < 23; i++)
+        read_stamps[i] = 12 * i;
+    check(bus_decode_fast(read_stamps, 23, drawn, 23, e, 5) == 18 + 256 * 3 && kept_past(&events, 0), "gap 12");
+    read_stamps[22] = 0;
+    check(bus_decode_fast(read_stamps, 23, drawn, 23, e, 5) == 7 + 256 * 22 && kept_past(&events, 0), "7 before 18");
     t = lend(&stamps, 4 * 22), v = lend(&levels, 24);
     check((bus_encode(list, 3, 10, 5, t, 22, v, 24) & 255) == 8, "8: stamps");
     check(kept_past(&stamps, 0) && kept_past(&levels, 0), "8: stamps, all kept");
@@ -193,6 +208,8 @@ static void modules(void)
 {
     uint64_t u = usi_power_up(0, 0);
     check(usi_read(usi_write(u, 0x7B, 0x08), 0x79) == 0x00, "P1");
+    check(usi_write(u, 0x7B, 0x08) >> 60 == 1, "P1 clears IFG");
+    check((usi_write(u, 0x7E, 0) >> 55 & 31) == 1 && usi_write(u, 0x7E, 0) >> 60 == 0, "1, nothing cleared");
     check(usi_read(usi_write(u, 0x7B, 0x28), 0x79) == 0x01, "P2");
     check(usi_read(usi_write(usi_write(u, 0x7B, 0x28), 0x7B, 0x00), 0x79) == 0x01, "P3");
     u = usi_write(usi_write(usi_write(u, 0x7A, 0x22), 0x79, 0x41), 0x78, 0xC8);
@@ -204,9 +221,47 @@ static void modules(void)
     slave = usi_sample(usi_sample(slave, 3), 1);
     check((usi_lines(usi_sample(slave, 0)) & 1) == 1, "P6: held");
     check((usi_lines(usi_sample(usi_write(slave, 0x7B, 0x80), 0)) & 1) == 0, "P6: let go");
-    check(usi_write(u, 0x80, 1) == (u | (uint64_t)1 << 56), "1: the module stays");
-    check(usi_sample(u, 4) == (u | (uint64_t)4 << 56), "4: the module stays");
+    check(usi_write(u, 0x80, 1) == (u | (uint64_t)1 << 55), "1: the module stays");
+    check(usi_sample(u, 4) == (u | (uint64_t)4 << 55), "4: the module stays");
     check(usi_read(u, 0x77) >> 16 == 1 && usi_read_word(u, 0x79) >> 16 == 2, "1 and 2 of reads");
+}
+
+struct catalogue {
+    uint8_t block[8];
+    size_t block_length;
+    uint32_t boards[4];
+    size_t boards_length;
+    uint32_t lengths[4];
+    size_t lengths_length;
+};
+
+#define CATALOGUE(c) (c)->block, (c)->block_length, (c)->boards, (c)->boards_length, (c)->lengths, (c)->lengths_length
+
+static void located(const char *what, uint32_t board, const struct catalogue *c, const struct catalogue *s, int number,
+                    int corrected, uint64_t offset, uint32_t length)
+{
+    check(catalogue_number(board, CATALOGUE(c), CATALOGUE(s)) == number, what);
+    check(catalogue_corrected(board, CATALOGUE(c), CATALOGUE(s)) == corrected, what);
+    check(catalogue_offset(board, CATALOGUE(c), CATALOGUE(s)) == offset, what);
+    check(catalogue_length(board, CATALOGUE(c), CATALOGUE(s)) == length, what);
+}
+
+/* the numbers of document 02, request 10 */
+static void catalogues(void)
+{
+    const struct catalogue corrections = {{0x90, 0x12, 0x0F}, 3, {4, 9}, 2, {0, 3}, 2};
+    const struct catalogue standing = {{0xA0, 0xA1, 0xB0, 0xC0, 0xC1}, 5, {2, 4, 7}, 3, {2, 1, 2}, 3};
+    const struct catalogue equal = {{1}, 1, {5, 5}, 2, {7}, 1}, unsummed = {{1}, 1, {5}, 1, {2}, 1};
+    const struct catalogue beyond = {{1}, 1, {2, 3}, 2, {0xFFFFFFFF, 2}, 2};
+    located("a correction", 9, &corrections, &standing, 0, 1, 0, 3);
+    located("a standing message", 7, &corrections, &standing, 0, 0, 3, 2);
+    located("a correction of no bytes", 4, &corrections, &standing, 0, 1, 0, 0);
+    located("42", 8, &corrections, &standing, 42, 0, 0, 0);
+    located("40 of the corrections", 9, &equal, &unsummed, 40, 0, 0, 0);
+    located("41 of the corrections", 9, &unsummed, &equal, 41, 0, 0, 0);
+    located("40 of the standing catalogue", 9, &corrections, &equal, 40, 0, 0, 0);
+    located("41: a sum beyond 32 bits", 9, &corrections, &beyond, 41, 0, 0, 0);
+    check(catalogue_number(0, NULL, 0, NULL, 0, NULL, 0, NULL, 0, NULL, 0, NULL, 0) == 42, "42: nothing lent");
 }
 
 int main(void)
@@ -214,6 +269,7 @@ int main(void)
     modules();
     traces();
     arbitrations();
+    catalogues();
     printf("guards: %d checks, %d failed\n", checks, failures);
     return failures != 0;
 }

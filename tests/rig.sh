@@ -187,8 +187,8 @@ loads() {
     : >in && expect 2 "error no load in the file" clash -
     expect 0 "ok 1 load" clash "$root/examples/p8.loads"
     grep -qx "  lost board 0 at byte 1 bit 3, place 12" out || failed "P8"
-    grep -qx "  board 0 USICTL0=C0 USICTL1=4D USICKCTL=22 USICNT=80 USISRL=0F USISRH=00" out || failed "P8, board 0"
-    grep -qx "  board 1 USICTL0=C8 USICTL1=45 USICKCTL=22 USICNT=00 USISRL=FF USISRH=00" out || failed "P8, board 1"
+    grep -qx "  board 0 USICTL0=C0 USICTL1=4D USICKCTL=22 USICNT=80 USISRL=0F USISRH=00 cleared=03" out || failed "P8, board 0"
+    grep -qx "  board 1 USICTL0=C8 USICTL1=45 USICKCTL=22 USICNT=00 USISRL=FF USISRH=00 cleared=03" out || failed "P8, board 1"
     expect 1 "refused 12: 5 of 6 loads refused, the first on line 2" clash "$root/examples/refused.loads" --brief
     local begun=$EPOCHREALTIME
     expect 1 "refused 16: 1 of 40 loads refused, the first on line 401" clash "$root/examples/night.loads"

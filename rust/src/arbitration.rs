@@ -42,6 +42,8 @@ pub struct Outcome {
 pub struct Run {
     pub outcome: Outcome,
     pub modules: [Module; MASTERS],
+    /// The flags of USICTL1 that each master's writes cleared over the run, joined (02: Ask 12).
+    pub cleared: [u8; MASTERS],
 }
 
 /// One call: refusals 12, 13, 14, 15, 16, 8 in this order; else the carried bytes and the levels are in the

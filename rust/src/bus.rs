@@ -51,8 +51,19 @@ pub fn event_samples(levels: &[u8]) -> Vec<usize> {
     samples
 }
 
+/// For each sample of a record whether a frame is open after it.
+pub fn frame_open_after(levels: &[u8]) -> Vec<bool> {
+    let mut reader = Reader::default();
+    let mut open = vec![false; levels.len()];
+    for now in 1..levels.len() {
+        reader.sample(levels[now - 1], levels[now]);
+        open[now] = reader.open;
+    }
+    open
+}
+
 /// Refusals 5, 6, 4, 7, each looked for in the whole record before the next.
-fn check_record(stamps: &[u32], levels: &[u8]) -> Result<(), Refusal> {
+pub fn check_record(stamps: &[u32], levels: &[u8]) -> Result<(), Refusal> {
     if stamps.len() != levels.len() {
         return Err(Reason::StampsAndLevelsDiffer.refusal());
     }

@@ -7,7 +7,9 @@ use crate::random::Random;
 use std::collections::BTreeMap;
 
 pub mod arbitration;
+pub mod catalogue;
 pub mod lists;
+pub mod phases;
 pub mod traces;
 pub mod usi;
 
@@ -35,11 +37,13 @@ pub struct Comparison {
     pub case: Case,
 }
 
-pub const COMPARISONS: [Comparison; 4] = [
+pub const COMPARISONS: [Comparison; 6] = [
     Comparison { word: "usi", cases: "step sequences", count: 200_000, case: usi::case },
     Comparison { word: "bus", cases: "traces", count: 100_000, case: traces::case },
+    Comparison { word: "bus", cases: "timed traces", count: 100_000, case: phases::case },
     Comparison { word: "bus", cases: "lists", count: 100_000, case: lists::case },
     Comparison { word: "arbitration", cases: "arbitrations", count: 50_000, case: arbitration::case },
+    Comparison { word: "catalogue", cases: "catalogues", count: 100_000, case: catalogue::case },
 ];
 
 impl Counts {

@@ -1,6 +1,8 @@
 //! The C functions of the proved library's archive, each with a safe wrapper; and the same on guarded memory.
 
-use crate::packed::{Asked, Interface, Lent};
+use crate::catalogue::Catalogue;
+use crate::packed::{Asked, Interface, Lent, Place};
+use crate::phases::Mode;
 use std::fmt::Debug;
 
 extern "C" {
@@ -13,6 +15,22 @@ extern "C" {
     fn usi_read_word(module: u64, address: u16) -> u32;
     fn usi_lines(module: u64) -> u8;
     fn bus_decode(
+        stamps: *const u32,
+        stamps_len: usize,
+        levels: *const u8,
+        levels_len: usize,
+        events: *mut u16,
+        events_len: usize,
+    ) -> u64;
+    fn bus_decode_standard(
+        stamps: *const u32,
+        stamps_len: usize,
+        levels: *const u8,
+        levels_len: usize,
+        events: *mut u16,
+        events_len: usize,
+    ) -> u64;
+    fn bus_decode_fast(
         stamps: *const u32,
         stamps_len: usize,
         levels: *const u8,
@@ -48,6 +66,36 @@ extern "C" {
     ) -> u64;
     fn least_message(bytes: *const u8, bytes_len: usize, lengths: *const u32, lengths_len: usize) -> u64;
     fn least_comparisons(bytes: *const u8, bytes_len: usize, lengths: *const u32, lengths_len: usize) -> u64;
+}
+
+/// A function over a board and two catalogues: block, boards and lengths of each.
+macro_rules! of_catalogues {
+    ($($name:ident -> $answer:ty;)*) => {
+        extern "C" {
+            $(fn $name(
+                board: u32,
+                corrections: *const u8,
+                corrections_len: usize,
+                correction_boards: *const u32,
+                correction_boards_len: usize,
+                correction_lengths: *const u32,
+                correction_lengths_len: usize,
+                standing: *const u8,
+                standing_len: usize,
+                standing_boards: *const u32,
+                standing_boards_len: usize,
+                standing_lengths: *const u32,
+                standing_lengths_len: usize,
+            ) -> $answer;)*
+        }
+    };
+}
+
+of_catalogues! {
+    catalogue_number -> u8;
+    catalogue_corrected -> u8;
+    catalogue_offset -> u64;
+    catalogue_length -> u32;
 }
 
 /// The proved library.
@@ -88,8 +136,17 @@ impl Interface for Archive {
     }
 
     fn decode(&self, stamps: &[u32], levels: &[u8], events: &mut [u16]) -> u64 {
+        self.decode_in(Mode::Unchecked, stamps, levels, events)
+    }
+
+    fn decode_in(&self, mode: Mode, stamps: &[u32], levels: &[u8], events: &mut [u16]) -> u64 {
+        let call = match mode {
+            Mode::Unchecked => bus_decode,
+            Mode::Standard => bus_decode_standard,
+            Mode::Fast => bus_decode_fast,
+        };
         unsafe {
-            bus_decode(
+            call(
                 stamps.as_ptr(),
                 stamps.len(),
                 levels.as_ptr(),
@@ -141,6 +198,36 @@ impl Interface for Archive {
             call(bytes.as_ptr(), bytes.len(), lengths.as_ptr(), lengths.len())
         };
         (ask(least_message), ask(least_comparisons))
+    }
+
+    fn place(&self, board: u32, corrections: &Catalogue, standing: &Catalogue) -> Place {
+        macro_rules! ask {
+            ($call:ident) => {
+                unsafe {
+                    $call(
+                        board,
+                        corrections.block.as_ptr(),
+                        corrections.block.len(),
+                        corrections.boards.as_ptr(),
+                        corrections.boards.len(),
+                        corrections.lengths.as_ptr(),
+                        corrections.lengths.len(),
+                        standing.block.as_ptr(),
+                        standing.block.len(),
+                        standing.boards.as_ptr(),
+                        standing.boards.len(),
+                        standing.lengths.as_ptr(),
+                        standing.lengths.len(),
+                    )
+                }
+            };
+        }
+        Place {
+            number: ask!(catalogue_number),
+            corrected: ask!(catalogue_corrected),
+            offset: ask!(catalogue_offset),
+            length: ask!(catalogue_length),
+        }
     }
 }
 
@@ -203,6 +290,10 @@ impl Interface for Guarded {
         guarded(events, 0xA5A5, |events| Archive.decode(stamps, levels, events))
     }
 
+    fn decode_in(&self, mode: Mode, stamps: &[u32], levels: &[u8], events: &mut [u16]) -> u64 {
+        guarded(events, 0xA5A5, |events| Archive.decode_in(mode, stamps, levels, events))
+    }
+
     fn encode(&self, events: &[u16], start: u32, gap: u32, stamps: &mut [u32], levels: &mut [u8]) -> u64 {
         guarded(stamps, 0xA5A5_A5A5, |stamps| {
             guarded(levels, 0xA5, |levels| Archive.encode(events, start, gap, stamps, levels))
@@ -224,5 +315,9 @@ impl Interface for Guarded {
 
     fn least(&self, bytes: &[u8], lengths: &[u32]) -> (u64, u64) {
         Archive.least(bytes, lengths)
+    }
+
+    fn place(&self, board: u32, corrections: &Catalogue, standing: &Catalogue) -> Place {
+        Archive.place(board, corrections, standing)
     }
 }

@@ -5,11 +5,13 @@
 pub mod arbitration;
 pub mod bus;
 pub mod cases;
+pub mod catalogue;
 pub mod compare;
 #[cfg(feature = "rattle")]
 pub mod ffi;
 pub mod module;
 pub mod packed;
+pub mod phases;
 pub mod random;
 pub mod refusal;
 pub mod rig;

@@ -155,6 +155,13 @@ impl Module {
         self.write(address, low)?.write(address + 1, high)
     }
 
+    /// The flags of USICTL1 (AL, STP, STTIFG, IFG) that were 1 before a write and are 0 after it (02: Ask 12).
+    pub fn cleared_since(&self, before: &Module) -> u8 {
+        let flags = |module: &Module| [AL, STP, STTIFG, IFG].map(|flag| module.is(flag));
+        let both = flags(before).into_iter().zip(flags(self));
+        both.fold(0, |bits, (was, is)| bits << 1 | u8::from(was && !is))
+    }
+
     /// Write to USICNT: CNT above 0 with IFGCC=0 clears IFG and STP; CNT=0 sets IFG.
     fn count_written(&mut self) {
         if self.count() > 0 && !self.is(IFGCC) {
@@ -270,10 +277,19 @@ impl Module {
         }
         let clocking = self.is(MST) && !self.is(IFG) && self.count() > 0;
         let scl_seen_high = self.seen && self.scl;
+        let scl_seen_low = self.seen && !self.scl;
+        if clocking && self.phase && scl_seen_low && self.divider() == 0 {
+            return Err(Reason::NoWaiting.refusal());
+        }
         let mut next = self;
         next.phase = !(clocking && self.phase && scl_seen_high);
         next.settle();
         Ok(next)
+    }
+
+    /// DIV, bits 7 to 5 of USICKCTL: the clock is divided by 2 to this power.
+    const fn divider(&self) -> u8 {
+        self.registers[2] >> 5
     }
 
     /// The lines pulled low; both are released while the set-up doesn't fit.

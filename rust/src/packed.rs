@@ -1,11 +1,13 @@
 //! The C functions of the proved library as a trait, and the model behind the same functions.
 //!
 //! A module is one number: six registers from bit 0 up, the hidden state in bits 48 to 54; a step's answer has
-//! the refusal number in bits 56 to 63.
+//! the refusal number in bits 55 to 59, a write's also the flags that it cleared in bits 60 to 63.
 
 use crate::arbitration::{self, runner, Request, Run, MASTERS};
-use crate::bus;
+use crate::bus::{self, Decoded};
+use crate::catalogue::{self, Catalogue, Part};
 use crate::module::Module;
+use crate::phases::{self, Mode};
 use crate::refusal::{Reason, Refusal};
 
 /// The bits of a packed module.
@@ -25,7 +27,7 @@ pub struct Buffers {
     pub carried: Vec<u8>,
     pub levels: Vec<u8>,
     pub modules: Vec<u64>,
-    /// Of each master twice its position, and 1 more while it contends.
+    /// Of each master: 1 while it contends, from bit 1 the flags that its writes cleared, from bit 5 its position.
     pub seats: Vec<u32>,
 }
 
@@ -48,6 +50,15 @@ impl Buffers {
     }
 }
 
+/// Where a board's message lies: 1 for a correction, its offset in the block and its length; all 0 at a refusal.
+#[derive(Clone, PartialEq, Eq, Debug)]
+pub struct Place {
+    pub number: u8,
+    pub corrected: u8,
+    pub offset: u64,
+    pub length: u32,
+}
+
 /// The C functions; each implementation is one side of a comparison.
 pub trait Interface {
     fn power_up(&self, usisrl: u8, usisrh: u8) -> u64;
@@ -59,10 +70,13 @@ pub trait Interface {
     fn read_word(&self, module: u64, address: u16) -> u32;
     fn lines(&self, module: u64) -> u8;
     fn decode(&self, stamps: &[u32], levels: &[u8], events: &mut [u16]) -> u64;
+    fn decode_in(&self, mode: Mode, stamps: &[u32], levels: &[u8], events: &mut [u16]) -> u64;
     fn encode(&self, events: &[u16], start: u32, gap: u32, stamps: &mut [u32], levels: &mut [u8]) -> u64;
     fn arbitrate(&self, asked: &Asked, lent: Lent) -> u64;
     /// The index of the least message, and how many comparisons found it.
     fn least(&self, bytes: &[u8], lengths: &[u32]) -> (u64, u64);
+    /// The answers of the four functions of a catalogue.
+    fn place(&self, board: u32, corrections: &Catalogue, standing: &Catalogue) -> Place;
 }
 
 /// The model of this crate.
@@ -96,13 +110,33 @@ pub fn unpack(packed: u64) -> Module {
 fn step(packed: u64, step: impl Fn(Module) -> Result<Module, Refusal>) -> u64 {
     match step(unpack(packed)) {
         Ok(next) => pack(&next),
-        Err(refusal) => packed & MODULE | u64::from(refusal.number()) << 56,
+        Err(refusal) => packed & MODULE | u64::from(refusal.number()) << 55,
     }
+}
+
+/// The same of a write, with the flags that it cleared.
+fn written(packed: u64, write: impl Fn(Module) -> Result<Module, Refusal>) -> u64 {
+    let before = unpack(packed);
+    let cleared = write(before).map_or(0, |after| after.cleared_since(&before));
+    step(packed, write) | u64::from(cleared) << 60
 }
 
 /// A value read, or the refusal number times 65536.
 fn value(read: Result<u16, Refusal>) -> u32 {
     read.map_or_else(|refusal| u32::from(refusal.number()) << 16, u32::from)
+}
+
+/// The reader's reply as a number.
+pub fn read(reply: Result<Decoded, Refusal>) -> u64 {
+    match reply {
+        Ok(decoded) => {
+            (decoded.count as u64) << 24
+                | u64::from(decoded.open) << 40
+                | u64::from(decoded.pending) << 48
+                | u64::from(decoded.value) << 56
+        }
+        Err(refusal) => refused(refusal),
+    }
 }
 
 /// A refused reply: number and place.
@@ -116,11 +150,11 @@ impl Interface for Model {
     }
 
     fn write(&self, module: u64, address: u16, value: u8) -> u64 {
-        step(module, |module| module.write(address, value))
+        written(module, |module| module.write(address, value))
     }
 
     fn write_word(&self, module: u64, address: u16, value: u16) -> u64 {
-        step(module, |module| module.write_word(address, value))
+        written(module, |module| module.write_word(address, value))
     }
 
     fn sample(&self, module: u64, level: u8) -> u64 {
@@ -145,15 +179,11 @@ impl Interface for Model {
     }
 
     fn decode(&self, stamps: &[u32], levels: &[u8], events: &mut [u16]) -> u64 {
-        match bus::decode(stamps, levels, events) {
-            Ok(decoded) => {
-                (decoded.count as u64) << 24
-                    | u64::from(decoded.open) << 40
-                    | u64::from(decoded.pending) << 48
-                    | u64::from(decoded.value) << 56
-            }
-            Err(refusal) => refused(refusal),
-        }
+        read(bus::decode(stamps, levels, events))
+    }
+
+    fn decode_in(&self, mode: Mode, stamps: &[u32], levels: &[u8], events: &mut [u16]) -> u64 {
+        read(phases::decode_in(mode, stamps, levels, events))
     }
 
     fn encode(&self, events: &[u16], start: u32, gap: u32, stamps: &mut [u32], levels: &mut [u8]) -> u64 {
@@ -178,6 +208,18 @@ impl Interface for Model {
         let (index, comparisons) = arbitration::least(&arbitration::cut(bytes, lengths));
         (index as u64, comparisons as u64)
     }
+
+    fn place(&self, board: u32, corrections: &Catalogue, standing: &Catalogue) -> Place {
+        match catalogue::find(board, corrections, standing) {
+            Ok(Part { corrected, bytes }) => Place {
+                number: 0,
+                corrected: u8::from(corrected),
+                offset: bytes.start as u64,
+                length: bytes.len() as u32,
+            },
+            Err(refusal) => Place { number: refusal.number(), corrected: 0, offset: 0, length: 0 },
+        }
+    }
 }
 
 /// Every lent slice is as long as the reply needs: the tables have an entry for each of the most masters.
@@ -195,6 +237,8 @@ fn fill(run: &Run, lent: Lent) {
     lent.levels[..outcome.levels.len()].copy_from_slice(&outcome.levels);
     for master in 0..MASTERS {
         lent.modules[master] = pack(&run.modules[master]);
-        lent.seats[master] = 2 * u32::from(outcome.positions[master]) + u32::from(outcome.remaining[master]);
+        lent.seats[master] = 32 * u32::from(outcome.positions[master])
+            + 2 * u32::from(run.cleared[master])
+            + u32::from(outcome.remaining[master]);
     }
 }

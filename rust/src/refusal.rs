@@ -20,6 +20,11 @@ pub enum Reason {
     ReadMessage = 14,
     Acknowledges = 15,
     Undecided = 16,
+    NoWaiting = 17,
+    ShortPhase = 18,
+    BoardsDoNotRise = 40,
+    BoardLengths = 41,
+    BoardAbsent = 42,
 }
 
 /// A refusal as a reply states it; the place is 0 where the table gives none.

@@ -2,6 +2,7 @@
 
 use rehearsal_model::bus::{complete, decode, drawing, encode, sample_count, Decoded};
 use rehearsal_model::compare::lists::complete_list;
+use rehearsal_model::phases::{decode_in, Mode};
 use rehearsal_model::random::Random;
 use rehearsal_model::refusal::{Reason, Refusal};
 
@@ -102,5 +103,34 @@ fn every_drawing_is_read_back() {
         assert_eq!(levels.len(), sample_count(&list));
         let (decoded, events) = read(&levels).unwrap();
         assert_eq!((decoded.open, decoded.pending, events), (false, 0, list));
+    }
+}
+
+#[test]
+fn phases_at_the_limits() {
+    let read = |mode, stamps: &[u32]| decode_in(mode, stamps, &[3, 1, 0, 1, 0, 1, 3], &mut [0; 7]);
+    assert!(read(Mode::Standard, &[0, 1, 2, 49, 89, 136, 137]).is_ok());
+    assert_eq!(read(Mode::Standard, &[0, 1, 2, 48, 89, 136, 137]), Err(Reason::ShortPhase.at(3)));
+    assert_eq!(read(Mode::Standard, &[0, 1, 2, 49, 88, 136, 137]), Err(Reason::ShortPhase.at(4)));
+    assert!(read(Mode::Fast, &[0, 1, 2, 15, 21, 34, 35]).is_ok());
+    assert_eq!(read(Mode::Fast, &[0, 1, 2, 14, 21, 34, 35]), Err(Reason::ShortPhase.at(3)));
+    assert_eq!(read(Mode::Fast, &[0, 1, 2, 15, 20, 34, 34]), Err(Reason::StampNotAbove.at(6)));
+    assert!(read(Mode::Unchecked, &[0, 1, 2, 3, 4, 5, 6]).is_ok());
+}
+
+#[test]
+fn drawings_with_wide_gaps_are_read_in_the_strict_modes() {
+    let mut random = Random::new(9);
+    for (mode, wide) in [(Mode::Standard, 47), (Mode::Fast, 13)] {
+        for _ in 0..200 {
+            let list = complete_list(&mut random);
+            let mut events = vec![0; list.len()];
+            let (stamps, levels) = draw(&list, 5, wide).unwrap();
+            assert!(decode_in(mode, &stamps, &levels, &mut events).is_ok());
+            assert_eq!(events, list);
+            let (stamps, levels) = draw(&list, 5, wide - 1).unwrap();
+            let refused = decode_in(mode, &stamps, &levels, &mut events).err();
+            assert_eq!(refused, (!list.is_empty()).then_some(Reason::ShortPhase.at(3)));
+        }
     }
 }

@@ -1,8 +1,12 @@
 //! The comparison itself: the model behind the C functions is equal to the model, and wrong sides are found.
 
 use rehearsal_model::arbitration::cut;
+use rehearsal_model::bus::frame_open_after;
+use rehearsal_model::catalogue::Catalogue;
+use rehearsal_model::compare::catalogue::wraps;
 use rehearsal_model::compare::{run, Comparison, COMPARISONS};
-use rehearsal_model::packed::{Asked, Interface, Lent, Model, MODULE};
+use rehearsal_model::packed::{read, Asked, Interface, Lent, Model, Place};
+use rehearsal_model::phases::{decode_within, edges, Limits, Mode};
 
 /// The model with one function that is wrong now and then.
 #[derive(Clone, Copy, PartialEq, Debug)]
@@ -19,6 +23,13 @@ enum Wrong {
     EventsRest,
     PendingValue,
     RefusedBuffer,
+    LimitRefused,
+    LowForHigh,
+    FirstPhase,
+    LastToLast,
+    ShortBefore7,
+    InFrames,
+    NoPlace,
     LastStamp,
     Position,
     Module,
@@ -27,6 +38,16 @@ enum Wrong {
     RefusedModules,
     LastOfEquals,
     TwoPasses,
+    SetsCounted,
+    WordsLowByte,
+    LosersCleared,
+    StandingFirst,
+    EqualBoards,
+    WrappingSum,
+    EmptyIsAbsent,
+    OneByteLate,
+    StandingBoardsFirst,
+    LengthsNotCounted,
 }
 
 impl Interface for Wrong {
@@ -37,15 +58,17 @@ impl Interface for Wrong {
     fn write(&self, module: u64, address: u16, value: u8) -> u64 {
         let next = Model.write(module, address, value);
         match self {
-            Wrong::HighBitsMatter => next | module & !MODULE & !(0xFF << 56),
-            Wrong::RefusalNumber if next >> 56 == 1 => next ^ 3 << 56,
+            Wrong::SetsCounted => next | (!module >> 8 & next >> 8 & 15) << 60,
+            Wrong::HighBitsMatter => next | module & 1 << 55,
+            Wrong::RefusalNumber if next >> 55 & 31 == 1 => next ^ 3 << 55,
             _ => next,
         }
     }
 
     fn write_word(&self, module: u64, address: u16, value: u16) -> u64 {
         let address = if *self == Wrong::OddWord && address == 0x07F { 0x07E } else { address };
-        Model.write_word(module, address, value)
+        let next = Model.write_word(module, address, value);
+        next & if *self == Wrong::WordsLowByte { u64::MAX >> 4 } else { u64::MAX }
     }
 
     fn sample(&self, module: u64, level: u8) -> u64 {
@@ -82,6 +105,42 @@ impl Interface for Wrong {
         reply
     }
 
+    fn decode_in(&self, mode: Mode, stamps: &[u32], levels: &[u8], events: &mut [u16]) -> u64 {
+        let reply = Model.decode_in(mode, stamps, levels, events);
+        let Limits { low, high } = mode.limits();
+        match self {
+            Wrong::LimitRefused => {
+                read(decode_within(Limits { low: low + 1, high: high + 1 }, stamps, levels, events))
+            }
+            Wrong::LowForHigh => read(decode_within(Limits { low: high, high: low }, stamps, levels, events)),
+            Wrong::FirstPhase if ![4, 5, 6, 7].contains(&(reply & 0xFF)) => match edges(levels).first() {
+                Some(&edge) if stamps[edge] - stamps[0] < high.min(low) => 18 | (edge as u64) << 8,
+                _ => reply,
+            },
+            Wrong::LastToLast if !levels.is_empty() && stamps.len() == levels.len() => {
+                let one_late = stamps[..levels.len() - 1].iter().map(|stamp| stamp.saturating_add(1));
+                let stamps: Vec<u32> = [stamps[0]].into_iter().chain(one_late).collect();
+                Model.decode_in(mode, &stamps, levels, events)
+            }
+            Wrong::ShortBefore7 if reply & 0xFF == 7 => {
+                let before = (reply >> 8 & 0xFFFF) as usize;
+                let early = Model.decode_in(mode, &stamps[..before], &levels[..before], &mut []);
+                if early & 0xFF == 18 {
+                    early
+                } else {
+                    reply
+                }
+            }
+            Wrong::InFrames
+                if reply & 0xFF == 18 && !frame_open_after(levels)[(reply >> 8 & 0xFFFF) as usize] =>
+            {
+                Model.decode(stamps, levels, events)
+            }
+            Wrong::NoPlace if reply & 0xFF == 18 => 18,
+            _ => reply,
+        }
+    }
+
     fn encode(&self, events: &[u16], start: u32, gap: u32, stamps: &mut [u32], levels: &mut [u8]) -> u64 {
         let gap = if *self == Wrong::LastStamp && gap == 1001 { 1000 } else { gap };
         Model.encode(events, start, gap, stamps, levels)
@@ -94,9 +153,12 @@ impl Interface for Wrong {
         let reply = Model.arbitrate(asked, lent);
         let carried = (reply >> 24 & 0xFFFF) as usize;
         match self {
-            Wrong::Position if carried == 32 => seats[0] ^= 2,
+            Wrong::Position if carried == 32 => seats[0] ^= 32,
             Wrong::Module if carried > 5 => modules[asked.lengths.len() - 1] ^= 1 << 48,
             Wrong::StillIn if asked.lengths.len() == 8 && reply & 0xFF == 0 => seats[7] ^= 1,
+            Wrong::LosersCleared if reply & 0xFF == 0 => {
+                seats.iter_mut().filter(|seat| **seat > 0 && **seat & 1 == 0).for_each(|seat| *seat |= 16)
+            }
             Wrong::LevelsRest if reply & 0xFF == 0 => {
                 levels.iter_mut().skip(585).for_each(|level| *level = 0)
             }
@@ -114,6 +176,27 @@ impl Interface for Wrong {
             Wrong::LastOfEquals => (last.unwrap_or(0) as u64, comparisons),
             Wrong::TwoPasses => (index, 2 * comparisons),
             _ => (index, comparisons),
+        }
+    }
+
+    fn place(&self, board: u32, corrections: &Catalogue, standing: &Catalogue) -> Place {
+        let place = Model.place(board, corrections, standing);
+        let swapped = Model.place(board, standing, corrections);
+        let falls = |boards: &[u32]| boards.windows(2).any(|pair| pair[1] < pair[0]);
+        let uncounted = |one: &Catalogue| one.lengths.len() != one.boards.len();
+        match (self, place.number) {
+            (Wrong::StandingFirst, 0) => Place { corrected: 1 - swapped.corrected, ..swapped },
+            (Wrong::EqualBoards, 40) if !falls(&corrections.boards) && !falls(&standing.boards) => {
+                Place { number: 42, ..place }
+            }
+            (Wrong::WrappingSum, 41) if wraps(corrections) || wraps(standing) => {
+                Place { number: 42, ..place }
+            }
+            (Wrong::LengthsNotCounted, 41) if uncounted(corrections) => Place { number: 42, ..place },
+            (Wrong::EmptyIsAbsent, 0) if place.length == 0 => Place { number: 42, corrected: 0, ..place },
+            (Wrong::OneByteLate, 0) => Place { offset: place.offset + 1, ..place },
+            (Wrong::StandingBoardsFirst, 41) if swapped.number == 40 => swapped,
+            _ => place,
         }
     }
 }
@@ -155,11 +238,13 @@ fn the_model_is_equal_to_itself_in_full() {
 
 #[test]
 fn every_refusal_occurs() {
-    let expected: [(&str, &[usize]); 4] = [
+    let expected: [(&str, &[usize]); 6] = [
         ("step sequences", &[1, 2, 3, 4]),
         ("traces", &[0, 4, 5, 6, 7, 8]),
+        ("timed traces", &[0, 4, 5, 6, 7, 8, 18]),
         ("lists", &[0, 6, 8, 9, 10, 11]),
         ("arbitrations", &[0, 8, 12, 13, 14, 15, 16]),
+        ("catalogues", &[0, 40, 41, 42]),
     ];
     for (cases, numbers) in expected {
         let counts = run(comparison(cases), &Model, 1, 20_000).unwrap();
@@ -173,6 +258,7 @@ fn every_refusal_occurs() {
 fn wrong_modules_are_found() {
     use Wrong::*;
     let wrong = [PowerUp, KeptScl, RefusalNumber, OddWord, NeverWaits, HighBitsMatter, ReadsZero, Lines];
+    check_detected("step sequences", &[SetsCounted, WordsLowByte]);
     check_detected("step sequences", &wrong);
 }
 
@@ -180,11 +266,25 @@ fn wrong_modules_are_found() {
 fn wrong_readers_and_writers_are_found() {
     use Wrong::*;
     check_detected("traces", &[EventCount, EventsRest, PendingValue, RefusedBuffer]);
+    check_detected(
+        "timed traces",
+        &[LimitRefused, LowForHigh, FirstPhase, LastToLast, ShortBefore7, InFrames, NoPlace],
+    );
     check_detected("lists", &[LastStamp]);
 }
 
 #[test]
 fn wrong_arbitrations_are_found() {
     use Wrong::*;
-    check_detected("arbitrations", &[Position, Module, StillIn, LevelsRest, RefusedModules, LastOfEquals, TwoPasses]);
+    check_detected(
+        "arbitrations",
+        &[Position, Module, StillIn, LevelsRest, RefusedModules, LastOfEquals, TwoPasses, LosersCleared],
+    );
+}
+
+#[test]
+fn wrong_catalogues_are_found() {
+    use Wrong::*;
+    check_detected("catalogues", &[StandingFirst, EqualBoards, WrappingSum, LengthsNotCounted]);
+    check_detected("catalogues", &[EmptyIsAbsent, OneByteLate, StandingBoardsFirst]);
 }

@@ -25,7 +25,9 @@ use Rattle.arbitration_rules.specs.Reply.{messagesOf, messageChecks, shortBuffe
 use Rattle.arbitration_rules.specs.Reply.{seatOf, answered, arbitrated, carriedAfter, levelsAfter}
 use Rattle.arbitration_rules.specs.Run.{Bus, run, fateOf, observed}
 use Rattle.arbitration_rules.proofs.Carry.{Bytes}
-use Rattle.arbitration_rules.proofs.Accepted.{message-numbered, answered-outcome, refused-by-16}
+use Rattle.arbitration_rules.specs.Cleared.{clearedBy}
+use Rattle.arbitration_rules.proofs.Accepted.{cut-count, message-numbered, answered-outcome, refused-by-16}
+use Rattle.arbitration_rules.proofs.ClearedFlags.{run-clears}
 use Rattle.arbitration_run.specs.Members as members
 use Rattle.arbitration_run.specs.Rows.{rowsOf}
 use Rattle.arbitration_run.specs.Sequence.{first}
@@ -34,9 +36,24 @@ use Rattle.arbitration_turns.proofs.Ran as ran
 use Rattle.arbitration_checks.specs.Settled.{settled}
 use Rattle.arbitration.specs.declared.table.Ended.{Ended}
 use Rattle.arbitration.specs.Shown as shows
-use Rattle.arbitration.specs.Shown.{shown, OnlyUndecided, Short, repliedBy}
-use Rattle.arbitration.proofs.Given.{found, settled-none, settled-some, few, whole, short, carried-length}
+use Rattle.arbitration.specs.Shown.{shown, clearedIn, allCleared, OnlyUndecided, Short, repliedBy}
+use Rattle.arbitration.proofs.Given.{found, settled-none, settled-some, arbitration, few, whole, short, carried-length}
 use Rattle.arbitration.proofs.Given.{levels-length, short-is}
+
+-- seats that differ in nothing but the master
+seats-alike : {A : Type 0} (flags : ℕ) (list : List A) (masters : List Master) → length masters ≡ length list
+    → zipWith seatOf (map (λ (a : A). flags) list) masters ≡ map (seatOf flags) masters
+unfolding zipWith
+seats-alike flags [] [] same = refl
+seats-alike flags [] (master ∷ masters) same = absurd (omega arith)
+seats-alike flags (a ∷ list) [] same = absurd (omega arith)
+seats-alike flags (a ∷ list) (master ∷ masters) same =
+    ap (λ (seats : List Seat). seatOf flags master ∷ seats) (seats-alike flags list masters (omega arith))
+
+same-cleared : (masters : List Master)
+    → map (λ (seat : Seat). seat .cleared) (map (seatOf members.writesClear) masters) ≡ allCleared (length masters)
+same-cleared [] = refl
+same-cleared (master ∷ masters) = ap (λ (flags : List ℕ). members.writesClear ∷ flags) (same-cleared masters)
 
 module _ (bytes lengths acknowledges entry levels : List ℕ) where
   abbrev messages : List (List ℕ)
@@ -49,6 +66,7 @@ module _ (bytes lengths acknowledges entry levels : List ℕ) where
     pub recorded : levelsExit ≡ levelsAfter bytes lengths acknowledges (reply .refusal) levels
     pub follows : reply .refusal .number ≡ 0
         → shown (length lengths) reply exit levelsExit ≡ outcome messages acknowledges
+    pub clears : reply .refusal .number ≡ 0 → clearedIn (length lengths) reply ≡ allCleared (length lengths)
     pub refuses : OnlyUndecided bytes lengths acknowledges (length entry) (length levels) (reply .refusal)
 
   abbrev whatApplies : Refusal
@@ -70,6 +88,7 @@ module _ (bytes lengths acknowledges entry levels : List ℕ) where
         carried = rw (same, not-none);
         recorded = rw (same, not-none);
         follows = λ unrefused. absurd (some (sym (ap (λ (r : Refusal). r .number) same) ∙ unrefused));
+        clears = λ unrefused. absurd (some (sym (ap (λ (r : Refusal). r .number) same) ∙ unrefused));
         refuses =
             λ count sizes reading answers enough.
             same ∙ sym applies ∙ only-undecided count sizes reading answers enough;
@@ -197,39 +216,54 @@ module _ (bytes lengths acknowledges entry levels : List ℕ) where
             (drop-replicate (powerUp 0 0) maxMasters (length lengths) masters-few
             ∙ ap (λ (n : ℕ). replicate n (powerUp 0 0)) left)
 
+        -- each master's writes cleared STTIFG and IFG
+        abbrev standing : List Seat
+        standing = map (seatOf members.writesClear) (bus .masters)
+
+        cleared-alike : zipWith seatOf (clearedBy messages acknowledges) (bus .masters) ≡ standing
+        cleared-alike =
+            ap (λ (flags : List ℕ). zipWith seatOf flags (bus .masters))
+            (run-clears messages acknowledges (arbitration bytes lengths acknowledges small (two .0)))
+            ∙ seats-alike members.writesClear messages (bus .masters) (many ∙ sym (cut-count lengths bytes))
+
         seats-are : members.seats (ended .sequencer .members .contending) (ended .sequencer .members .positions)
             (length lengths)
-            ≡ padded absent (map seatOf (bus .masters))
+            ≡ padded absent standing
         seats-are =
-            let left : maxMasters - length lengths ≡ maxMasters - length (map seatOf (bus .masters)) =
-            omega (arith, length-map (bus .masters) seatOf, many) in
+            let left : maxMasters - length lengths ≡ maxMasters - length standing =
+            omega (arith, length-map (bus .masters) (seatOf members.writesClear), many) in
             ran.seats-are bytes lengths acknowledges masters-few (short bytes lengths acknowledges small (two .0))
             (whole bytes lengths acknowledges small (two .0)) eight table-enough entry levels (roomy .0) (roomy .1)
             final
             reached
-            ∙ ap (λ (n : ℕ). map seatOf (bus .masters) ++ replicate n absent) left
+            ∙ ap (λ (n : ℕ). standing ++ replicate n absent) left
 
-        replied : repliedBy ended (length lengths) ≡ answered bus
+        abbrev answer : Arbitrated
+        answer = answered (clearedBy messages acknowledges) bus
+
+        replied : repliedBy ended (length lengths) ≡ answer
         unfolding repliedBy answered
-        replied = rw (modules-are, sent-is, seats-are)
+        replied = rw (modules-are, sent-is, seats-are, cleared-alike)
 
         -- what demand 3 compares
         fates-are : (masters : List Master) (modules : List Usi) (seats : List Seat)
             → take (length masters)
-            (zipWith shows.fateOf (map (λ (m : Master). m .usi) masters ++ modules) (map seatOf masters ++ seats))
+            (zipWith shows.fateOf (map (λ (m : Master). m .usi) masters ++ modules)
+            (map (seatOf members.writesClear) masters ++ seats))
             ≡ map fateOf masters
         unfolding zipWith
         fates-are [] modules seats = refl
         fates-are (master ∷ masters) modules seats =
             ap (λ (fates : List Fate). fateOf master ∷ fates) (fates-are masters modules seats)
 
-        shown-is : shown (length lengths) (answered bus) exit levelsExit ≡ observed bus
+        shown-is : shown (length lengths) answer exit levelsExit ≡ observed bus
         unfolding shown observed answered
         shown-is =
             let k-is : levelCount (length (bus .carried)) ≡ length (bus .levels) =
             ap levelCount (carried-length bytes lengths acknowledges small (two .0))
             ∙ sym (levels-length bytes lengths acknowledges small (two .0)) in
             rw (
+              cleared-alike,
               carried-is,
               levels-are,
               k-is,
@@ -238,14 +272,26 @@ module _ (bytes lengths acknowledges entry levels : List ℕ) where
               ← many,
               fates-are (bus .masters)
                   (replicate (maxMasters - length (map (λ (m : Master). m .usi) (bus .masters))) (powerUp 0 0))
-                  (replicate (maxMasters - length (map seatOf (bus .masters))) absent),
+                  (replicate (maxMasters - length standing) absent),
             )
+
+        -- and of those that have a message
+        clears-are : clearedIn (length lengths) answer ≡ allCleared (length lengths)
+        unfolding answered
+        clears-are =
+            rw (
+              cleared-alike,
+              ← many,
+              ← length-map (bus .masters) (seatOf members.writesClear),
+              take-append-seam standing (replicate (maxMasters - length standing) absent),
+              length-map (bus .masters) (seatOf members.writesClear),
+            ) (same-cleared (bus .masters))
 
         pub ran-clauses : (reply : Arbitrated) → reply ≡ repliedBy ended (length lengths)
             → Clauses exit levelsExit reply
         unfolding arbitrated carriedAfter levelsAfter
         ran-clauses reply is =
-            let same : reply ≡ answered bus = is ∙ replied in
+            let same : reply ≡ answer = is ∙ replied in
             let no-refusal : reply .refusal ≡ none = ap (λ (r : Arbitrated). r .refusal) same ∙ answered-none in
             let zero : whatApplies .number ≡ 0 = ap (λ (r : Refusal). r .number) unrefused in
             record {
@@ -257,10 +303,12 @@ module _ (bytes lengths acknowledges entry levels : List ℕ) where
                   ap (λ (r : Arbitrated). shown (length lengths) r exit levelsExit) same
                   ∙ shown-is
                   ∙ answered-outcome bytes lengths acknowledges (length entry) (length levels) small zero;
+              clears =
+                  λ unrefused-so. ap (λ (r : Arbitrated). clearedIn (length lengths) r) same ∙ clears-are;
               refuses =
                   λ count sizes reading answers room-enough.
                   no-refusal ∙ sym unrefused ∙ only-undecided count sizes reading answers room-enough;
             }
           where
-            answered-none : answered bus .refusal ≡ none
+            answered-none : answer .refusal ≡ none
             answered-none = unfold answered in refl

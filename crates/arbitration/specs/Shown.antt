@@ -1,15 +1,15 @@
 -- What a caller sees of an arbitration, for its contract.
-use Prim.Native.Nat.{ℕ}
+use Prim.Native.Nat.{ℕ, _+_}
 use mathlib.Core.Path.{_≡_}
 use mathlib.Core.Bool.{Bool, cond, false, _||_}
-use mathlib.Core.List.{List, zipWith}
+use mathlib.Core.List.{List, map, zipWith}
 use lib.Dec.{ltb}
-use lib.ListN.{take}
+use lib.ListN.{take, replicate}
 use Rattle.bits.specs.Positions.{on}
 use Rattle.laws.specs.declared.Refusal.{Refusal}
 use Rattle.laws.specs.Refusals.{refusedAt, none}
 use Rattle.laws.specs.Search.{any}
-use Rattle.usi_registers.specs.Registers.{USIAL}
+use Rattle.usi_registers.specs.Registers.{USIAL, USISTTIFG, USIIFG}
 use Rattle.usi.specs.declared.Usi.{Usi}
 use Rattle.arbitration_rules.specs.declared.Arbitrated.{Arbitrated}
 use Rattle.arbitration_rules.specs.declared.Seat.{Seat}
@@ -38,6 +38,14 @@ shown masters reply carried levels =
       levels = take (levelCount (reply .count)) levels;
       fates = take masters (zipWith fateOf (reply .modules) (reply .seats));
     }
+
+-- what the writes of each master that has a message cleared, and what demand 3 adds of that (02: Ask 12): STTIFG and
+-- IFG, never AL or STP
+abbrev pub clearedIn : ℕ → Arbitrated → List ℕ
+clearedIn masters reply = map (λ (seat : Seat). seat .cleared) (take masters (reply .seats))
+
+abbrev pub allCleared : ℕ → List ℕ
+allCleared masters = replicate masters (USISTTIFG + USIIFG)
 
 -- where none of 12, 13, 14, 15 and 8 applies, the reply is refused exactly when 16 applies
 abbrev pub OnlyUndecided : List ℕ → List ℕ → List ℕ → ℕ → ℕ → Refusal → Type 0

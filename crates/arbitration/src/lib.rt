@@ -7,7 +7,7 @@ ghost use Rattle.laws.specs.Refusals.{refusedAt, none};
 ghost use Rattle.arbitration_rules.specs.Limits.{maxLength};
 ghost use Rattle.arbitration_rules.specs.Outcome.{outcome, levelCount, undecided};
 ghost use Rattle.arbitration_rules.specs.Reply.{arbitrated, carriedAfter, levelsAfter, messagesOf};
-ghost use Rattle.arbitration.specs.Shown.{shown, Short, OnlyUndecided};
+ghost use Rattle.arbitration.specs.Shown.{shown, clearedIn, allCleared, Short, OnlyUndecided};
 
 mod reply; // reply.rt: what arbitrate answers, of a refusal and of a run
 mod table; // table.rt: the functions that hold the modules
@@ -28,8 +28,9 @@ fn short(count: usize, carried: usize, levels: usize) -> bool
 // Runs the arbitration of the messages that lie in bytes one after the other, each of its length, with an acknowledge
 // for each byte of the longest. The reply is that of 01's steps 1 to 4, or the first refusal that applies. The buffers
 // take the carried bytes and the recorded levels; their rest stays, and at a refusal all of both. What a run shows is
-// what follows from messages and acknowledges alone (01: demand 3), and what no other refusal stops is refused exactly
-// when the smallest message is acknowledged to its end and another goes on from there.
+// what follows from messages and acknowledges alone (01: demand 3); the writes of each master cleared STTIFG and IFG (02:
+// Ask 12); and what no other refusal stops is refused exactly when the smallest message is acknowledged to its end and
+// another goes on from there.
 pub fn arbitrate(
     bytes: &[u8],
     lengths: &[u32],
@@ -46,6 +47,8 @@ pub fn arbitrate(
     ensures follows { λ r. ⌜ (r .refusal .number ≡ 0
         → shown (length (now (lengths .entry))) r (now (carried .exit)) (now (levels .exit))
         ≡ outcome (messagesOf (now (lengths .entry)) (now (bytes .entry))) (now (acks .entry))) ⌝ }
+    ensures clears { λ r. ⌜ (r .refusal .number ≡ 0
+        → clearedIn (length (now (lengths .entry))) r ≡ allCleared (length (now (lengths .entry)))) ⌝ }
     ensures refuses { λ r. ⌜ OnlyUndecided (now (bytes .entry)) (now (lengths .entry)) (now (acks .entry))
         (length (now (carried .entry))) (length (now (levels .entry))) (r .refusal) ⌝ }
 {

@@ -16,6 +16,7 @@ pub(crate) fn refused(refusal: Refusal) -> Arbitrated
     let empty = Seat {
         contending: false,
         position: 0,
+        cleared: 0,
     };
     Arbitrated {
         refusal,

@@ -26,7 +26,7 @@ use Rattle.arbitration_rules.proofs.Drawing.{byte-drawn}
 abbrev pub Bytes : List ℕ → Type 0
 Bytes message = Everyone (λ byte. byte < 256) message
 
-byte-below : {message : List ℕ} → Bytes message → (index : ℕ) → byteAt index message < 256
+pub byte-below : {message : List ℕ} → Bytes message → (index : ℕ) → byteAt index message < 256
 byte-below nobody index = lit< tt
 byte-below (also small more) zero = small
 byte-below (also small more) (suc index) = byte-below more index
@@ -61,10 +61,10 @@ module _ (messages : List (List ℕ)) (carried : List ℕ) (byte : ℕ) (more : 
   here : byteAt (length carried) (carried ++ byte ∷ more) ≡ byte
   here = getD-append-seam carried byte more 0
 
-  small : byte < 256
+  pub small : byte < 256
   small = subst (λ (b : ℕ). b < 256) here (winner-below contest (length carried))
 
-  leader : Someone
+  pub leader : Someone
       (λ message. (isIn (against 0 carried message) ≡ true) × (byteAt (length carried) message ≡ byte)) messages
   leader = someone-so (λ message same. (owner message same, ap (byteAt (length carried)) same ∙ here)) (contest .sent)
     where

@@ -43,7 +43,7 @@ pub record Ended (bus : Bus) (messages : List (List ℕ)) (carried acknowledges 
   pub bytes : bus .carried ≡ carried
 
 -- the owner of the least message is in at the end
-winner-in : (messages : List (List ℕ)) (winner : List ℕ) (k : ℕ) → Someone (λ message. message ≡ winner) messages
+pub winner-in : (messages : List (List ℕ)) (winner : List ℕ) (k : ℕ) → Someone (λ message. message ≡ winner) messages
     → Someone (λ message. isIn (against 0 (take k winner) message) ≡ true) messages
 winner-in messages winner k some =
     someone-so

@@ -25,39 +25,39 @@ use Rattle.arbitration_rules.proofs.Pause.{standingAs, masterAt}
 use Rattle.arbitration_rules.proofs.Round.{waits}
 
 -- the writes of step 1 and of step 4, as 01 lists them
-abbrev prepare : List (ℕ × ℕ)
+abbrev pub prepare : List (ℕ × ℕ)
 prepare = (USICKCTL, 0x22) ∷ (USICTL1, 0x41) ∷ (USICTL0, 0xc8) ∷ []
 
-abbrev pullLow : List (ℕ × ℕ)
+abbrev pub pullLow : List (ℕ × ℕ)
 pullLow = (USISRL, 0x00) ∷ (USICTL0, 0xce) ∷ (USICTL0, 0xca) ∷ []
 
-abbrev clearStart : List (ℕ × ℕ)
+abbrev pub clearStart : List (ℕ × ℕ)
 clearStart = (USICTL1, 0x41) ∷ []
 
-abbrev sendLow : List (ℕ × ℕ)
+abbrev pub sendLow : List (ℕ × ℕ)
 sendLow = (USICTL0, 0xca) ∷ (USISRL, 0x00) ∷ (USICNT, 0x01) ∷ []
 
-abbrev letRise : List (ℕ × ℕ)
+abbrev pub letRise : List (ℕ × ℕ)
 letRise = (USISRL, 0xff) ∷ (USICTL0, 0xce) ∷ []
 
-abbrev finish : List (ℕ × ℕ)
+abbrev pub finish : List (ℕ × ℕ)
 finish = (USICTL0, 0xc8) ∷ []
 
 -- a module made ready, before and after it has seen the lines; one that pulls SDA low, before and after it has seen
 -- that
-abbrev ready : Usi
+abbrev pub ready : Usi
 ready = writesOf prepare entering .usi
 
-abbrev seen : Usi
+abbrev pub seen : Usi
 seen = between 0xc8 0x41 0 0 true false true
 
-abbrev pulling : Usi
+abbrev pub pulling : Usi
 pulling = between 0xca 0x41 0 0 false true true
 
-abbrev caught : Usi
+abbrev pub caught : Usi
 caught = between 0xca 0x43 0 0 false true false
 
-abbrev alike : Usi → List ℕ → Master
+abbrev pub alike : Usi → List ℕ → Master
 alike usi message = record { usi = usi; contending = true; lost = false; position = 0 }
 
 -- the START: nobody pulls at first, then everybody pulls SDA
@@ -71,23 +71,23 @@ module _ {P : List ℕ → Type 0} (messages : List (List ℕ)) (one : Someone P
   abbrev same : Usi → ℕ → List ℕ → Bus
   same usi level levels = busOf (map (alike usi) messages) false level 0 levels []
 
-  first-sample : recorded (same ready 0 []) ≡ same seen 3 (3 ∷ [])
+  pub first-sample : recorded (same ready 0 []) ≡ same seen 3 (3 ∷ [])
   unfolding applied writeByte settled followed edged sample
   first-sample =
       record-all (alike ready) messages (λ message. ready) false 0 0 [] [] true true (ap not nobody-pulls)
       (ap not nobody-pulls)
 
-  pulls-low : writes pullLow (same seen 3 (3 ∷ [])) ≡ same pulling 3 (3 ∷ [])
+  pub pulls-low : writes pullLow (same seen 3 (3 ∷ [])) ≡ same pulling 3 (3 ∷ [])
   unfolding applied writeByte settled followed
   pulls-low = writes-all pullLow (alike seen) messages false 3 0 (3 ∷ []) []
 
-  start-sample : recorded (same pulling 3 (3 ∷ [])) ≡ same caught 1 (3 ∷ 1 ∷ [])
+  pub start-sample : recorded (same pulling 3 (3 ∷ [])) ≡ same caught 1 (3 ∷ 1 ∷ [])
   unfolding conditionFlags conditionCount followed edged fallen risen sample
   start-sample =
       record-all (alike pulling) messages (λ message. pulling) false 3 0 (3 ∷ []) [] true false (ap not nobody-pulls)
       (ap not everybody-pulls)
 
-  clears-start : writes clearStart (same caught 1 (3 ∷ 1 ∷ []))
+  pub clears-start : writes clearStart (same caught 1 (3 ∷ 1 ∷ []))
       ≡ busOf (waits afterStart (λ message. stays) messages) false 1 0 (3 ∷ 1 ∷ []) []
   unfolding applied writeByte settled followed
   clears-start = writes-all clearStart (alike caught) messages false 1 0 (3 ∷ 1 ∷ []) []
@@ -104,15 +104,15 @@ module _ {P : List ℕ → Type 0} (messages : List (List ℕ)) (one : Someone P
       ∙ clears-start
 
 -- before the STOP who is in drives one bit, 0; then it lets SDA rise
-abbrev lastBit : Pause → Standing → Usi
+abbrev pub lastBit : Pause → Standing → Usi
 lastBit pause stays = driving 1 0x00 (latchAt pause) (enableAt pause) (sdaAt pause)
 lastBit pause (out register latch position) = released register latch (sdaAt pause)
 
-abbrev lowBit : Standing → Usi
+abbrev pub lowBit : Standing → Usi
 lowBit stays = driving 0 0x00 false true false
 lowBit (out register latch position) = released register latch false
 
-abbrev letsRise : Standing → Usi
+abbrev pub letsRise : Standing → Usi
 letsRise stays = between 0xce 0x41 0 0xff true true false
 letsRise (out register latch position) = released register latch false
 
@@ -139,11 +139,11 @@ unfolding applied writeByte settled followed
 releases stays = refl
 releases (out register latch position) = refl
 
-quiet-scl : (standing : Standing) → pullsScl (letsRise standing) ≡ false
+pub quiet-scl : (standing : Standing) → pullsScl (letsRise standing) ≡ false
 quiet-scl stays = refl
 quiet-scl (out register latch position) = refl
 
-quiet-sda : (standing : Standing) → pullsSda (letsRise standing) ≡ false
+pub quiet-sda : (standing : Standing) → pullsSda (letsRise standing) ≡ false
 quiet-sda stays = refl
 quiet-sda (out register latch position) = refl
 
@@ -161,7 +161,7 @@ module _ (messages : List (List ℕ)) (standing : List ℕ → Standing) (byte :
   allAs usi pulling seen recording =
       busOf (map (λ message. standingAs usi (standing message)) messages) pulling seen old recording carried
 
-  sends-low : writes sendLow (busOf (waits (afterByte byte ninth) standing messages) pull level old levels carried)
+  pub sends-low : writes sendLow (busOf (waits (afterByte byte ninth) standing messages) pull level old levels carried)
       ≡ allAs (lastBit (afterByte byte ninth)) pull level levels
   sends-low =
       writes-all sendLow (λ message. masterAt (afterByte byte ninth) (standing message)) messages pull level old
@@ -170,7 +170,7 @@ module _ (messages : List (List ℕ)) (standing : List ℕ → Standing) (byte :
       ∙ ap (λ masters. busOf masters pull level old levels carried)
       (map-alike (everyone (λ message. prepares-stop byte ninth (standing message)) messages))
 
-  low-bit : bitTurn false (allAs (lastBit (afterByte byte ninth)) pull level levels)
+  pub low-bit : bitTurn false (allAs (lastBit (afterByte byte ninth)) pull level levels)
       ≡ allAs lowBit false 1 (levels ++ 0 ∷ 1 ∷ [])
   low-bit =
       turn-is (λ message. standingAs (lastBit (afterByte byte ninth)) (standing message)) messages
@@ -179,7 +179,7 @@ module _ (messages : List (List ℕ)) (standing : List ℕ → Standing) (byte :
       (everyone (λ message. stop-turn (afterByte byte ninth) (standing message)) messages)
       (any-one one) (ap not (any-one one))
 
-  lets-rise : writes letRise (allAs lowBit false 1 (levels ++ 0 ∷ 1 ∷ []))
+  pub lets-rise : writes letRise (allAs lowBit false 1 (levels ++ 0 ∷ 1 ∷ []))
       ≡ allAs letsRise false 1 (levels ++ 0 ∷ 1 ∷ [])
   lets-rise =
       writes-all letRise (λ message. standingAs lowBit (standing message)) messages false 1 old (levels ++ 0 ∷ 1 ∷ [])

@@ -21,6 +21,7 @@ pub mod Carried
 pub mod Fates
 pub mod Demand
 pub mod FinalMasters
+pub mod ClearedFlags
 pub mod RecordedLevels
 pub mod Undecided
 pub mod Together

@@ -148,11 +148,11 @@ perform-append messages (instant ∷ instants) more bus =
     perform-append messages instants more (performed messages instant bus)
 
 module _ (messages : List (List ℕ)) where
-  bit-turn-is : (pull : Bool) (bus : Bus) → perform messages (script.bitTurn pull) bus ≡ bitTurn pull bus
+  pub bit-turn-is : (pull : Bool) (bus : Bus) → perform messages (script.bitTurn pull) bus ≡ bitTurn pull bus
   unfolding performed bitTurn recorded sampled
   bit-turn-is pull bus = refl
 
-  data-turns-is : (count position : ℕ) (bus : Bus)
+  pub data-turns-is : (count position : ℕ) (bus : Bus)
       → perform messages (script.dataTurns count position) bus ≡ dataTurns count position bus
   unfolding performed bitTurn recorded sampled dataTurn
   data-turns-is zero position bus = refl
@@ -171,7 +171,7 @@ module _ (messages : List (List ℕ)) where
   unfolding performed bitTurn recorded sampled dataTurn loaded opened closed byteTurn
   byte-turn-is index acknowledge bus = refl
 
-  bytes-is : (acknowledges : List ℕ) (index : ℕ) (bus : Bus)
+  pub bytes-is : (acknowledges : List ℕ) (index : ℕ) (bus : Bus)
       → bytes messages acknowledges index bus ≡ bytesTurn messages acknowledges index bus
   bytes-is [] index bus = refl
   bytes-is (acknowledge ∷ acknowledges) index bus =

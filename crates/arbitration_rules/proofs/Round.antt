@@ -27,7 +27,7 @@ use Rattle.arbitration_rules.proofs.Standing.{byte-decides}
 use Rattle.arbitration_rules.proofs.Pause.{Pause, afterByte, sdaAt, latchAt, enableAt, usiAt, isIn, masterAt}
 use Rattle.arbitration_rules.proofs.Pause.{loads, listener, listens, hears, heard}
 
-three-maps : {A B C D : Type 0} (f : C → D) (g : B → C) (h : A → B) (l : List A)
+pub three-maps : {A B C D : Type 0} (f : C → D) (g : B → C) (h : A → B) (l : List A)
     → map f (map g (map h l)) ≡ map (λ a. f (g (h a))) l
 three-maps f g h l = ap (map f) (map-map g h l) ∙ map-map f (λ a. g (h a)) l
 
@@ -39,15 +39,15 @@ byteAt index message = getD message index 0
 abbrev pub waits : Pause → (List ℕ → Standing) → List (List ℕ) → List Master
 waits pause standing messages = map (λ message. masterAt pause (standing message)) messages
 
-abbrev enters : Pause → (List ℕ → Standing) → ℕ → List ℕ → Role
+abbrev pub enters : Pause → (List ℕ → Standing) → ℕ → List ℕ → Role
 enters pause standing index message =
     entersAs (latchAt pause) (enableAt pause) (byteAt index message) (standing message)
 
-abbrev lineAt : Pause → Bool → ℕ → Line
+abbrev pub lineAt : Pause → Bool → ℕ → Line
 lineAt pause pull level = record { sda = sdaAt pause; pull = pull; level = level }
 
 -- the byte is loaded
-opened-is : (messages : List (List ℕ)) (standing : List ℕ → Standing) (index : ℕ) (pause : Pause) (pull : Bool)
+pub opened-is : (messages : List (List ℕ)) (standing : List ℕ → Standing) (index : ℕ) (pause : Pause) (pull : Bool)
     (level byte : ℕ) (levels carried : List ℕ) → Everyone (λ message. byteAt index message < 256) messages
     → opened messages index (busOf (waits pause standing messages) pull level byte levels carried)
     ≡ inByte 8 [] (lineAt pause pull level) (map (enters pause standing index) messages) 0 levels carried
@@ -161,7 +161,7 @@ module _ (messages : List (List ℕ)) (standing : List ℕ → Standing) (index 
       (standing message) (both .0) (both .1)) leader)
 
   -- the eight turns carry the byte
-  carried-byte : dataTurns 8 (9 * index) (inByte 8 [] line entered 0 levels carried)
+  pub carried-byte : dataTurns 8 (9 * index) (inByte 8 [] line entered 0 levels carried)
       ≡ inByte 0 (byteBits byte) end sent byte drawing carried
   unfolding byteBits
   carried-byte =

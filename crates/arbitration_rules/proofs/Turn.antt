@@ -2,7 +2,7 @@
 -- register and the byte's other masters: it pulls SCL while low, drives the first bit of USISRL, and at the rise
 -- takes the bus's bit.
 use Prim.Native.Nat.{ℕ}
-use mathlib.Core.Path.{_≡_, ap, ap₂, _∙_}
+use mathlib.Core.Path.{_≡_, refl, ap, ap₂, _∙_}
 use mathlib.Core.Bool.{Bool, cond, true, false, not, _&&_, _||_}
 use Rattle.usi_registers.specs.Rules as setUp
 use Rattle.usi_i2c.specs.Rules as rules
@@ -11,7 +11,7 @@ use Rattle.usi.specs.declared.Usi.{Usi}
 use Rattle.usi.specs.declared.Step.the-variants.{Next, Refused}
 use Rattle.usi.specs.Module.{fits, pullsScl, pullsSda}
 use Rattle.usi.specs.Step.{moduleOf, latched, followed, bitTaken, risen, fallen, stretched, recorded, edged}
-use Rattle.usi.specs.Step.{sampled, sample, ticked, tick}
+use Rattle.usi.specs.Step.{sampled, sample, ticked, overruns, tick}
 use Rattle.levels.specs.Levels.{levelOf}
 
 -- a module that has seen the lines and stretches nothing
@@ -66,9 +66,9 @@ pub record Turns (usi : Usi) (clocks drives bit : Bool) (after : Usi) : Type 0 w
   pub ends : (before : Bool) → turned bit before usi ≡ after
 
 -- a step on a fitting set-up is the rule's
-tick-fits : (usi : Usi) → fits usi ≡ true → ticks usi ≡ ticked usi
+tick-fits : (usi : Usi) → fits usi ≡ true → overruns usi ≡ false → ticks usi ≡ ticked usi
 unfolding tick
-tick-fits usi fitting = ap (λ fit. moduleOf (cond fit (Next (ticked usi)) (Refused 3 usi))) fitting
+tick-fits usi fitting waits = rw (fitting, waits)
 
 sample-fits : (scl sda : Bool) (usi : Usi) → fits usi ≡ true → samples scl sda usi ≡ sampled scl sda usi
 unfolding sample
@@ -118,7 +118,7 @@ module _ (control flags count register : ℕ) (clocking : Clocking control flags
       ≡ state control flags count register latch enable false true sda
   unfolding phaseAfter
   tick-down latch enable sda =
-      tick-fits _ (clocking .fitting) ∙ held _ (clocking .opaque)
+      tick-fits (between control flags count register latch enable sda) (clocking .fitting) refl ∙ held _ (clocking .opaque)
       ∙ ap (λ runs. state control flags count register latch enable (phaseAfter runs true true true) true sda)
       (clocking .clocks)
 
@@ -148,7 +148,7 @@ module _ (control flags count register : ℕ) (clocking : Clocking control flags
       ≡ state control flags count register latch enable true false sda
   unfolding phaseAfter
   tick-up latch enable sda =
-      tick-fits _ (clocking .fitting) ∙ held _ (clocking .opaque)
+      tick-fits (state control flags count register latch enable false false sda) (clocking .fitting) refl ∙ held _ (clocking .opaque)
       ∙ ap (λ runs. state control flags count register latch enable (phaseAfter runs false true false) false sda)
       (clocking .clocks)
 

@@ -1,5 +1,5 @@
--- No step of a run is refused: the set-up fits from the set-up's writes on, and every later step keeps it so. Whatever
--- the messages and acknowledges are.
+-- No step of a run is refused: the set-up fits from the set-up's writes on, with a divider that waits (22h has DIV=1),
+-- and every later step keeps it so. Whatever the messages and acknowledges are.
 use Prim.Native.Nat.{ℕ, zero, suc, _*_, _≤_}
 use native.Mathlib.Omega.{arith}
 use mathlib.Core.Path.{_≡_, refl, sym, ap, _∙_}
@@ -21,8 +21,9 @@ use Rattle.usi_registers.specs.Rules as setUpRules
 use Rattle.usi.specs.declared.Usi.{Usi}
 use Rattle.usi.specs.declared.Step.{Step}
 use Rattle.usi.specs.Module.{fits, pullsScl, pullsSda, withUSICTL0, withUSICTL1, withUSICNT, withUSISRL}
-use Rattle.usi.specs.Step.{refusal, moduleOf, followed, settled, writeByte, sample, tick}
+use Rattle.usi.specs.Step.{refusal, moduleOf, followed, settled, writeByte, sampled, sample, ticked, tick}
 use Rattle.usi.proofs.SetUp.{count-flags, followed-fits, sampled-fits, ticked-fits}
+use Rattle.usi.proofs.SetUp.{followed-clock, sampled-clock, ticked-clock}
 use Rattle.arbitration_rules.specs.Masters as masters
 use Rattle.arbitration_rules.specs.Masters.{Master, Who, stillIn, beaten, everybody, meant, Operation, Sample}
 use Rattle.arbitration_rules.specs.Masters.{Write}
@@ -35,23 +36,36 @@ use Rattle.arbitration_rules.specs.Run.{dataTurns, byteTurn, stop, throu
 use Rattle.arbitration_rules.specs.Run.{refusedIn, refusals}
 use Rattle.arbitration_rules.proofs.Phases.{perform-append}
 
--- a step is not refused, and leaves a set-up that fits
+-- a set-up that fits, with a divider that waits
+abbrev Ready : Usi → Type 0
+Ready u = (fits u ≡ true) × (eqb (setUpRules.divider (u .usickctl)) 0 ≡ false)
+
+-- a step is not refused, and leaves such a set-up
 abbrev Fine : Step → Type 0
-Fine step = (refusal step ≡ 0) × (fits (moduleOf step) ≡ true)
+Fine step = (refusal step ≡ 0) × Ready (moduleOf step)
 
-tick-fine : (u : Usi) → fits u ≡ true → Fine (tick u)
+-- a module whose set-up is as another's was is ready as it was
+same-clock : (u v : Usi) → Ready u → fits v ≡ fits u → v .usickctl ≡ u .usickctl → Ready v
+same-clock u v ready fitting clock = (fitting ∙ ready .0, rw clock (ready .1))
+
+tick-fine : (u : Usi) → Ready u → Fine (tick u)
 unfolding tick
-tick-fine u fitting = rw fitting (refl, ticked-fits u ∙ fitting)
+tick-fine u ready =
+    rw (ready .0, ready .1) (refl, same-clock u (ticked u) ready (ticked-fits u) (ticked-clock u))
 
-sample-fine : (u : Usi) (level : ℕ) → level ≤ maxLevel → fits u ≡ true → Fine (sample u level)
+sample-fine : (u : Usi) (level : ℕ) → level ≤ maxLevel → Ready u → Fine (sample u level)
 unfolding sample
-sample-fine u level small fitting =
-    rw (le-ltb maxLevel level small, fitting) (refl, sampled-fits (scl level) (sda level) u ∙ fitting)
+sample-fine u level small ready =
+    rw (le-ltb maxLevel level small, ready .0) (
+      refl,
+      same-clock u (sampled (scl level) (sda level) u) ready (sampled-fits (scl level) (sda level) u)
+          (sampled-clock (scl level) (sda level) u),
+    )
 
--- what a write leaves fits where the registers do
-settled-fits : (u : Usi) → fits u ≡ true → fits (settled u) ≡ true
+-- what a write leaves is ready where the registers are
+settled-fits : (u : Usi) → Ready u → Ready (settled u)
 unfolding settled
-settled-fits u fitting = rw fitting (followed-fits u ∙ fitting)
+settled-fits u ready = rw (ready .0) (same-clock u (followed u) ready (followed-fits u) (followed-clock u))
 
 -- the eight tests of the set-up
 record Fitting (usictl0 usictl1 usickctl usicnt : ℕ) : Type 0 where
@@ -92,30 +106,33 @@ data Keeping : ℕ → ℕ → Type 0 where
   toCount : {value : ℕ} → off value USI16B ≡ true → Keeping USICNT value
   toShift : {value : ℕ} → Keeping USISRL value
 
-write-fine : {address value : ℕ} → Keeping address value → (u : Usi) → fits u ≡ true → Fine
-    (writeByte u address value)
+write-fine : {address value : ℕ} → Keeping address value → (u : Usi) → Ready u → Fine (writeByte u address value)
 unfolding writeByte
-write-fine (toControl {value} lsb pe6 pe7 swrst) u fitting =
-    let t = tests (u .usictl0) (u .usictl1) (u .usickctl) (u .usicnt) fitting in
-    (refl, settled-fits (withUSICTL0 value u) (rw (t .i2c, t .ckpl, t .ckph, lsb, t .narrow, pe6, pe7, swrst)))
-write-fine (toFlags {value} i2c ckph) u fitting =
-    let t = tests (u .usictl0) (u .usictl1) (u .usickctl) (u .usicnt) fitting in
-    (refl, settled-fits (withUSICTL1 value u) (rw (i2c, t .ckpl, ckph, t .lsb, t .narrow, t .pe6, t .pe7, t .swrst)))
-write-fine (toCount {value} narrow) u fitting =
-    let t = tests (u .usictl0) (u .usictl1) (u .usickctl) (u .usicnt) fitting in (
-      refl,
-      settled-fits (withUSICNT value (withUSICTL1 (setUpRules.countFlags (u .usictl1) value) u))
-          (count-flags value (u .usictl0) (u .usictl1) (u .usickctl) value
-          ∙ rw (t .i2c, t .ckpl, t .ckph, t .lsb, narrow, t .pe6, t .pe7, t .swrst)),
-    )
-write-fine (toShift {value}) u fitting = (refl, settled-fits (withUSISRL value u) fitting)
+write-fine (toControl {value} lsb pe6 pe7 swrst) u ready =
+    let t = tests (u .usictl0) (u .usictl1) (u .usickctl) (u .usicnt) (ready .0) in
+    let fitting : fits (withUSICTL0 value u) ≡ true =
+    rw (t .i2c, t .ckpl, t .ckph, lsb, t .narrow, pe6, pe7, swrst) in
+    (refl, settled-fits (withUSICTL0 value u) (fitting, ready .1))
+write-fine (toFlags {value} i2c ckph) u ready =
+    let t = tests (u .usictl0) (u .usictl1) (u .usickctl) (u .usicnt) (ready .0) in
+    let fitting : fits (withUSICTL1 value u) ≡ true =
+    rw (i2c, t .ckpl, ckph, t .lsb, t .narrow, t .pe6, t .pe7, t .swrst) in
+    (refl, settled-fits (withUSICTL1 value u) (fitting, ready .1))
+write-fine (toCount {value} narrow) u ready =
+    let t = tests (u .usictl0) (u .usictl1) (u .usickctl) (u .usicnt) (ready .0) in
+    let counted = withUSICNT value (withUSICTL1 (setUpRules.countFlags (u .usictl1) value) u) in
+    let fitting : fits counted ≡ true =
+    count-flags value (u .usictl0) (u .usictl1) (u .usickctl) value
+    ∙ rw (t .i2c, t .ckpl, t .ckph, t .lsb, narrow, t .pe6, t .pe7, t .swrst) in
+    (refl, settled-fits counted (fitting, ready .1))
+write-fine (toShift {value}) u ready = (refl, settled-fits (withUSISRL value u) ready)
 
 -- a master whose set-up fits, and an operation that no such master is refused
 abbrev Fit : Master → Type 0
-Fit master = fits (master .usi) ≡ true
+Fit master = Ready (master .usi)
 
 abbrev Works : Operation → Type 0
-Works operation = (u : Usi) → fits u ≡ true → Fine (stepped operation u)
+Works operation = (u : Usi) → Ready u → Fine (stepped operation u)
 
 module _ (who : Who) (operation : Operation) (works : Works operation) (master : Master) (fit : Fit master) where
   stays-fit : Fit (applied who operation master)
@@ -195,7 +212,7 @@ module _ (messages : List (List ℕ)) where
   instant-smooth samples works bus fit =
       let level = wire (bus .pull) (bus .masters) in
       let fine : Works (Sample level) =
-      λ u fitting. sample-fine u level (wire-small (bus .pull) (bus .masters)) fitting in (
+      λ u ready. sample-fine u level (wire-small (bus .pull) (bus .masters)) ready in (
         everyone-map (refusedAt everybody (Sample level)) (everyone-so (not-refused everybody (Sample level) fine)
             fit),
         everyone-map (applied everybody (Sample level)) (everyone-so (stays-fit everybody (Sample level) fine) fit),
@@ -314,7 +331,7 @@ module _ (messages : List (List ℕ)) where
             (everyone-map second (everyone-map first (alike refl)))) nobody));
         fit =
             everyone-map (applied stillIn (Write USICTL0 0xc8))
-            (everyone-map second (everyone-map first (alike refl)));
+            (everyone-map second (everyone-map first (alike (refl, refl))));
       }
 
   started : Smooth (setUp ++ start) (powered messages)

@@ -5,4 +5,5 @@ pub mod Masters
 pub mod Run
 pub mod Outcome
 pub mod Final
+pub mod Cleared
 pub mod Reply

@@ -2,7 +2,7 @@
 -- two buffers.
 use Prim.Native.Nat.{ℕ, _+_, _-_, max}
 use mathlib.Core.Bool.{Bool, cond, false, not, _||_}
-use mathlib.Core.List.{List, [], _∷_, _++_, map}
+use mathlib.Core.List.{List, [], _∷_, _++_, map, zipWith}
 use lib.Dec.{eqb, ltb}
 use lib.ListN.{length, getD, take, drop, replicate}
 use Rattle.bits.specs.Positions.{isSet}
@@ -17,6 +17,7 @@ use Rattle.arbitration_rules.specs.Limits.{maxMasters, maxLength}
 use Rattle.arbitration_rules.specs.Masters.{Master}
 use Rattle.arbitration_rules.specs.Outcome.{undecided}
 use Rattle.arbitration_rules.specs.Run.{Bus, run}
+use Rattle.arbitration_rules.specs.Cleared.{clearedBy}
 
 -- The messages lie one after the other in the bytes lent, each of its length.
 abbrev pub messagesOf : List ℕ → List ℕ → List (List ℕ)
@@ -78,7 +79,7 @@ refusal bytes lengths acknowledges carriedRoom levelRoom =
 
 -- In a refused reply every other number is 0, and the modules are as powered up, shift bytes 0.
 abbrev pub absent : Seat
-absent = record { contending = false; position = 0 }
+absent = record { contending = false; position = 0; cleared = 0 }
 
 unfoldable pub refused : Refusal → Arbitrated
 refused found =
@@ -93,23 +94,26 @@ refused found =
 abbrev pub padded : {A : Type 0} → A → List A → List A
 padded empty list = list ++ replicate (maxMasters - length list) empty
 
-abbrev pub seatOf : Master → Seat
-seatOf master = record { contending = master .contending; position = master .position }
+abbrev pub seatOf : ℕ → Master → Seat
+seatOf cleared master =
+    record { contending = master .contending; position = master .position; cleared = cleared }
 
-unfoldable pub answered : Bus → Arbitrated
-answered bus =
+unfoldable pub answered : List ℕ → Bus → Arbitrated
+answered cleared bus =
     record {
       refusal = none;
       modules = padded (powerUp 0 0) (map (λ (master : Master). master .usi) (bus .masters));
       count = length (bus .carried);
-      seats = padded absent (map seatOf (bus .masters));
+      seats = padded absent (zipWith seatOf cleared (bus .masters));
     }
 
 -- The reply of arbitrate, over the bytes, lengths and acknowledges lent and the lengths of the two buffers.
 unfoldable pub arbitrated : List ℕ → List ℕ → List ℕ → ℕ → ℕ → Arbitrated
 arbitrated bytes lengths acknowledges carriedRoom levelRoom =
     let found = refusal bytes lengths acknowledges carriedRoom levelRoom in
-    cond (eqb (found .number) 0) (answered (run (messagesOf lengths bytes) acknowledges)) (refused found)
+    let messages = messagesOf lengths bytes in
+    cond (eqb (found .number) 0) (answered (clearedBy messages acknowledges) (run messages acknowledges))
+    (refused found)
 
 -- A buffer after it: what the run gives, and the rest as it was; at a refusal all as it was.
 unfoldable pub carriedAfter : List ℕ → List ℕ → List ℕ → Refusal → List ℕ → List ℕ

@@ -10,10 +10,11 @@ pub const MAX_MASTERS: usize = 8;
 pub const MAX_LENGTH: usize = 32;
 
 // What became of one master: it is still contending (01: still in), or it lost at a position, 9 · byte + bit (01: its
-// place); 0 for the others.
+// place), 0 for the others; and the flags of USICTL1 that its writes cleared (02: Ask 12).
 pub struct Seat {
     pub contending: bool,
     pub position: u16,
+    pub cleared: u8,
 }
 
 // The reply. A refused one has the refusal's number and place, powered-up modules, and 0 for all else.

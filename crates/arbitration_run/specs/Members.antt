@@ -95,10 +95,15 @@ anyThrough contending sizes sent =
 abbrev pub through : ℕ → Members → Bool
 through sent members = anyThrough (members .contending) (members .sizes) sent
 
-abbrev pub seatOf : Bool → ℕ → Seat
-seatOf contending position = record { contending = contending; position = position }
+-- the flags that the writes of each master clear over a run, STTIFG and IFG (arbitration_rules/proofs/ClearedFlags.antt)
+abbrev pub writesClear : ℕ
+writesClear = 0x03
+
+abbrev pub seatOf : ℕ → Bool → ℕ → Seat
+seatOf cleared contending position = record { contending = contending; position = position; cleared = cleared }
 
 -- what became of the first so many; the other seats are empty
 abbrev pub seats : List Bool → List ℕ → ℕ → List Seat
 seats contending positions count =
-    zipWith seatOf (take count contending) (take count positions) ++ replicate (maxMasters - count) (seatOf false 0)
+    zipWith (seatOf writesClear) (take count contending) (take count positions)
+    ++ replicate (maxMasters - count) (seatOf 0 false 0)

@@ -7,6 +7,10 @@ use arbitration_rules::MAX_LENGTH;
 use arbitration_rules::MAX_MASTERS;
 use arbitration_rules::Seat;
 
+// What the writes of every master clear in USICTL1 over a run: STTIFG and IFG. That is a theorem about 01's steps
+// (arbitration_rules/proofs/ClearedFlags.antt), so no write has to be watched.
+const CLEARED: u8 = 0x03;
+
 pub struct Members {
     // who is still contending; who lost in the byte now on the bus; where each lost
     pub contending: [bool; MAX_MASTERS],
@@ -63,12 +67,13 @@ fn position_of(index: usize, bit: u8) -> u16
     0
 }
 
-fn seat_of(contending: bool, position: u16) -> Seat
-    ensures { λ r. ⌜ r ≡ rule.seatOf contending position ⌝ }
+fn seat_of(contending: bool, position: u16, cleared: u8) -> Seat
+    ensures { λ r. ⌜ r ≡ rule.seatOf cleared contending position ⌝ }
 {
     Seat {
         contending,
         position,
+        cleared,
     }
 }
 
@@ -127,10 +132,10 @@ fn seats(
 ) -> [Seat; MAX_MASTERS]
     ensures { λ r. ⌜ r ≡ rule.seats contending positions count ⌝ }
 {
-    let mut out = [seat_of(false, 0); MAX_MASTERS];
+    let mut out = [seat_of(false, 0, 0); MAX_MASTERS];
     let mut i: usize = 0;
     while (i < count) & (i < MAX_MASTERS) {
-        out[i] = seat_of(contending[i], positions[i]);
+        out[i] = seat_of(contending[i], positions[i], CLEARED);
         i += 1;
     }
     out

@@ -28,7 +28,7 @@ pub struct Seen {
 fn written(usi: Usi, address: u16, value: u8) -> Usi
     ensures { λ r. ⌜ r ≡ rule.written address value usi ⌝ }
 {
-    usi.write(address, value).module()
+    usi.write(address, value).usi
 }
 
 // Powered up with shift bytes 0, then set up.

@@ -86,15 +86,15 @@ modules-of (usi ∷ table) (still ∷ contending) (out ∷ lost) (position ∷ p
 
 seats-of : (table : List Usi) (contending lost : List Bool) (positions : List ℕ) → length table ≤ length contending
     → length table ≤ length lost → length table ≤ length positions
-    → zipWith members.seatOf (take (length table) contending) (take (length table) positions)
-    ≡ map seatOf (mastersFrom table contending lost positions)
+    → zipWith (members.seatOf members.writesClear) (take (length table) contending) (take (length table) positions)
+    ≡ map (seatOf members.writesClear) (mastersFrom table contending lost positions)
 unfolding zipWith
 seats-of [] contending lost positions c l p = refl
 seats-of (usi ∷ table) [] lost positions c l p = absurd (not-suc-le-zero c)
 seats-of (usi ∷ table) (still ∷ contending) [] positions c l p = absurd (not-suc-le-zero l)
 seats-of (usi ∷ table) (still ∷ contending) (out ∷ lost) [] c l p = absurd (not-suc-le-zero p)
 seats-of (usi ∷ table) (still ∷ contending) (out ∷ lost) (position ∷ positions) c l p =
-    ap (λ (seats : List Seat). members.seatOf still position ∷ seats)
+    ap (λ (seats : List Seat). members.seatOf members.writesClear still position ∷ seats)
     (seats-of table contending lost positions (le-of-suc-le-suc c) (le-of-suc-le-suc l) (le-of-suc-le-suc p))
 
 module _ (bytes lengths acknowledges : List ℕ) (few : length lengths ≤ maxMasters)
@@ -301,13 +301,13 @@ module _ (bytes lengths acknowledges : List ℕ) (few : length lengths ≤ maxMa
         (over .kept .rest)
 
     pub seats-are : members.seats (stood .contending) (stood .positions) count
-        ≡ map seatOf (bus .masters) ++ replicate (maxMasters - count) absent
+        ≡ map (seatOf members.writesClear) (bus .masters) ++ replicate (maxMasters - count) absent
     seats-are =
         ap (λ (list : List Seat). list ++ replicate (maxMasters - count) absent)
-        (ap (λ (n : ℕ). zipWith members.seatOf (take n (stood .contending)) (take n (stood .positions))) (sym size)
+        (ap (λ (n : ℕ). zipWith (members.seatOf members.writesClear) (take n (stood .contending)) (take n (stood .positions))) (sym size)
         ∙ seats-of (take count (final .table)) (stood .contending) (stood .lost) (stood .positions) c-room l-room
         p-room
-        ∙ ap (λ (b : Bus). map seatOf (b .masters)) (over .same))
+        ∙ ap (λ (b : Bus). map (seatOf members.writesClear) (b .masters)) (over .same))
 
     pub as-many-masters : length (bus .masters) ≡ count
     as-many-masters =

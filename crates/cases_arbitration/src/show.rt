@@ -36,6 +36,8 @@ fn master(i: usize, device: Usi, seat: Seat) {
     io::write_all(STDOUT_FILENO, b": ");
     module(device);
     labelled(b" at ", seat.position as u64);
+    io::write_all(STDOUT_FILENO, b" cleared=");
+    hex_byte(seat.cleared);
     line(b"");
 }
 

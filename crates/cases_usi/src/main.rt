@@ -11,8 +11,8 @@ use usi::Usi;
 fn run_command(command: Command, device: Usi) -> Usi {
     match command {
         Command::Power(low, high) => show::step(Step::Next(Usi::power_up(low, high))),
-        Command::Write(address, value) => show::step(device.write(address, value)),
-        Command::WriteWord(address, value) => show::step(device.write_word(address, value)),
+        Command::Write(address, value) => show::written(device.write(address, value)),
+        Command::WriteWord(address, value) => show::written(device.write_word(address, value)),
         Command::Sample(level) => show::step(device.sample(level)),
         Command::Tick => show::step(device.tick()),
         Command::Read(address) => {

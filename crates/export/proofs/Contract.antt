@@ -33,11 +33,12 @@ use Rattle.arbitration_rules.specs.Reply.{levelsAfter}
 use Rattle.arbitration_rules.specs.Run.{run}
 use Rattle.arbitration_rules.proofs.Accepted.{cut-count, message-numbered}
 use Rattle.arbitration_rules.proofs.Carry.{Bytes}
+use Rattle.arbitration_rules.proofs.ClearedFlags.{run-clears}
 use Rattle.arbitration_checks.specs.Settled.{settled}
 use Rattle.arbitration_rules.proofs.FinalMasters.{final-masters}
 use Rattle.arbitration.proofs.Given.{arbitration, carried-length, few, count-small as most-carried}
 use Rattle.usi.specs.Module.{powerUp}
-use Rattle.export.specs.Arbitration.{Lent, Returned, shortTables, busOf, refusalOf, packedReply, untouched, ran}
+use Rattle.export.specs.Arbitration.{Lent, Returned, shortTables, busOf, clearedOf, refusalOf, packedReply, untouched, ran}
 use Rattle.export.specs.Arbitration.{returned, countIn, shownIn, fateIn, packedSeat}
 use Rattle.export.specs.Packed.{byteAt, packed}
 use Rattle.arbitration.specs.Shown.{shown, fateOf}
@@ -148,29 +149,36 @@ Small u = (u .usictl0 < 256) × (u .usictl1 < 256)
 second-byte : (u : Usi) → Small u → byteAt 1 (packed u) ≡ u .usictl1
 second-byte u small = omega (arith, small .0, small .1)
 
-low-bit : (b : Bool) (position : ℕ) → isSet 0 (boolByte b + 2 * position) ≡ b
-low-bit true position = eq-eqb ((1 + 2 * position) / 1 % 2) 1 (omega arith)
-low-bit false position = ne-eqb ((0 + 2 * position) / 1 % 2) 1 (λ e. omega arith)
+abbrev Few : Seat → Type 0
+Few seat = seat .cleared < 16
 
-rest-of : (b : Bool) (position : ℕ) → (boolByte b + 2 * position) / 2 ≡ position
-rest-of true position = omega arith
-rest-of false position = omega arith
+low-bit : (b : Bool) (cleared position : ℕ) → isSet 0 (boolByte b + 2 * cleared + 32 * position) ≡ b
+low-bit true cleared position = eq-eqb ((1 + 2 * cleared + 32 * position) / 1 % 2) 1 (omega arith)
+low-bit false cleared position = ne-eqb ((0 + 2 * cleared + 32 * position) / 1 % 2) 1 (λ e. omega arith)
 
-fate-is : (u : Usi) (seat : Seat) → Small u → fateIn (packed u) (packedSeat seat) ≡ fateOf u seat
-fate-is u seat small =
-    rw (second-byte u small, low-bit (seat .contending) (seat .position), rest-of (seat .contending) (seat .position))
+rest-of : (b : Bool) (cleared position : ℕ) → cleared < 16 → (boolByte b + 2 * cleared + 32 * position) / 32 ≡ position
+rest-of true cleared position few = omega arith
+rest-of false cleared position few = omega arith
+
+fate-is : (u : Usi) (seat : Seat) → Small u → Few seat → fateIn (packed u) (packedSeat seat) ≡ fateOf u seat
+fate-is u seat small few =
+    rw (
+      second-byte u small,
+      low-bit (seat .contending) (seat .cleared) (seat .position),
+      rest-of (seat .contending) (seat .cleared) (seat .position) few,
+    )
 
 fates-are : (n : ℕ) (modules : List Usi) (seats : List Seat) (others more : List ℕ) → Everyone Small modules
-    → n ≤ length modules → n ≤ length seats
+    → Everyone Few seats → n ≤ length modules → n ≤ length seats
     → take n (zipWith fateIn (map packed modules ++ others) (map packedSeat seats ++ more))
     ≡ take n (zipWith fateOf modules seats)
 unfolding zipWith
-fates-are zero modules seats others more small within within-seats = refl
-fates-are (suc n) [] seats others more small within within-seats = absurd (omega arith)
-fates-are (suc n) (u ∷ modules) [] others more small within within-seats = absurd (omega arith)
-fates-are (suc n) (u ∷ modules) (seat ∷ seats) others more (also first rest) within within-seats =
-    ap₂ (λ (one : Fate) (fates : List Fate). one ∷ fates) (fate-is u seat first)
-    (fates-are n modules seats others more rest (omega arith) (omega arith))
+fates-are zero modules seats others more small few within within-seats = refl
+fates-are (suc n) [] seats others more small few within within-seats = absurd (omega arith)
+fates-are (suc n) (u ∷ modules) [] others more small few within within-seats = absurd (omega arith)
+fates-are (suc n) (u ∷ modules) (seat ∷ seats) others more (also first rest) (also few fews) within within-seats =
+    ap₂ (λ (one : Fate) (fates : List Fate). one ∷ fates) (fate-is u seat first few)
+    (fates-are n modules seats others more rest fews (omega arith) (omega arith))
 
 -- the modules at the end of a run
 final-small : (carried message : List ℕ) (loss : Option ℕ) → Small (finalUsi carried message loss)
@@ -181,6 +189,17 @@ all-small : (count : ℕ) (u : Usi) → Small u → Everyone Small (replicate co
 all-small zero u small = nobody
 all-small (suc count) u small = also small (all-small count u small)
 
+few-seats : (flags : List ℕ) (masters : List Master) → Everyone (λ (n : ℕ). n < 16) flags
+    → Everyone Few (zipWith seatOf flags masters)
+unfolding zipWith
+few-seats [] masters small = nobody
+few-seats (flag ∷ flags) [] small = nobody
+few-seats (flag ∷ flags) (master ∷ masters) (also here rest) = also here (few-seats flags masters rest)
+
+all-few : (count : ℕ) → Everyone Few (replicate count absent)
+all-few zero = nobody
+all-few (suc count) = also {a = absent} (omega arith) (all-few count)
+
 module _ (lent : Lent) (small : Bytes (lent .bytes)) (passes : found lent .number ≡ 0) (enough : short lent ≡ false)
     (roomy : shortTable lent ≡ false) where
   abbrev messages : List (List ℕ)
@@ -190,7 +209,19 @@ module _ (lent : Lent) (small : Bytes (lent .bytes)) (passes : found lent .numbe
   unrefused = applies-is lent ∙ rw (eq-eqb (found lent .number) 0 passes, enough, roomy)
 
   abbrev reply : Arbitrated
-  reply = answered (busOf lent)
+  reply = answered (clearedOf lent) (busOf lent)
+
+  -- the flags cleared are few enough for their bits
+  seats-few : Everyone Few (reply .seats)
+  unfolding answered
+  seats-few =
+      let given-so = arbitration (lent .bytes) (lent .lengths) (lent .acks) small passes in
+      everyone-append
+      (subst (λ (flags : List ℕ). Everyone Few (zipWith seatOf flags (busOf lent .masters)))
+      (sym (run-clears messages (lent .acks) given-so))
+      (few-seats (map (λ (message : List ℕ). 0x03) messages) (busOf lent .masters)
+      (everyone-map (λ (message : List ℕ). 0x03) (everyone (λ message. omega arith) messages))))
+      (all-few (maxMasters - length (zipWith seatOf (clearedOf lent) (busOf lent .masters))))
 
   modules-small : Everyone Small (reply .modules)
   unfolding answered
@@ -232,7 +263,7 @@ module _ (lent : Lent) (small : Bytes (lent .bytes)) (passes : found lent .numbe
           unfold answered in padded-long (powerUp 0 0) (map (λ (m : Master). m .usi) (busOf lent .masters))
 
       seats-long : maxMasters ≤ length (reply .seats)
-      seats-long = unfold answered in padded-long absent (map seatOf (busOf lent .masters))
+      seats-long = unfold answered in padded-long absent (zipWith seatOf (clearedOf lent) (busOf lent .masters))
 
   count-back : countIn (packedReply reply) ≡ reply .count
   count-back =
@@ -241,14 +272,14 @@ module _ (lent : Lent) (small : Bytes (lent .bytes)) (passes : found lent .numbe
       omega (arith, number, place, count-small)
 
   abbrev got : Returned
-  got = ran (busOf lent) lent
+  got = ran (clearedOf lent) (busOf lent) lent
 
   shown-is : shownIn (length (lent .lengths)) got ≡ shown (length (lent .lengths)) reply (got .carried) (got .levels)
   unfolding shownIn shown
   shown-is =
       rw (
         count-back,
-        fates-are (length (lent .lengths)) (reply .modules) (reply .seats) _ _ modules-small (many .0) (many .1),
+        fates-are (length (lent .lengths)) (reply .modules) (reply .seats) _ _ modules-small seats-few (many .0) (many .1),
       )
 
   pub ran-clauses : shown (length (lent .lengths)) reply (got .carried) (got .levels) ≡ outcome messages (lent .acks)
@@ -270,7 +301,7 @@ module _ (lent : Lent) (roomy : shortTable lent ≡ false) where
   applies-alike = rw (roomy, or-false)
 
   reply-by : (passing : Bool) → eqb (applies .number) 0 ≡ passing
-      → libraryReply ≡ cond passing (answered (busOf lent)) (refused applies)
+      → libraryReply ≡ cond passing (answered (clearedOf lent) (busOf lent)) (refused applies)
   unfolding arbitrated
   reply-by passing is = rw is
 
@@ -283,12 +314,12 @@ module _ (lent : Lent) (roomy : shortTable lent ≡ false) where
       go true is = absurd (refuses (ap (λ (r : Arbitrated). r .refusal .number) (reply-by true is)))
       go false is = (eqb-false (applies .number) 0 is, reply-by false is)
 
-  runs : libraryReply .refusal .number ≡ 0 → (applies .number ≡ 0) × (libraryReply ≡ answered (busOf lent))
+  runs : libraryReply .refusal .number ≡ 0 → (applies .number ≡ 0) × (libraryReply ≡ answered (clearedOf lent) (busOf lent))
   unfolding refused
   runs none-so = go (eqb (applies .number) 0) refl
     where
       go : (passing : Bool) → eqb (applies .number) 0 ≡ passing
-          → (applies .number ≡ 0) × (libraryReply ≡ answered (busOf lent))
+          → (applies .number ≡ 0) × (libraryReply ≡ answered (clearedOf lent) (busOf lent))
       go true is = (eqb-true (applies .number) 0 is, reply-by true is)
       go false is =
           absurd (eqb-false (applies .number) 0 is
@@ -334,7 +365,7 @@ module _ (lent : Lent) (roomy : shortTable lent ≡ false) where
   answered-small small done same none-so =
       let ran-so = runs (rw same at none-so) in
       let two = passing (ran-so .0) in
-      let place : answered (busOf lent) .refusal .place ≡ 0 = unfold answered in refl in (
+      let place : answered (clearedOf lent) (busOf lent) .refusal .place ≡ 0 = unfold answered in refl in (
         omega (arith, ap (λ (r : Arbitrated). r .refusal .place) (same ∙ ran-so .1), place),
         omega (
           arith,
@@ -383,7 +414,7 @@ module _ (lent : Lent) (roomy : shortTable lent ≡ false) where
   answered-by-library small done answer exit levelsExit modules seats same none-so is carried-is levels-are
       modules-are seats-are follows-so =
       let ran-so = runs (rw same at none-so) in
-      let its : done ≡ answered (busOf lent) = same ∙ ran-so .1 in
+      let its : done ≡ answered (clearedOf lent) (busOf lent) = same ∙ ran-so .1 in
       let zero-so : eqb (done .refusal .number) 0 ≡ true = eq-eqb (done .refusal .number) 0 none-so in
       let bytes-are : exit ≡ filled (busOf lent .carried) (lent .carried) = carried-is ∙ rw zero-so in
       let recorded-are : levelsExit ≡ filled (busOf lent .levels) (lent .levels) = levels-are ∙ rw zero-so in

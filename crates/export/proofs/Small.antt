@@ -1,6 +1,7 @@
 -- No place and no count of a reply passes 16 bits, so none is cut in the number that stands for it.
 use Prim.Native.Nat.{ℕ, _<_, _≤_}
 use native.Mathlib.Omega.{arith}
+use mathlib.Core.Logic.{⊎-elim}
 use mathlib.Core.Path.{_≡_, refl, sym, ap}
 use mathlib.Core.Bool.{Bool, true, false, cond, not}
 use mathlib.Core.List.{List, [], _∷_, _++_}
@@ -23,6 +24,9 @@ use Rattle.encode.specs.declared.Encoded.the-variants.{Drawn, Refused as NotDra
 use Rattle.encode.specs.Encode.{sampleCount}
 use Rattle.encode.specs.EncodeReply.{encodeChecks, encoded, encodedNumbers}
 use Rattle.trace_theorems.proofs.Replies.{accepted, taken}
+use Rattle.phases.specs.declared.Mode.{Mode}
+use Rattle.phases.specs.DecodedIn.{decodedIn}
+use Rattle.phases.proofs.Modes.{before-or-18}
 
 module _ (stamps levels : List ℕ) (room : ℕ) where
   decode-placed : Placed maxSamples (decodeChecks stamps levels room)
@@ -73,6 +77,15 @@ module _ (stamps levels : List ℕ) (room : ℕ) where
               refused-place (eqb (found .number) 0) (found .place) number place (found .number) is,
             ),
           )
+
+-- the same in a mode: the answer as it was, or 18 at a sample of the trace
+module _ (mode : Mode) (stamps levels : List ℕ) (room : ℕ) where
+  pub decoded-in-small : (decodedNumbers (decodedIn mode stamps levels room) .count < 65536)
+      × (decodedNumbers (decodedIn mode stamps levels room) .place < 65536)
+  decoded-in-small =
+      ⊎-elim (λ same. rw same (decoded-small stamps levels room))
+      (λ short. rw (short .reply) (omega arith, omega (arith, short .within, short .trace .few)))
+      (before-or-18 mode stamps levels room)
 
 module _ (list : List ℕ) (start gap stampRoom levelRoom : ℕ) where
   pub encoded-small : encodedNumbers (encoded list start gap stampRoom levelRoom) .count < 65536

@@ -18,6 +18,7 @@ use Rattle.arbitration_rules.specs.Limits.{maxMasters}
 use Rattle.arbitration_rules.specs.Outcome.{Fate, Outcome, levelCount}
 use Rattle.arbitration_rules.specs.Reply.{messagesOf, messageChecks, shortBuffer, refused, answered}
 use Rattle.arbitration_rules.specs.Run.{Bus, run}
+use Rattle.arbitration_rules.specs.Cleared.{clearedBy}
 use Rattle.export.specs.Packed.{packed, unpacked}
 
 -- what is lent: bytes, lengths and acknowledges, the two buffers and the two tables
@@ -62,6 +63,9 @@ shortTables modules seats = ltb modules maxMasters || ltb seats maxMasters
 abbrev pub busOf : Lent → Bus
 busOf lent = run (messagesOf (lent .lengths) (lent .bytes)) (lent .acks)
 
+abbrev pub clearedOf : Lent → List ℕ
+clearedOf lent = clearedBy (messagesOf (lent .lengths) (lent .bytes)) (lent .acks)
+
 -- the first of 12, 13, 14, 15, 16 and 8 that applies
 unfoldable pub refusalOf : Lent → Refusal
 refusalOf lent =
@@ -72,9 +76,9 @@ refusalOf lent =
     || shortTables (length (lent .modules)) (length (lent .seats)))
     ∷ [])
 
--- a seat as a number: twice the position, and 1 more while it contends
+-- a seat as a number: 1 while it contends, from bit 1 on the flags that its writes cleared, from bit 5 on the position
 abbrev pub packedSeat : Seat → ℕ
-packedSeat seat = boolByte (seat .contending) + 2 * seat .position
+packedSeat seat = boolByte (seat .contending) + 2 * seat .cleared + 32 * seat .position
 
 -- the reply as a number. Byte 0: refusal; bytes 1 and 2: place; bytes 3 and 4: how many bytes were carried (01: k)
 abbrev pub packedReply : Arbitrated → ℕ
@@ -92,20 +96,20 @@ untouched found lent =
     }
 
 -- a run leaves in each what it gives, and the rest as it was
-abbrev pub ran : Bus → Lent → Returned
-ran bus lent =
+abbrev pub ran : List ℕ → Bus → Lent → Returned
+ran cleared bus lent =
     record {
-      answer = packedReply (answered bus);
+      answer = packedReply (answered cleared bus);
       carried = filled (bus .carried) (lent .carried);
       levels = filled (bus .levels) (lent .levels);
-      modules = filled (map packed (answered bus .modules)) (lent .modules);
-      seats = filled (map packedSeat (answered bus .seats)) (lent .seats);
+      modules = filled (map packed (answered cleared bus .modules)) (lent .modules);
+      seats = filled (map packedSeat (answered cleared bus .seats)) (lent .seats);
     }
 
 unfoldable pub returned : Lent → Returned
 returned lent =
     let found = refusalOf lent in
-    cond (eqb (found .number) 0) (ran (busOf lent) lent) (untouched found lent)
+    cond (eqb (found .number) 0) (ran (clearedOf lent) (busOf lent) lent) (untouched found lent)
 
 -- what demand 3 compares, as the answer, the buffers and the tables show it: k, the carried bytes, the levels, and of
 -- each of so many masters whether it contends, its position, and its AL
@@ -116,7 +120,7 @@ abbrev pub fateIn : ℕ → ℕ → Fate
 fateIn usi seat =
     record {
       contending = isSet 0 seat;
-      position = seat / 2;
+      position = seat / 32;
       arbitrationLost = on (unpacked usi .usictl1) USIAL;
     }
 

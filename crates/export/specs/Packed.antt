@@ -5,6 +5,7 @@ use Rattle.bits.specs.Positions.{isSet}
 use Rattle.usi.specs.declared.Usi.{Usi}
 use Rattle.usi.specs.declared.Step.{Step}
 use Rattle.usi.specs.declared.Read.{Read}
+use Rattle.usi.specs.declared.Written.{Written}
 use Rattle.usi.specs.Module.{pullsScl, pullsSda}
 use Rattle.usi.specs.Step.{refusal, moduleOf, readRefusal, valueOf}
 
@@ -53,9 +54,13 @@ pub record Bytes (u : Usi) : Type 0 where
   pub usisrl : u .usisrl < 256
   pub usisrh : u .usisrh < 256
 
--- a step's answer: the module, and the refusal's number in byte 7
+-- a step's answer: the module in bits 0 to 54, and the refusal's number in bits 55 to 59
 abbrev pub packedStep : Step → ℕ
-packedStep s = packed (moduleOf s) + 256 ^ 7 * refusal s
+packedStep s = packed (moduleOf s) + 2 ^ 55 * refusal s
+
+-- a write's answer: the same, and the flags that it cleared in bits 60 to 63 (02: Ask 12)
+abbrev pub packedWritten : Written → ℕ
+packedWritten w = packed (w .usi) + 2 ^ 55 * w .refusal + 2 ^ 60 * w .cleared
 
 -- a read's answer: the value, and the refusal's number above 16 bits
 abbrev pub packedRead : Read → ℕ

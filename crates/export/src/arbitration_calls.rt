@@ -36,10 +36,11 @@ fn refused(found: Refusal) -> u64
 fn seat_number(seat: Seat) -> u32
     ensures { λ r. ⌜ r ≡ packedSeat seat ⌝ }
 {
+    let rest = 2 * (seat.cleared as u32) + 32 * (seat.position as u32);
     if seat.contending {
-        return 1 + 2 * (seat.position as u32);
+        return 1 + rest;
     }
-    2 * (seat.position as u32)
+    rest
 }
 
 fn put_modules(modules: [Usi; MAX_MASTERS], table: &mut [u64])

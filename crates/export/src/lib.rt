@@ -3,17 +3,19 @@ ghost use mathlib.Core.Path.{_≡_};
 ghost use mir.Val.{boolByte};
 ghost use Prim.Native.Nat.{_+_, _*_, _^_, _<_};
 ghost use Rattle.usi.specs.Module.{powerUp};
-ghost use Rattle.usi.specs.Step.{readByte, readWord, writeByte, writeWord, sample as sampleRule, tick as tickRule};
+ghost use Rattle.usi.specs.Step.{readByte, readWord, written, writtenWord, sample as sampleRule, tick as tickRule};
 ghost use Rattle.export.specs.Packed.{unpacked as unpackedNumber, registers as registersOf, hidden as hiddenOf};
-ghost use Rattle.export.specs.Packed.{packed as packedModule, packedStep, packedRead, lines};
+ghost use Rattle.export.specs.Packed.{packed as packedModule, packedStep, packedWritten, packedRead, lines};
 
 mod arbitration_calls; // arbitration_calls.rt: arbitration
+mod catalogue_calls; // catalogue_calls.rt: corrections over the standing catalogue
 mod order_calls; // order_calls.rt: the least message
 mod trace_calls; // trace_calls.rt: decode and encode
 
 use usi::Read;
 use usi::Step;
 use usi::Usi;
+use usi::Written;
 
 // The module that a number stands for.
 fn unpacked(number: u64) -> Usi
@@ -67,7 +69,7 @@ fn hidden(u: Usi) -> u64
 
 // The number that stands for a module.
 pub(crate) fn packed(u: Usi) -> u64
-    ensures { λ r. ⌜ (r ≡ packedModule u) × (r < 256 ^ 7) ⌝ }
+    ensures { λ r. ⌜ (r ≡ packedModule u) × (r < 2 ^ 55) ⌝ }
 {
     registers(u) + 281474976710656 * hidden(u)
 }
@@ -75,7 +77,16 @@ pub(crate) fn packed(u: Usi) -> u64
 fn answer(s: Step) -> u64
     ensures { λ r. ⌜ r ≡ packedStep s ⌝ }
 {
-    packed(s.module()) + 72057594037927936 * (s.refusal() as u64)
+    packed(s.module()) + 36028797018963968 * (s.refusal() as u64)
+}
+
+fn write_answer(w: Written) -> u64
+    requires { ⌜ (w .refusal < 32) × (w .cleared < 16) ⌝ }
+    ensures { λ r. ⌜ r ≡ packedWritten w ⌝ }
+{
+    packed(w.usi)
+        + 36028797018963968 * (w.refusal as u64)
+        + 1152921504606846976 * (w.cleared as u64)
 }
 
 fn read_answer(r: Read) -> u32
@@ -96,16 +107,16 @@ pub extern "C" fn usi_power_up(low: u8, high: u8) -> u64
 
 #[no_mangle]
 pub extern "C" fn usi_write(state: u64, address: u16, value: u8) -> u64
-    ensures { λ r. ⌜ r ≡ packedStep (writeByte (unpackedNumber state) address value) ⌝ }
+    ensures { λ r. ⌜ r ≡ packedWritten (written (unpackedNumber state) address value) ⌝ }
 {
-    answer(unpacked(state).write(address, value))
+    write_answer(unpacked(state).write(address, value))
 }
 
 #[no_mangle]
 pub extern "C" fn usi_write_word(state: u64, address: u16, value: u16) -> u64
-    ensures { λ r. ⌜ r ≡ packedStep (writeWord (unpackedNumber state) address value) ⌝ }
+    ensures { λ r. ⌜ r ≡ packedWritten (writtenWord (unpackedNumber state) address value) ⌝ }
 {
-    answer(unpacked(state).write_word(address, value))
+    write_answer(unpacked(state).write_word(address, value))
 }
 
 #[no_mangle]

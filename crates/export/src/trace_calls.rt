@@ -4,9 +4,12 @@ ghost use Prim.Native.Nat.{_<_};
 ghost use lib.ListN.{length};
 ghost use Rattle.decode.specs.DecodeReply.{decoded, decodedNumbers, eventsAfter};
 ghost use Rattle.encode.specs.EncodeReply.{encoded, encodedNumbers, stampsAfter, levelsAfter};
+ghost use Rattle.phases.specs.declared.Mode.the-variants as mode;
+ghost use Rattle.phases.specs.DecodedIn.{decodedIn};
 ghost use Rattle.export.specs.Replies.{packedDecoded, packedEncoded};
 use decode::Decoded;
 use encode::Encoded;
+use phases::Mode;
 
 fn decode_answer(d: Decoded) -> u64
     requires { ⌜ (decodedNumbers d .count < 65536) × (decodedNumbers d .place < 65536) ⌝ }
@@ -48,6 +51,30 @@ pub extern "C" fn bus_decode(stamps: &[u32], levels: &[u8], events: &mut [u16]) 
         (now (levels .entry)) (now (events .entry)) ⌝ }
 {
     decode_answer(decode::decode(stamps, levels, events))
+}
+
+// The events of a trace with stamps in units of 100 ns, 18 for a phase of SCL too short for Standard-mode.
+#[no_mangle]
+pub extern "C" fn bus_decode_standard(stamps: &[u32], levels: &[u8], events: &mut [u16]) -> u64
+    ensures answer { λ r. ⌜ r ≡ packedDecoded
+        (decodedIn mode.Standard (now (stamps .entry)) (now (levels .entry)) (length (now (events .entry)))) ⌝ }
+    ensures buffer { λ r. ⌜ now (events .exit) ≡ eventsAfter
+        (decodedIn mode.Standard (now (stamps .entry)) (now (levels .entry)) (length (now (events .entry))))
+        (now (levels .entry)) (now (events .entry)) ⌝ }
+{
+    decode_answer(phases::decode_in(Mode::Standard, stamps, levels, events))
+}
+
+// The same for Fast-mode.
+#[no_mangle]
+pub extern "C" fn bus_decode_fast(stamps: &[u32], levels: &[u8], events: &mut [u16]) -> u64
+    ensures answer { λ r. ⌜ r ≡ packedDecoded
+        (decodedIn mode.Fast (now (stamps .entry)) (now (levels .entry)) (length (now (events .entry)))) ⌝ }
+    ensures buffer { λ r. ⌜ now (events .exit) ≡ eventsAfter
+        (decodedIn mode.Fast (now (stamps .entry)) (now (levels .entry)) (length (now (events .entry))))
+        (now (levels .entry)) (now (events .entry)) ⌝ }
+{
+    decode_answer(phases::decode_in(Mode::Fast, stamps, levels, events))
 }
 
 // The trace of an event list.

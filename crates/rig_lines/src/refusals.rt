@@ -25,6 +25,7 @@ a board has no bytes or more than 32
 a board's first byte is odd, a read
 there is not one acknowledge, 0 or 1, for each byte of the longest board
 the least message is acknowledged to its end and begins another
+a divider of 1 does not wait, and SCL was last seen low
 ",
         number as usize,
     )

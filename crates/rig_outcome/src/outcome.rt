@@ -56,7 +56,7 @@ fn transfer(out: Output, carried: &[u8], load: Load, count: usize) -> Output {
     carried_bytes(out.words(b"carried "), carried, &acks, count)
 }
 
-fn show_module(board: usize, module: Usi) {
+fn show_module(board: usize, module: Usi, seat: Seat) {
     let numbers = [
         board as u64,
         module.usictl0 as u64,
@@ -65,18 +65,19 @@ fn show_module(board: usize, module: Usi) {
         module.usicnt as u64,
         module.usisrl as u64,
         module.usisrh as u64,
+        seat.cleared as u64,
     ];
     tell(
-        b"  board # USICTL0=% USICTL1=% USICKCTL=% USICNT=% USISRL=% USISRH=%",
+        b"  board # USICTL0=% USICTL1=% USICKCTL=% USICNT=% USISRL=% USISRH=% cleared=%",
         &numbers,
     );
 }
 
-fn show_modules(modules: [Usi; MAX_MASTERS], boards: usize) {
+fn show_modules(modules: [Usi; MAX_MASTERS], seats: [Seat; MAX_MASTERS], boards: usize) {
     let mut i: usize = 0;
     while i < MAX_MASTERS {
         if i < boards {
-            show_module(i, modules[i]);
+            show_module(i, modules[i], seats[i]);
         }
         i += 1;
     }
@@ -97,7 +98,7 @@ fn show_whole(load: Load, reply: Arbitrated, carried: &[u8], levels: &[u8]) {
     header(load).print();
     show_boards(seats, load.boards);
     transfer(Output::new().words(b"  "), carried, load, reply.count).print();
-    show_modules(modules, load.boards);
+    show_modules(modules, seats, load.boards);
     waveform::show(levels, reply.count);
 }
 

@@ -15,6 +15,7 @@ use rig_lines::refusals;
 use usi::Read;
 use usi::Step;
 use usi::Usi;
+use usi::Written;
 use usi_text::put_module;
 
 struct Session {
@@ -96,11 +97,22 @@ impl Session {
     fn step(self, step: Step) -> Session {
         match step {
             Step::Next(device) => {
-                show_module(device);
+                module_line(device).print();
                 self.with_device(device)
             }
             Step::Refused(number, _) => self.refused(number),
         }
+    }
+
+    // Answers with the module after a write, and the flags that it cleared.
+    fn written(self, written: Written) -> Session {
+        if written.refusal != 0 {
+            return self.refused(written.refusal);
+        }
+        module_line(written.usi)
+            .form(b" cleared=%", &[written.cleared as u64])
+            .print();
+        self.with_device(written.usi)
     }
 
     fn read(self, read: Read) -> Session {
@@ -168,9 +180,9 @@ help
             }
             Command::Power(low, high) => self.step(Step::Next(Usi::power_up(low, high))),
             Command::Read(address) => self.read(device.read(address)),
-            Command::Write(address, value) => self.step(device.write(address, value)),
+            Command::Write(address, value) => self.written(device.write(address, value)),
             Command::ReadWord(address) => self.read_word(device.read_word(address)),
-            Command::WriteWord(address, value) => self.step(device.write_word(address, value)),
+            Command::WriteWord(address, value) => self.written(device.write_word(address, value)),
             Command::Sample(level) => self.step(device.sample(level)),
             Command::Tick => self.step(device.tick()),
             Command::Lines => self.lines(),
@@ -209,11 +221,11 @@ fn pull(out: Output, low: bool) -> Output {
     out.words(b"released")
 }
 
-fn show_module(device: Usi) {
+fn module_line(device: Usi) -> Output {
     let line = Output::new().words(b"ok ");
     let mut bytes = line.bytes;
     let length = put_module(&mut bytes, line.length, device);
-    Output { bytes, length }.print();
+    Output { bytes, length }
 }
 
 // Answers what taking a line found.

@@ -3,3 +3,4 @@ pub mod Cases
 pub mod SetUp
 pub mod Following
 pub mod Resting
+pub mod Clearing

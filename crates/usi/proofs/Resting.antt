@@ -12,7 +12,7 @@ use Rattle.usi.specs.declared.Step.{Step}
 use Rattle.usi.specs.declared.Step.the-variants.{Next, Refused}
 use Rattle.usi.specs.Module.{powerUp, atRest, fits}
 use Rattle.usi.specs.Step.{refusal, moduleOf, andThen, followed, settled, writeByte, odd, writeWord, sampled}
-use Rattle.usi.specs.Step.{sample, ticked, tick}
+use Rattle.usi.specs.Step.{sample, ticked, overruns, tick}
 use Rattle.usi.proofs.Registers.{writes-nothing}
 use Rattle.usi.proofs.SetUp.{followed-fits, sampled-fits, ticked-fits}
 
@@ -118,4 +118,8 @@ sample-sound u level =
 
 pub tick-sound : (u : Usi) → Sound u (tick u)
 unfolding tick
-tick-sound u = fitting-sound u (ticked u) 3 (λ e. ticked-fits u ∙ e)
+tick-sound u = either (overruns u)
+  where
+    either : (test : Bool) → Sound u (cond (fits u) (cond test (Refused 17 u) (Next (ticked u))) (Refused 3 u))
+    either true = sound-cond u (fits u) (Refused 17 u) (Refused 3 u) (sound-refused u 17) (sound-refused u 3)
+    either false = fitting-sound u (ticked u) 3 (λ e. ticked-fits u ∙ e)

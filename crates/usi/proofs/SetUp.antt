@@ -171,3 +171,40 @@ ticked-fits u =
     followed-fits
     (withPhase (rules.phaseAfter (rules.clocks (u .usictl0) (u .usictl1) (u .usicnt)) (u .phase) (u .seen) (u .scl))
     u)
+
+-- the clock's set-up stays at every sample and tick
+chosen-clock : (choice : Bool) (u v w : Usi) → v .usickctl ≡ u .usickctl → w .usickctl ≡ u .usickctl
+    → cond choice v w .usickctl ≡ u .usickctl
+chosen-clock true u v w p q = p
+chosen-clock false u v w p q = q
+
+pub followed-clock : (u : Usi) → followed u .usickctl ≡ u .usickctl
+unfolding followed
+followed-clock u = chosen-clock (setUp.transparent (u .usictl0)) u (latched u) u refl refl
+
+risen-clock : (scl sda : Bool) (u : Usi) → risen scl sda u .usickctl ≡ u .usickctl
+unfolding risen
+risen-clock scl sda u = chosen-clock (rules.takesBit (u .scl) scl (u .usicnt)) u (bitTaken sda u) u refl refl
+
+fallen-clock : (scl : Bool) (u : Usi) → fallen scl u .usickctl ≡ u .usickctl
+unfolding fallen
+fallen-clock scl u =
+    chosen-clock (levels.falls (u .scl) scl) u (cond (rules.movesLatch (u .usictl0) (u .usicnt)) (latched u) u) u
+    (chosen-clock (rules.movesLatch (u .usictl0) (u .usicnt)) u (latched u) u refl refl) refl
+
+edged-clock : (scl sda : Bool) (u : Usi) → edged scl sda u .usickctl ≡ u .usickctl
+unfolding edged
+edged-clock scl sda u =
+    let first = conditioned scl sda u in
+    let second = risen scl sda first in
+    chosen-clock (u .seen) u (stretched scl (fallen scl second)) u
+    (fallen-clock scl second ∙ risen-clock scl sda first) refl
+
+pub sampled-clock : (scl sda : Bool) (u : Usi) → sampled scl sda u .usickctl ≡ u .usickctl
+sampled-clock scl sda u = followed-clock (recorded scl sda (edged scl sda u)) ∙ edged-clock scl sda u
+
+pub ticked-clock : (u : Usi) → ticked u .usickctl ≡ u .usickctl
+ticked-clock u =
+    followed-clock
+    (withPhase (rules.phaseAfter (rules.clocks (u .usictl0) (u .usictl1) (u .usicnt)) (u .phase) (u .seen) (u .scl))
+    u)

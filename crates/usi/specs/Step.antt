@@ -9,6 +9,7 @@ use Rattle.usi_i2c.specs.Rules as rules
 use Rattle.usi.specs.declared.Usi.{Usi}
 use Rattle.usi.specs.declared.Step.{Step}
 use Rattle.usi.specs.declared.Step.the-variants.{Next, Refused}
+use Rattle.usi.specs.declared.Written.{Written}
 use Rattle.usi.specs.declared.Read.{Read}
 use Rattle.usi.specs.declared.Read.the-variants.{Value, Refused as NoValue}
 use Rattle.usi.specs.Module.{withUSICTL0, withUSICTL1, withUSICKCTL, withUSICNT, withUSISRL, withUSISRH}
@@ -90,6 +91,22 @@ writeWord u address value =
     cond (odd address) (Refused 2 u)
     (andThen (writeByte u address (value % 256)) (λ v. writeByte v (address + 1) (value / 256)))
 
+-- A write's answer: the step's module and number, and the flags of USICTL1 that it cleared (02: Ask 12), of both widths
+-- alike. A refused one clears none (proofs/Clearing.antt).
+abbrev pub answered : ℕ → Step → Written
+answered before step =
+    record {
+      usi = moduleOf step;
+      refusal = refusal step;
+      cleared = setUp.cleared before (moduleOf step .usictl1);
+    }
+
+abbrev pub written : Usi → ℕ → ℕ → Written
+written u address value = answered (u .usictl1) (writeByte u address value)
+
+abbrev pub writtenWord : Usi → ℕ → ℕ → Written
+writtenWord u address value = answered (u .usictl1) (writeWord u address value)
+
 -- START and STOP of a sample, on the flags and SCLREL.
 abbrev pub conditioned : Bool → Bool → Usi → Usi
 conditioned scl sda u =
@@ -142,14 +159,18 @@ sample u level =
     cond (ltb levels.maxLevel level) (Refused 4 u)
     (cond (fits u) (Next (sampled (levels.scl level) (levels.sda level) u)) (Refused 3 u))
 
--- Tick. Refusal 3.
+-- Tick. Refusals 3, 17 (02: Ask 5).
 abbrev pub ticked : Usi → Usi
 ticked u =
     followed (withPhase (rules.phaseAfter (rules.clocks (u .usictl0) (u .usictl1) (u .usicnt)) (u .phase) (u .seen)
     (u .scl)) u)
 
+abbrev pub overruns : Usi → Bool
+overruns u =
+    rules.overruns (u .usickctl) (rules.clocks (u .usictl0) (u .usictl1) (u .usicnt)) (u .phase) (u .seen) (u .scl)
+
 unfoldable pub tick : Usi → Step
-tick u = cond (fits u) (Next (ticked u)) (Refused 3 u)
+tick u = cond (fits u) (cond (overruns u) (Refused 17 u) (Next (ticked u))) (Refused 3 u)
 
 -- A sample and then, where asked, a tick, each with the module that it hands back.
 abbrev pub sampleThen : ℕ → Bool → Usi → Usi

@@ -6,9 +6,11 @@ ghost use Rattle.usi.specs.Module.{powerUp, atRest, fits as fitsRule, pu
 ghost use Rattle.usi.specs.Cases.{stretchedBy, conditionSeen, riseSeen, fallSeen};
 ghost use Rattle.usi.specs.Step.{refusal as refusalOf, moduleOf, latched as latchedRule};
 ghost use Rattle.usi.specs.Step.{followed as followedRule, settled as settledRule, readByte, writeByte};
+ghost use Rattle.usi.specs.Step.{answered as answeredBy, written, writtenWord};
 ghost use Rattle.usi.specs.Step.{readWord, writeWord, arbitrated as arbitratedRule, clocked as clockedRule};
 ghost use Rattle.usi.specs.Step.{bitTaken, recorded as recordedRule, edged as edgedRule, sampled as sampledRule};
 ghost use Rattle.usi.specs.Step.{sample as sampleRule, ticked as tickedRule, tick as tickRule, sampleThen};
+ghost use Rattle.usi.specs.Step.{overruns as overrunsRule};
 
 pub struct Usi {
     pub usictl0: u8,
@@ -34,6 +36,14 @@ pub struct Usi {
 pub enum Step {
     Next(Usi),
     Refused(u8, Usi),
+}
+
+// What a write answers: the module, as it was where the write is refused; the refusal's number, 0 where it is not; and the
+// flags of USICTL1 that were 1 before it and are 0 after it (02: Ask 12).
+pub struct Written {
+    pub usi: Usi,
+    pub refusal: u8,
+    pub cleared: u8,
 }
 
 // What a read answers: the byte or word, or a refusal's number.
@@ -67,6 +77,18 @@ impl Step {
             Step::Next(u) => u,
             Step::Refused(_, u) => u,
         }
+    }
+}
+
+// The answer of a write by its step, and USICTL1 before it.
+fn answered(before: u8, step: Step) -> Written
+    ensures { λ r. ⌜ r ≡ answeredBy before step ⌝ }
+{
+    let usi = step.module();
+    Written {
+        usi,
+        refusal: step.refusal(),
+        cleared: usi_registers::cleared(before, usi.usictl1),
     }
 }
 
@@ -201,8 +223,8 @@ impl Usi {
         (low as u16) + 256 * (high as u16)
     }
 
-    // A byte written to a register.
-    pub fn write(mut self, address: u16, value: u8) -> Step
+    // A byte stored in a register, as a step.
+    fn stored(mut self, address: u16, value: u8) -> Step
         ensures { λ r. ⌜ r ≡ writeByte self address value ⌝ }
     {
         match address {
@@ -235,17 +257,31 @@ impl Usi {
         }
     }
 
-    // A word written: the low byte's write, then the high byte's.
-    pub fn write_word(self, address: u16, value: u16) -> Step
+    // A word stored: the low byte, then the high byte.
+    fn stored_word(self, address: u16, value: u16) -> Step
         ensures { λ r. ⌜ r ≡ writeWord self address value ⌝ }
     {
         if address % 2 == 1 {
             return Step::Refused(2, self);
         }
-        match self.write(address, (value % 256) as u8) {
-            Step::Next(u) => u.write(address + 1, (value / 256) as u8),
+        match self.stored(address, (value % 256) as u8) {
+            Step::Next(u) => u.stored(address + 1, (value / 256) as u8),
             Step::Refused(number, u) => Step::Refused(number, u),
         }
+    }
+
+    // A byte written to a register.
+    pub fn write(self, address: u16, value: u8) -> Written
+        ensures { λ r. ⌜ r ≡ written self address value ⌝ }
+    {
+        answered(self.usictl1, self.stored(address, value))
+    }
+
+    // A word written: the low byte's write, then the high byte's.
+    pub fn write_word(self, address: u16, value: u16) -> Written
+        ensures { λ r. ⌜ r ≡ writtenWord self address value ⌝ }
+    {
+        answered(self.usictl1, self.stored_word(address, value))
     }
 
     // SCL stays high: START or STOP.
@@ -382,12 +418,26 @@ impl Usi {
         self.followed()
     }
 
+    // A tick would have to wait for SCL, and the divider is 1, which does not wait.
+    fn overruns(self) -> bool
+        ensures { λ r. ⌜ r ≡ overrunsRule self ⌝ }
+    {
+        if usi_registers::divider(self.usickctl) != 0 {
+            return false;
+        }
+        let clocking = usi_i2c::clocks(self.usictl0, self.usictl1, self.usicnt);
+        usi_i2c::overruns(self.usickctl, clocking, self.phase, self.seen, self.scl)
+    }
+
     // A tick of the module's clock.
     pub fn tick(self) -> Step
         ensures { λ r. ⌜ r ≡ tickRule self ⌝ }
     {
         if !self.fits() {
             return Step::Refused(3, self);
+        }
+        if self.overruns() {
+            return Step::Refused(17, self);
         }
         Step::Next(self.ticked())
     }
@@ -397,6 +447,9 @@ impl Usi {
         ensures { λ r. ⌜ r ≡ moduleOf (tickRule self) ⌝ }
     {
         if !self.fits() {
+            return self;
+        }
+        if self.overruns() {
             return self;
         }
         self.ticked()
@@ -422,7 +475,7 @@ impl Usi {
         }
         let seen = self.observed(level);
         if ticks {
-            return seen.ticked();
+            return seen.next_tick();
         }
         seen
     }

@@ -7,7 +7,7 @@ use Rattle.bits.specs.Positions.{on, off, raise, clear, shiftIn}
 use Rattle.levels.specs.Levels.{rises}
 use Rattle.usi_registers.specs.Registers.{USIMST, USIGE, USIOE, USIAL, USISTP, USISTTIFG, USIIFG, USISCLREL, USICNTx}
 use Rattle.usi_registers.specs.Registers.{USISRL-first}
-use Rattle.usi_registers.specs.Rules.{bitCount, counting}
+use Rattle.usi_registers.specs.Rules.{bitCount, counting, divider}
 
 -- START: STTIFG=1 and SCLREL=0. STOP: STP=1.
 unfoldable pub conditionFlags : ℕ → Bool → Bool → ℕ
@@ -59,6 +59,10 @@ clocks usictl0 usictl1 usicnt = on usictl0 USIMST && off usictl1 USIIFG && count
 -- Low half becomes high; high half becomes low only if SCL was last seen high. In every other case the half becomes high.
 unfoldable pub phaseAfter : Bool → Bool → Bool → Bool → Bool
 phaseAfter clocking phase seen scl = cond clocking (cond phase (not (seen && scl)) true) true
+
+-- A divider of 1 (DIV=0) does not wait for SCL (02: Ask 5): a tick in the high half with SCL last seen low.
+abbrev pub overruns : ℕ → Bool → Bool → Bool → Bool → Bool
+overruns usickctl clocking phase seen scl = eqb (divider usickctl) 0 && (clocking && phase && seen && not scl)
 
 -- SDA is pulled low when enable is 1 and latch is 0; both lines are released while the set-up doesn't fit.
 abbrev pub pullsSda : Bool → Bool → Bool → Bool

@@ -6,7 +6,7 @@ ghost use Rattle.usi_i2c.specs.Rules.{lossFlags};
 ghost use Rattle.usi_i2c.specs.Rules.{shifted as shiftedRule, countDown, endFlags, movesLatch, firstBit};
 ghost use Rattle.usi_i2c.specs.Rules.{stretchAfter};
 ghost use Rattle.usi_i2c.specs.Rules.{clocks as clocksRule, phaseAfter, pullsSda, drives as drivesRule};
-ghost use Rattle.usi_i2c.specs.Rules.{holds as holdsRule};
+ghost use Rattle.usi_i2c.specs.Rules.{holds as holdsRule, overruns as overrunsRule};
 use usi_registers::FIRST_BIT;
 use usi_registers::USIAL;
 use usi_registers::USICNTX;
@@ -142,6 +142,13 @@ pub fn phase_after(clocking: bool, phase: bool, seen: bool, scl: bool) -> bool
         return !(seen & scl);
     }
     true
+}
+
+// A tick that would have to wait for SCL, where a divider of 1 does not wait.
+pub fn overruns(usickctl: u8, clocking: bool, phase: bool, seen: bool, scl: bool) -> bool
+    ensures { λ r. ⌜ r ≡ overrunsRule usickctl clocking phase seen scl ⌝ }
+{
+    (usi_registers::divider(usickctl) == 0) & (clocking & phase & seen & !scl)
 }
 
 // SDA is pulled low.

@@ -1,5 +1,5 @@
 -- The USI's register table (01, "The module's registers"; TI's names): address, value after power-up, and the bits by position.
-use Prim.Native.Nat.{ℕ, _*_}
+use Prim.Native.Nat.{ℕ, _+_, _*_}
 use Rattle.bits.specs.Positions.{bit, lowest}
 
 -- | 078h | USICTL0 | 01h | PE7 PE6 PE5 LSB MST GE OE SWRST |
@@ -63,6 +63,10 @@ USISTTIFG = bit 1
 
 abbrev pub USIIFG : ℕ
 USIIFG = bit 0
+
+-- the four flags
+abbrev pub USIFLAGS : ℕ
+USIFLAGS = USIAL + USISTP + USISTTIFG + USIIFG
 
 -- | 07Ah | USICKCTL | 00h | DIV(3) SSEL(3) CKPL SWCLK |
 abbrev pub USICKCTL : ℕ

@@ -4,7 +4,7 @@ use mathlib.Core.Bool.{Bool, cond, not, _&&_}
 use lib.Bits.{bitAnd}
 use Rattle.bits.specs.Positions.{on, off, raise, clear, field}
 use Rattle.usi_registers.specs.Registers.{USIPE7, USIPE6, USILSB, USIGE, USIOE, USISWRST, USICKPH, USII2C}
-use Rattle.usi_registers.specs.Registers.{USISTP, USIIFG}
+use Rattle.usi_registers.specs.Registers.{USISTP, USIIFG, USIFLAGS}
 use Rattle.usi_registers.specs.Registers.{USIDIV-position, USIDIV-width, USISSEL-position, USISSEL-width}
 use Rattle.usi_registers.specs.Registers.{USICKPL, USI16B, USIIFGCC, USICNTx}
 
@@ -41,3 +41,7 @@ countFlags usictl1 value =
     cond (counting value)
     (cond (off value USIIFGCC) (clear usictl1 (USIIFG + USISTP)) usictl1)
     (raise usictl1 USIIFG)
+
+-- The flags of USICTL1 (AL, STP, STTIFG, IFG, in their places) that were 1 before and are 0 after (02: Ask 12).
+abbrev pub cleared : ℕ → ℕ → ℕ
+cleared before after = clear (bitAnd before USIFLAGS) after

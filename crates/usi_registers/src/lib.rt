@@ -2,7 +2,7 @@
 // Crate usi_i2c has the rules of edges, ticks and lines, and crate usi composes them.
 ghost use mathlib.Core.Path.{_≡_};
 ghost use Rattle.usi_registers.specs.Rules.{divider, counting as countingRule};
-ghost use Rattle.usi_registers.specs.Rules.{fits as fitsRule, countFlags};
+ghost use Rattle.usi_registers.specs.Rules.{fits as fitsRule, countFlags, cleared as clearedRule};
 ghost use Rattle.usi_registers.specs.Rules.{outputEnable, transparent as transparentRule};
 
 // USICTL0
@@ -38,6 +38,8 @@ pub const USISTP: u8 = 0x04;
 pub const USISTTIFG: u8 = 0x02;
 
 pub const USIIFG: u8 = 0x01;
+
+pub const USIFLAGS: u8 = 0x0f;
 
 // USICKCTL
 pub const USICKPL: u8 = 0x02;
@@ -95,6 +97,13 @@ pub fn count_flags(usictl1: u8, value: u8) -> u8
         return usictl1 & !(USIIFG | USISTP);
     }
     usictl1
+}
+
+// The flags of USICTL1 that were 1 before and are 0 after.
+pub fn cleared(before: u8, after: u8) -> u8
+    ensures { λ r. ⌜ r ≡ clearedRule before after ⌝ }
+{
+    before & USIFLAGS & !after
 }
 
 // OE.

@@ -1,8 +1,8 @@
 -- A reply that is not refused, from messages and acknowledges alone: who is still in, and how many bytes are carried.
 use Prim.Native.Nat.{ℕ, zero, suc}
-use mathlib.Core.Path.{_≡_, refl, ap, _∙_}
+use mathlib.Core.Path.{_≡_, refl, ap, ap₂, _∙_}
 use mathlib.Core.Bool.{Bool, cond, true, false}
-use mathlib.Core.List.{List, [], _∷_, _++_, map}
+use mathlib.Core.List.{List, [], _∷_, _++_, map, zipWith}
 use mathlib.Core.Option.{Option, none, some}
 use native.Mathlib.Omega.{arith}
 use borrow.Author.Tests.{eq-eqb, eqb-true}
@@ -19,10 +19,12 @@ use Rattle.arbitration_rules.specs.Outcome.{least, carriedCount, carriedOf, los
 use Rattle.arbitration_rules.specs.Reply.{messagesOf, messageChecks, shortBuffer, refusal, refused, absent, seatOf}
 use Rattle.arbitration_rules.specs.Reply.{padded, answered, arbitrated}
 use Rattle.arbitration_rules.specs.Run.{Bus, run}
+use Rattle.arbitration_rules.specs.Cleared.{clearedBy}
 use Rattle.arbitration_rules.proofs.Accepted.{accepted, message-numbered}
 use Rattle.arbitration_rules.proofs.Carry.{Bytes}
 use Rattle.arbitration_rules.proofs.Demand.{Arbitration, ended, contest, carried-length}
 use Rattle.arbitration_rules.proofs.FinalMasters.{final-masters}
+use Rattle.arbitration_rules.proofs.ClearedFlags.{run-clears}
 use Rattle.verdict.specs.Verdict.{contenders}
 
 -- the messages that lose nothing against the carried bytes, in their order
@@ -32,8 +34,13 @@ unbeaten carried (message ∷ messages) =
     cond (fate (lossFrom 0 carried message) .contending) (message ∷ unbeaten carried messages)
     (unbeaten carried messages)
 
+-- seats of masters as a run leaves them, each with the flags that its writes cleared
+abbrev seated : List ℕ → List (List ℕ) → List Seat
+seated carried messages = zipWith seatOf (map (λ (m : List ℕ). 0x03) messages) (map (finalMaster carried) messages)
+
 seats-in : (carried : List ℕ) (messages : List (List ℕ)) (seats : List Seat)
-    → contenders (map seatOf (map (finalMaster carried) messages) ++ seats) messages ≡ unbeaten carried messages
+    → contenders (seated carried messages ++ seats) messages ≡ unbeaten carried messages
+unfolding zipWith
 seats-in carried [] [] = refl
 seats-in carried [] (seat ∷ seats) = refl
 seats-in carried (message ∷ messages) seats =
@@ -94,7 +101,7 @@ module _ (bytes lengths acknowledges : List ℕ) (carriedRoom levelRoom : ℕ) w
         go true is = eqb-true (refusal bytes lengths acknowledges carriedRoom levelRoom .number) 0 is
         go false is = rw is at unrefused
 
-    reply-is : replyTo ≡ answered bus
+    reply-is : replyTo ≡ answered (clearedBy messages acknowledges) bus
     unfolding arbitrated
     reply-is = rw (eq-eqb (refusal bytes lengths acknowledges carriedRoom levelRoom .number) 0 none-applies)
 
@@ -118,8 +125,8 @@ module _ (bytes lengths acknowledges : List ℕ) (carriedRoom levelRoom : ℕ) w
     unfolding answered
     those-in =
         ap (λ (r : Arbitrated). contenders (r .seats) messages) reply-is
-        ∙ ap (λ masters. contenders (padded absent (map seatOf masters)) messages)
-        (final-masters messages acknowledges given)
+        ∙ ap₂ (λ flags masters. contenders (padded absent (zipWith seatOf flags masters)) messages)
+        (run-clears messages acknowledges given) (final-masters messages acknowledges given)
         ∙ seats-in carried messages _
 
     -- k is what the least message and the acknowledges say

@@ -9,6 +9,7 @@ use Rattle.arbitration_rules.specs.Masters.{applied, judged}
 use Rattle.arbitration_rules.specs.Outcome.{undecided}
 use Rattle.arbitration_rules.specs.Reply.{messagesOf, refusal, refused, answered, arbitrated}
 use Rattle.arbitration_rules.specs.Run.{wire, performed, through, run}
+use Rattle.arbitration_rules.specs.Cleared.{clearedAt, clearedIn, clearedBy}
 use Rattle.verdict.specs.declared.Verdict.{Verdict}
 use Rattle.verdict.specs.declared.Verdict.the-variants.{Refused, Undecided, Cut, Sent}
 use Rattle.verdict.specs.Verdict.{ended, verdictOf}
@@ -22,7 +23,7 @@ verdict bytes lengths acknowledges =
 unfoldable computed : List ℕ → List ℕ → List ℕ → Verdict
 unfolding countFlags conditionFlags conditionCount lossControl lossFlags endFlags phaseAfter followed settled writeByte
     edged fallen risen sample tick zipWith applied judged undecided refusal refused answered wire performed
-    through run arbitrated ended verdictOf
+    through run clearedAt clearedIn clearedBy arbitrated ended verdictOf
 computed bytes lengths acknowledges = verdict bytes lengths acknowledges
 
 -- P8: messages 90 12 and 90 0F, acknowledges 0 0: the second is sent

@@ -23,6 +23,7 @@ use Rattle.arbitration_rules.specs.Outcome.{undecided}
 use Rattle.arbitration_rules.specs.Reply as reply
 use Rattle.arbitration_rules.specs.Reply.{refusal, refused, answered}
 use Rattle.arbitration_rules.specs.Run.{wire, performed, through, run}
+use Rattle.arbitration_rules.specs.Cleared.{clearedAt, clearedIn, clearedBy}
 
 -- a register read and written, a word read and written, a sample, a tick
 unfoldable pub read : Usi → ℕ → Read
@@ -70,7 +71,7 @@ read-into answer levels buffer = decode.eventsAfter answer levels buffer
 unfoldable pub arbitrated : List ℕ → List ℕ → List ℕ → ℕ → ℕ → Arbitrated
 unfolding countFlags conditionFlags conditionCount lossControl lossFlags endFlags phaseAfter followed settled writeByte
     edged fallen risen step.sample step.tick zipWith applied judged undecided refusal refused answered wire performed
-    through run reply.arbitrated
+    through run clearedAt clearedIn clearedBy reply.arbitrated
 arbitrated bytes lengths acknowledges carriedRoom levelRoom =
     reply.arbitrated bytes lengths acknowledges carriedRoom levelRoom
 

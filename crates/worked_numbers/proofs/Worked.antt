@@ -19,7 +19,7 @@ use Rattle.decode.specs.DecodeReply as decode
 use Rattle.arbitration_rules.specs.declared.Arbitrated.{Arbitrated}
 use Rattle.arbitration_rules.specs.declared.Seat.{Seat}
 use Rattle.arbitration_rules.specs.Reply as reply
-use Rattle.worked_numbers.proofs.Computed.{read, write, sample, encoded, drawn, decoded, read-into, arbitrated}
+use Rattle.worked_numbers.proofs.Computed.{read, write, writeWord, sample, encoded, drawn, decoded, read-into, arbitrated}
 use Rattle.worked_numbers.proofs.Computed.{carriedAfter, levelsAfter}
 
 abbrev written : ℕ → ℕ → Usi → Usi
@@ -47,6 +47,23 @@ pub P3 : (low high : ℕ) → step.readByte (written 0x07b 0x00 (written 0x07b 0
     ≡ Value 0x01
 unfolding read write
 P3 low high = refl
+
+-- what these writes clear (02: Ask 12): P1 clears IFG, P2 and P3 nothing; a refused write clears nothing
+pub writes-clear : (low high : ℕ)
+    → (step.written (powerUp low high) 0x07b 0x08 .cleared ≡ 0x01)
+    × (step.written (powerUp low high) 0x07b 0x28 .cleared ≡ 0)
+    × (step.written (powerUp low high) 0x07b 0x00 .cleared ≡ 0)
+    × (step.written (powerUp low high) 0x079 0x40 .cleared ≡ 0x01)
+    × (step.written (powerUp low high) 0x07e 0x00 .cleared ≡ 0)
+    × (step.writtenWord (powerUp low high) 0x078 0x4001 .cleared ≡ 0x01)
+    × (step.writtenWord (powerUp low high) 0x079 0x4001 .cleared ≡ 0)
+unfolding write writeWord
+writes-clear low high = (refl, refl, refl, refl, refl, refl, refl)
+
+-- AL, STP, STTIFG and IFG in their places, and no other bit
+pub four-flags : (low high : ℕ) → step.written (written 0x079 0xff (powerUp low high)) 0x079 0x00 .cleared ≡ 0x0f
+unfolding write
+four-flags low high = refl
 
 -- P4: fitted with 22h, 41h, C8h, USISRL=0: CEh pulls SDA low
 pub P4 : (low high : ℕ) → pullsSda (written USICTL0 0xce (written USISRL 0x00 (fitted 0xc8 low high))) ≡ true
@@ -156,13 +173,13 @@ abbrev pub winner : Usi
 winner = ended 0xc8 0x45 0x00 0xff true true
 
 abbrev pub in-seat : Seat
-in-seat = record { contending = true; position = 0 }
+in-seat = record { contending = true; position = 0; cleared = 0x03 }
 
 abbrev pub lost-at : ℕ → Seat
-lost-at position = record { contending = false; position = position }
+lost-at position = record { contending = false; position = position; cleared = 0x03 }
 
 abbrev pub no-seat : Seat
-no-seat = record { contending = false; position = 0 }
+no-seat = record { contending = false; position = 0; cleared = 0 }
 
 -- a reply with so many carried bytes, and a refused one: all else is 0, the modules are as powered up
 abbrev pub answer : List Usi → ℕ → List Seat → Arbitrated

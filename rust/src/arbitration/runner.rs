@@ -28,6 +28,8 @@ pub fn run(request: &Request) -> Result<Run, Refusal> {
 struct Runner<'a> {
     messages: &'a [Vec<u8>],
     modules: Vec<Module>,
+    /// The flags that each master's writes have cleared.
+    cleared: Vec<u8>,
     /// The position at which a master lost, once it has.
     lost: Vec<Option<usize>>,
     /// The acknowledge is pulling SDA low.
@@ -43,6 +45,7 @@ impl Runner<'_> {
         let mut runner = Runner {
             messages: &request.messages,
             modules: vec![Module::power_up(0, 0); masters],
+            cleared: vec![0; masters],
             lost: vec![None; masters],
             ack_pulled: false,
             levels: Vec::new(),
@@ -59,7 +62,9 @@ impl Runner<'_> {
     }
 
     fn write(&mut self, master: usize, address: u16, value: u8) {
-        self.modules[master] = self.modules[master].write(address, value).expect("a register's address");
+        let before = self.modules[master];
+        self.modules[master] = before.write(address, value).expect("a register's address");
+        self.cleared[master] |= self.modules[master].cleared_since(&before);
     }
 
     fn all_write(&mut self, address: u16, value: u8) {
@@ -174,6 +179,8 @@ impl Runner<'_> {
         }
         let arbitration_lost = modules.map(|module| module.is(AL));
         let outcome = Outcome { carried, levels: self.levels, remaining, positions, arbitration_lost };
-        Run { outcome, modules }
+        let mut cleared = [0; MASTERS];
+        cleared[..self.cleared.len()].copy_from_slice(&self.cleared);
+        Run { outcome, modules, cleared }
     }
 }

@@ -66,20 +66,21 @@ fn level_text(level: u8) -> char {
 
 /// The reply's numbers, then one line for each of the eight masters.
 fn reply_text(reply: Result<Run, Refusal>) -> String {
-    let (numbers, modules, positions) = match reply {
+    let (numbers, modules, positions, cleared) = match reply {
         Ok(run) => {
             let remaining = run.outcome.remaining.iter().rev();
             let mask = remaining.fold(0, |mask, &bit| mask << 1 | u16::from(bit));
             let numbers = format!("refused 0 place 0 k {} in {mask}", run.outcome.carried.len());
-            (numbers, run.modules, run.outcome.positions)
+            (numbers, run.modules, run.outcome.positions, run.cleared)
         }
         Err(refusal) => {
             let numbers = format!("refused {} place {} k 0 in 0", refusal.number(), refusal.place);
-            (numbers, [Module::power_up(0, 0); MASTERS], [0; MASTERS])
+            (numbers, [Module::power_up(0, 0); MASTERS], [0; MASTERS], [0; MASTERS])
         }
     };
-    let masters = modules.iter().zip(positions).enumerate();
-    let lines =
-        masters.map(|(master, (module, at))| format!("\n  {master}: {} at {at}", module_text(module)));
+    let masters = modules.iter().zip(positions).zip(cleared).enumerate();
+    let lines = masters.map(|(master, ((module, at), cleared))| {
+        format!("\n  {master}: {} at {at} cleared={cleared:02X}", module_text(module))
+    });
     numbers + &lines.collect::<String>()
 }

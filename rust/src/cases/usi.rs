@@ -13,8 +13,8 @@ pub fn usi(script: &str) -> Result<String, String> {
 fn command(module: &mut Module, words: &[&str]) -> Result<String, String> {
     match words {
         ["power", low, high] => Ok(step(module, Ok(Module::power_up(hex_byte(low)?, hex_byte(high)?)))),
-        ["write", address, value] => Ok(step(module, module.write(hex(address)?, hex_byte(value)?))),
-        ["writew", address, value] => Ok(step(module, module.write_word(hex(address)?, hex(value)?))),
+        ["write", address, value] => Ok(write(module, module.write(hex(address)?, hex_byte(value)?))),
+        ["writew", address, value] => Ok(write(module, module.write_word(hex(address)?, hex(value)?))),
         ["sample", level] => Ok(step(module, module.sample(hex_byte(level)?))),
         ["tick"] => Ok(step(module, module.tick())),
         ["read", address] => Ok(value(module.read(hex(address)?).map(|value| format!("{value:02X}")))),
@@ -32,6 +32,13 @@ fn step(module: &mut Module, next: Result<Module, Refusal>) -> String {
         }
         Err(refusal) => format!("{} refused {}", module_text(module), refusal.number()),
     }
+}
+
+/// The same of a write, with the flags that it cleared.
+fn write(module: &mut Module, next: Result<Module, Refusal>) -> String {
+    let before = *module;
+    let text = step(module, next);
+    format!("{text} cleared={:02X}", module.cleared_since(&before))
 }
 
 fn value(read: Result<String, Refusal>) -> String {

@@ -22,6 +22,7 @@ pub fn case(other: &dyn Interface, random: &mut Random, counts: &mut Counts) -> 
         (side.arbitrate(&asked, lent.lend()), lent)
     };
     let (model, other) = (ask(&Model), ask(other));
+    check_cleared(&asked, &other)?;
     count_kinds(&asked, &model, counts);
     let inputs = || {
         let rooms = [lent.carried.len(), lent.levels.len(), lent.modules.len(), lent.seats.len()];
@@ -43,6 +44,17 @@ fn compare_least(other: &dyn Interface, asked: &Asked) -> Result<(), Difference>
 fn reply_words(reply: u64) -> String {
     let part = |low: u32, width: u32| reply >> low & ((1 << width) - 1);
     format!("refused {} place {} k {}", part(0, 8), part(8, 16), part(24, 16))
+}
+
+/// The flags that each master's writes cleared are STTIFG and IFG, whatever the run (demand 3, 02: Ask 12).
+fn check_cleared(asked: &Asked, (reply, lent): &(u64, Buffers)) -> Result<(), Difference> {
+    if reply & 0xFF > 0 {
+        return Ok(());
+    }
+    let masters = asked.lengths.len();
+    let cleared: Vec<u32> = lent.seats[..masters].iter().map(|seat| seat >> 1 & 15).collect();
+    let inputs = || format!("flags cleared in {asked:X?}");
+    equal(&vec![3; masters], &cleared, inputs, |flags| format!("{flags:?}"))
 }
 
 fn count_kinds(asked: &Asked, model: &(u64, Buffers), counts: &mut Counts) {
@@ -100,7 +112,7 @@ fn visible((reply, lent): &(u64, Buffers)) -> Visible {
         carried: lent.carried[..count].to_vec(),
         levels: lent.levels[..5 + 18 * count].to_vec(),
         remaining: std::array::from_fn(|master| lent.seats[master] & 1 == 1),
-        positions: std::array::from_fn(|master| (lent.seats[master] >> 1) as u16),
+        positions: std::array::from_fn(|master| (lent.seats[master] >> 5) as u16),
         arbitration_lost: std::array::from_fn(|master| unpack(lent.modules[master]).is(AL)),
     };
     Visible { refusal, outcome: Some(outcome) }

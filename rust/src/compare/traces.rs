@@ -27,7 +27,7 @@ pub fn case(other: &dyn Interface, random: &mut Random, counts: &mut Counts) -> 
     equal(&model, &other, inputs, |(reply, events)| format!("{}, events {events:?}", reply_words(*reply)))
 }
 
-fn reply_words(reply: u64) -> String {
+pub(super) fn reply_words(reply: u64) -> String {
     let part = |low: u32, width: u32| reply >> low & ((1 << width) - 1);
     format!(
         "refused {} place {} count {} open {} pending {} value {}",
@@ -40,7 +40,7 @@ fn reply_words(reply: u64) -> String {
     )
 }
 
-fn draw_levels(random: &mut Random) -> (&'static str, Vec<u8>) {
+pub(super) fn draw_levels(random: &mut Random) -> (&'static str, Vec<u8>) {
     let mut levels = drawing(&complete_list(random));
     match random.below(10) {
         0..=1 => ("drawn", levels),
@@ -111,7 +111,7 @@ fn rising_stamps(random: &mut Random, count: usize) -> Vec<u32> {
 }
 
 /// Puts in faults, sometimes several: equal or falling stamps, levels above 3, one more or one less.
-fn spoil(random: &mut Random, stamps: &mut Vec<u32>, levels: &mut Vec<u8>) -> usize {
+pub(super) fn spoil(random: &mut Random, stamps: &mut Vec<u32>, levels: &mut Vec<u8>) -> usize {
     let mut faults = 0;
     while levels.len() > 1 && random.once_in(4) {
         let place = random.between(1, levels.len() - 1);

@@ -74,7 +74,7 @@ fn fitting_value(random: &mut Random, register: usize) -> u8 {
     match register {
         0 => value & 0x2E | 0xC0 | if random.once_in(2) { 0x08 } else { 0x00 },
         1 => value & 0x3F | 0x40,
-        2 => value | 0x02,
+        2 => value & if random.once_in(2) { 0x1F } else { 0xFF } | 0x02,
         3 if random.once_in(4) => value & 0xBF,
         3 => value & 0xA3,
         _ => value,
@@ -140,7 +140,7 @@ fn compare_step(
     equal(&answer, &perform(other, module, step), inputs, answer_words)?;
     counts.add(step_kind(step));
     let (next, refusal) = match answer {
-        Answer::Module(next) => (next, next >> 56),
+        Answer::Module(next) => (next, next >> 55 & 31),
         Answer::Value(value) => (module & MODULE, u64::from(value >> 16)),
     };
     if refusal > 0 {
@@ -187,7 +187,7 @@ fn module_words(module: &u64) -> String {
 
 fn answer_words(answer: &Answer) -> String {
     match answer {
-        Answer::Module(module) => format!("{}, refused {}", module_words(module), module >> 56),
+        Answer::Module(module) => format!("{}, refused {}, cleared {:X}", module_words(module), module >> 55 & 31, module >> 60),
         Answer::Value(value) => format!("value {:04X}, refused {}", value & 0xFFFF, value >> 16),
     }
 }

@@ -21,6 +21,11 @@ fn words(reason: Reason) -> &'static str {
         Reason::ReadMessage => "a board's first byte is odd, a read",
         Reason::Acknowledges => "there is not one acknowledge, 0 or 1, for each byte of the longest board",
         Reason::Undecided => "the least message is acknowledged to its end and begins another",
+        Reason::NoWaiting => "a divider of 1 does not wait, and SCL was last seen low",
+        Reason::ShortPhase => "a phase of SCL is too short for the mode",
+        Reason::BoardsDoNotRise | Reason::BoardLengths | Reason::BoardAbsent => {
+            unreachable!("no command asks a catalogue")
+        }
     }
 }
 

@@ -70,8 +70,8 @@ impl Session {
         match words[..] {
             [b"power"] => self.step(Ok(Module::power_up(0, 0))),
             [b"power", low, high] => self.step(Ok(Module::power_up(byte(low)?, byte(high)?))),
-            [b"write", at, value] => self.step(module.write(address(at)?, byte(value)?)),
-            [b"writew", at, value] => self.step(module.write_word(address(at)?, word(value)?)),
+            [b"write", at, value] => self.write(module.write(address(at)?, byte(value)?)),
+            [b"writew", at, value] => self.write(module.write_word(address(at)?, word(value)?)),
             [b"sample", level] => self.step(module.sample(byte(level)?)),
             [b"tick"] => self.step(module.tick()),
             [b"read", at] => Some(module.read(address(at)?).map(|value| format!("{value:02X}"))),
@@ -88,6 +88,13 @@ impl Session {
             self.module = next;
             module_text(&next)
         }))
+    }
+
+    /// The same of a write, with the flags that it cleared.
+    fn write(&mut self, next: Result<Module, Refusal>) -> Reply {
+        let before = self.module;
+        let text = self.step(next)?;
+        Some(text.map(|text| format!("{text} cleared={:02X}", self.module.cleared_since(&before))))
     }
 
     fn summary(&self) -> String {

@@ -13,8 +13,8 @@ const P8: &str = r#"load p8, line 3
   won board 1
   lost board 0 at byte 1 bit 3, place 12
   carried 90 ACK, 0F ACK
-  board 0 USICTL0=C0 USICTL1=4D USICKCTL=22 USICNT=80 USISRL=0F USISRH=00
-  board 1 USICTL0=C8 USICTL1=45 USICKCTL=22 USICNT=00 USISRL=FF USISRH=00
+  board 0 USICTL0=C0 USICTL1=4D USICKCTL=22 USICNT=80 USISRL=0F USISRH=00 cleared=03
+  board 1 USICTL0=C8 USICTL1=45 USICKCTL=22 USICNT=00 USISRL=FF USISRH=00 cleared=03
   scl:""\/\/\/\/\/\/\/\/\/\/\/\/\/\/\/\/\/\/\/"
   sda:"\/"\.../"\................./"""""""\.../
 "#;

@@ -46,7 +46,7 @@ fn every_line_is_answered() {
         format!("ok {shifted}"),
         "ok A55A".to_string(),
         "ok A5".to_string(),
-        format!("ok {}", POWERED.replacen("00 00 00 00", "00 00 12 00", 1)),
+        format!("ok {} cleared=00", POWERED.replacen("00 00 00 00", "00 00 12 00", 1)),
         "ok power [LL HH], read AAA, write AAA VV, readw AAA, writew AAA VVVV, sample L, tick, lines, help"
             .to_string(),
     ];

@@ -28,7 +28,7 @@ returns c =
     let same = at4 .settle .ensures in
     let all = refused-before (a .bytes .now) (a .lengths .now) (a .acks .now) (a .carried .now) (a .levels .now) _
     (rw same at (c .before .if1 .taken)) (rw same at (c .refused .ensures)) in
-    (all .replies, (all .carried, (all .recorded, (all .follows, all .refuses))))
+    (all .replies, (all .carried, (all .recorded, (all .follows, (all .clears, all .refuses)))))
 
 short-requires : tie.Need-short-requires
 short-requires c κs =
@@ -53,7 +53,7 @@ returns-2 c =
     let short = rw same at (sym (c .before .before .short .ensures) ∙ c .before .if2 .taken) in
     let all = refused-short (a .bytes .now) (a .lengths .now) (a .acks .now) (a .carried .now) (a .levels .now)
     (small (at6)) passes _ short (c .refused2 .ensures) in
-    (all .replies, (all .carried, (all .recorded, (all .follows, all .refuses))))
+    (all .replies, (all .carried, (all .recorded, (all .follows, (all .clears, all .refuses)))))
 
 cut-requires : tie.Need-cut-requires
 cut-requires c κs = tt
@@ -97,7 +97,7 @@ returns-3 c =
     let all = ran-clauses (a .bytes .now) (a .lengths .now) (a .acks .now) (a .carried .now) (a .levels .now)
     (small (at15)) passes enough (at5 .run-modules .result) _ _
     (rw (at8 .first .ensures, at9 .cut .ensures) at (at5 .run-modules .ensures)) _ (c .answered .ensures) in
-    (all .replies, (all .carried, (all .recorded, (all .follows, all .refuses))))
+    (all .replies, (all .carried, (all .recorded, (all .follows, (all .clears, all .refuses)))))
 
 pub arbitrate-spec : {M : Type 1} → statement M
 arbitrate-spec =

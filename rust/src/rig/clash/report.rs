@@ -75,7 +75,7 @@ fn full(load: &Load, acks: &[u8], run: &Run) -> String {
     }
     lines.push(format!("carried {}", carried(run, acks)));
     for (board, module) in run.modules.iter().take(load.boards.len()).enumerate() {
-        lines.push(format!("board {board}{}", registers(module)));
+        lines.push(format!("board {board}{} cleared={:02X}", registers(module), run.cleared[board]));
     }
     let levels = &run.outcome.levels;
     lines.push(format!("scl:{}", waveform(levels.iter().map(|level| level % 2 == 1))));

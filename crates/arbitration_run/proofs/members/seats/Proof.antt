@@ -10,14 +10,14 @@ use Rattle.laws.proofs.Lists.{take-min}
 use Rattle.laws.proofs.Loops.{paired, paired-more, drop-replicate}
 use Rattle.arbitration_rules.specs.Limits.{maxMasters}
 use Rattle.arbitration_rules.specs.declared.Seat.{Seat}
-use Rattle.arbitration_run.specs.Members.{seatOf}
+use Rattle.arbitration_run.specs.Members.{seatOf, writesClear}
 use borrow.Author.Needs.{needs}
 use Rattle.arbitration_run.proofs.members.seats.Statement.{statement}
 use Rattle.arbitration_run.proofs.members.seats.Tie as tie
 
 abbrev Inv-loop : tie.InvT-loop
 Inv-loop count contending positions out₀ i₀ out i = (i ≤ min count maxMasters)
-    × (out ≡ paired seatOf contending positions out₀ i)
+    × (out ≡ paired (seatOf writesClear) contending positions out₀ i)
 
 abbrev μ-loop : tie.MeasureT-loop
 μ-loop count contending positions out₀ i₀ out i = maxMasters - i
@@ -79,7 +79,7 @@ loop-again c =
     let room : head .i < length (replicate maxMasters (at3 .seat-of .result)) =
     omega (arith, both, length-replicate maxMasters (at3 .seat-of .result)) in (
       omega (arith, both),
-      rw (c .seat-of2 .ensures) (paired-more seatOf _ _ _ _ _ false 0 (head .inv .1) less
+      rw (c .seat-of2 .ensures) (paired-more (seatOf writesClear) _ _ _ _ _ false 0 (head .inv .1) less
           less-other room),
     )
 
@@ -93,7 +93,7 @@ returns c =
     let left : maxMasters - head .i ≡ maxMasters - a .count = omega (arith, here) in
     head .inv .1
     ∙ ap₂ (λ (seats rest : List Seat). seats ++ rest)
-    (ap₂ (zipWith seatOf) (ap (λ (n : ℕ). take n (a .t1)) here ∙ take-min (a .count) (a .t1))
+    (ap₂ (zipWith (seatOf writesClear)) (ap (λ (n : ℕ). take n (a .t1)) here ∙ take-min (a .count) (a .t1))
     (ap (λ (n : ℕ). take n (a .t2)) there ∙ take-min (a .count) (a .t2)))
     (drop-replicate (c .before .before .seat-of .result) maxMasters (head .i) (omega (arith, here))
     ∙ ap₂ (λ (n : ℕ) (seat : Seat). replicate n seat) left (c .before .before .seat-of .ensures))

@@ -6,10 +6,10 @@ use Rattle.rig_outcome.proofs.outcome.show_modules.Statement.{statement
 use Rattle.rig_outcome.proofs.outcome.show_modules.Tie as tie
 
 abbrev Inv-loop : tie.InvT-loop
-Inv-loop boards modules i₀ i = Unit {0}
+Inv-loop boards modules seats i₀ i = Unit {0}
 
 abbrev μ-loop : tie.MeasureT-loop
-μ-loop boards modules i₀ i = maxMasters - i
+μ-loop boards modules seats i₀ i = maxMasters - i
 
 loop-holds : tie.Need-loop-holds Inv-loop μ-loop
 loop-holds c = search needs
@@ -19,6 +19,12 @@ mul-show-module c = search needs
 
 array-copy-out-show-module : tie.Need-array-copy-out-show-module Inv-loop μ-loop
 array-copy-out-show-module c = search needs
+
+mul-show-module-2 : tie.Need-mul-show-module-2 Inv-loop μ-loop
+mul-show-module-2 c = search needs
+
+array-copy-out-show-module-2 : tie.Need-array-copy-out-show-module-2 Inv-loop μ-loop
+array-copy-out-show-module-2 c = search needs
 
 show-module-requires : tie.Need-show-module-requires Inv-loop μ-loop
 show-module-requires c κs = search needs
@@ -44,6 +50,8 @@ show-modules-spec =
     loop-holds
     mul-show-module
     array-copy-out-show-module
+    mul-show-module-2
+    array-copy-out-show-module-2
     show-module-requires
     add-i
     loop-less

@@ -1,4 +1,5 @@
--- Each case is that of the test on the set-up.
+-- Each case is that of the tests on the set-up and on the divider.
+use mathlib.Core.Path.{sym, _∙_}
 use Rattle.laws.proofs.Branches.{call-true, call-false}
 use Rattle.usi.specs.Step.{tick}
 use borrow.Author.Needs.{needs}
@@ -12,12 +13,31 @@ returns : tie.Need-returns
 unfolding tick
 returns c = rw (call-false _ _ (c .before .fits2 .ensures) (c .if1 .taken))
 
-ticked-requires : tie.Need-ticked-requires
-ticked-requires c κs = search needs
+overruns-requires : tie.Need-overruns-requires
+overruns-requires c κs = search needs
 
 returns-2 : tie.Need-returns-2
 unfolding tick
-returns-2 c = rw (call-true _ _ (c .before .before .fits2 .ensures) (c .before .if1 .left), c .ticked .ensures)
+returns-2 c =
+    let tested = c .before .before in
+    rw (
+      call-true _ _ (tested .before .fits2 .ensures) (tested .if1 .left),
+      sym (c .before .overruns .ensures) ∙ c .if2 .taken,
+    )
+
+ticked-requires : tie.Need-ticked-requires
+ticked-requires c κs = search needs
+
+returns-3 : tie.Need-returns-3
+unfolding tick
+returns-3 c =
+    let tested = c .before .before .before in
+    rw (
+      call-true _ _ (tested .before .fits2 .ensures) (tested .if1 .left),
+      sym (c .before .before .overruns .ensures) ∙ c .before .if2 .left,
+      c .ticked .ensures,
+    )
 
 pub next-tick-spec : {M : Type 1} → statement M
-next-tick-spec = tie.close (tie.spec fits-requires returns ticked-requires returns-2)
+next-tick-spec =
+    tie.close (tie.spec fits-requires returns overruns-requires returns-2 ticked-requires returns-3)

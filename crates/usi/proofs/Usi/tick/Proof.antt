@@ -12,12 +12,19 @@ returns : tie.Need-returns
 unfolding tick
 returns c = search branches
 
-ticked-requires : tie.Need-ticked-requires
-ticked-requires c κs = search needs
+overruns-requires : tie.Need-overruns-requires
+overruns-requires c κs = search needs
 
 returns-2 : tie.Need-returns-2
 unfolding tick
 returns-2 c = search branches
 
+ticked-requires : tie.Need-ticked-requires
+ticked-requires c κs = search needs
+
+returns-3 : tie.Need-returns-3
+unfolding tick
+returns-3 c = search branches
+
 pub tick-spec : {M : Type 1} → statement M
-tick-spec = tie.close (tie.spec fits-requires returns ticked-requires returns-2)
+tick-spec = tie.close (tie.spec fits-requires returns overruns-requires returns-2 ticked-requires returns-3)

@@ -1,62 +1,16 @@
--- The low byte's write, and unless it was refused the high byte's.
-use borrow.Author.Tests.{ne-eqb}
-use Rattle.laws.proofs.Branches.{branches}
-use Rattle.usi.specs.Step.{writeWord}
+-- The answer of the step.
 use borrow.Author.Needs.{needs}
 use Rattle.usi.proofs.Usi.write_word.Statement.{statement}
 use Rattle.usi.proofs.Usi.write_word.Tie as tie
 
+stored-word-requires : tie.Need-stored-word-requires
+stored-word-requires c κs = search needs
+
+answered-requires : tie.Need-answered-requires
+answered-requires c κs = search needs
+
 returns : tie.Need-returns
-unfolding writeWord
-returns c = search branches
-
-cast-write : tie.Need-cast-write
-cast-write c = search needs
-
-write-requires : tie.Need-write-requires
-write-requires c κs = search needs
-
-enum-known-u : tie.Need-enum-known-u
-enum-known-u c = search needs
-
-add-write : tie.Need-add-write
-add-write c = search needs
-
-cast-write-2 : tie.Need-cast-write-2
-cast-write-2 c = search needs
-
-write-requires-2 : tie.Need-write-requires-2
-write-requires-2 c κs = search needs
-
-enum-known-number : tie.Need-enum-known-number
-enum-known-number c = search needs
-
-returns-2 : tie.Need-returns-2
-unfolding writeWord
-returns-2 c =
-    let at4 = c .before .before .before .before in
-    let at5 = at4 .before in
-    rw (ne-eqb _ _ (at5 .if1 .left), ← at4 .write .ensures, c .before .before .u .given .1)
-    (c .write2 .ensures)
-
-returns-3 : tie.Need-returns-3
-unfolding writeWord
-returns-3 c =
-    let at3 = c .before .before .before in
-    let at4 = at3 .before in
-    rw (ne-eqb _ _ (at4 .if1 .left), ← at3 .write .ensures, c .before .number .given .1)
+returns c = rw (c .answered .ensures, c .before .stored-word .ensures)
 
 pub write-word-spec : {M : Type 1} → statement M
-write-word-spec =
-    tie.close
-    (tie.spec
-    returns
-    cast-write
-    write-requires
-    enum-known-u
-    add-write
-    cast-write-2
-    write-requires-2
-    enum-known-number
-    returns-2
-    returns-3)
+write-word-spec = tie.close (tie.spec stored-word-requires answered-requires returns)

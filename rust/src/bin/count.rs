@@ -1,0 +1,64 @@
+//! `count library|model arbitrate|decode N`: so many equal calls and nothing else, for a count of instructions under
+//! callgrind: the difference between N and 2N calls is N calls'.
+
+use rehearsal_model::arbitration::{MASTERS, MESSAGE_BYTES};
+use rehearsal_model::bus::{drawing, START, STOP};
+use rehearsal_model::ffi::Archive;
+use rehearsal_model::packed::{Asked, Buffers, Interface, Model};
+use std::hint::black_box;
+
+const USAGE: &str = "usage: count library|model arbitrate|decode N";
+
+fn main() {
+    let words: Vec<String> = std::env::args().skip(1).collect();
+    let [side, call, count] = &words[..] else { panic!("{USAGE}") };
+    let side: &dyn Interface = match side.as_str() {
+        "library" => &Archive,
+        "model" => &Model,
+        _ => panic!("{USAGE}"),
+    };
+    let count = count.parse().expect(USAGE);
+    match call.as_str() {
+        "arbitrate" => arbitrate(side, count),
+        "decode" => decode(side, count),
+        _ => panic!("{USAGE}"),
+    }
+}
+
+/// Eight masters with 32-byte messages that differ in their last four bytes.
+fn arbitrate(side: &dyn Interface, count: usize) {
+    let message = |master: usize| (0..MESSAGE_BYTES).map(move |at| message_byte(at, master));
+    let asked = Asked {
+        bytes: (0..MASTERS).flat_map(message).collect(),
+        lengths: vec![MESSAGE_BYTES as u32; MASTERS],
+        acks: vec![0; MESSAGE_BYTES],
+    };
+    let mut lent = Buffers {
+        carried: vec![0; MESSAGE_BYTES],
+        levels: vec![0; 5 + 18 * MESSAGE_BYTES],
+        modules: vec![0; MASTERS],
+        seats: vec![0; MASTERS],
+    };
+    for _ in 0..count {
+        assert_eq!(black_box(side.arbitrate(black_box(&asked), lent.lend())) & 0xFF, 0);
+    }
+}
+
+fn message_byte(at: usize, master: usize) -> u8 {
+    let shared = (at * 37 % 256) as u8 & 0xFE;
+    let differs = at + 1 == MESSAGE_BYTES - master % 4;
+    shared ^ if differs { 0x10 << (master / 4) } else { 0 }
+}
+
+/// 4,091 samples: one message of 227 bytes.
+fn decode(side: &dyn Interface, count: usize) {
+    let mut list = vec![START];
+    list.extend((0..227u16).map(|at| at * 37 % 512));
+    list.push(STOP);
+    let levels = drawing(&list);
+    let stamps: Vec<u32> = (0..levels.len() as u32).map(|sample| 50 * sample).collect();
+    let mut events = vec![0; 4096];
+    for _ in 0..count {
+        assert_eq!(black_box(side.decode(black_box(&stamps), black_box(&levels), &mut events)) & 0xFF, 0);
+    }
+}
