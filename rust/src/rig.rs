@@ -1,72 +1,50 @@
 //! The program `rig` once more, on the model: the same arguments and input give the same standard output.
 
-use std::fs::File;
-use std::io::{self, Read};
-use std::os::unix::ffi::OsStrExt;
-use std::path::Path;
+use std::io::Read;
 
 pub mod arguments;
 mod clash;
 mod decode;
 pub mod differ;
 mod encode;
+mod files;
 pub mod inputs;
 mod refusals;
 mod session;
 mod text;
 
-use arguments::{printable, Asked, Command, Options};
+use arguments::{Command, Options};
+use text::{bytes_of, text_of};
 
-/// All that `rig` with these arguments prints; the text of `help` is left out but for its last line.
-pub fn answer(arguments: &[Vec<u8>], input: &mut dyn Read) -> Vec<u8> {
-    let mut output = match arguments::parse(arguments) {
-        Ok(Asked::Help) => b"ok help".to_vec(),
-        Ok(Asked::Run(options)) => match read(&options.file, input) {
-            Ok(text) => run(&options, &text),
-            Err(error) => error,
-        },
-        Err(error) => error,
-    };
-    output.push(b'\n');
-    output
+/// What `rig` prints.
+pub struct Answer {
+    /// On standard output.
+    pub output: Vec<u8>,
+    /// On standard error, but for progress.
+    pub notes: Vec<u8>,
 }
 
-/// The output but for its last newline.
-fn run(options: &Options, text: &[u8]) -> Vec<u8> {
+/// All that `rig` with these arguments prints.
+pub fn answer(arguments: &[Vec<u8>], input: &mut dyn Read) -> Answer {
+    let arguments: Vec<String> = arguments.iter().map(|argument| text_of(argument)).collect();
+    let (output, notes) = match arguments::parse(&arguments) {
+        Ok(options) if options.command == Command::Clash => clash::clash(&options, input),
+        Ok(options) => (one_file(&options, input), String::new()),
+        Err(words) => (format!("error {words}\n"), String::new()),
+    };
+    Answer { output: bytes_of(&output), notes: bytes_of(&notes) }
+}
+
+/// A command that reads one file.
+fn one_file(options: &Options, input: &mut dyn Read) -> String {
+    let contents = files::read(&options.files[0], input);
     match options.command {
-        Command::Clash => clash::clash(text, options),
-        Command::Decode => decode::decode(text, options),
-        Command::Encode => encode::encode(text, options),
-        Command::Session => session::session(text),
+        Command::Decode => decode::decode(&contents, options),
+        Command::Encode => encode::encode(&contents, options),
+        _ => session::session(&contents),
     }
 }
 
-/// The whole of a file; `-` is standard input.
-fn read(file: &[u8], input: &mut dyn Read) -> Result<Vec<u8>, Vec<u8>> {
-    let mut text = Vec::new();
-    let result = if file == b"-" {
-        input.read_to_end(&mut text)
-    } else {
-        let path = Path::new(std::ffi::OsStr::from_bytes(file));
-        let mut opened = File::open(path).map_err(|problem| file_error("open", file, &problem))?;
-        opened.read_to_end(&mut text)
-    };
-    match result {
-        Ok(_) => Ok(text),
-        Err(problem) => Err(file_error("read", file, &problem)),
-    }
-}
-
-fn file_error(doing: &str, file: &[u8], problem: &io::Error) -> Vec<u8> {
-    let reason = match problem.raw_os_error() {
-        Some(2) => "no such file".to_string(),
-        Some(13) => "permission denied".to_string(),
-        Some(21) => "it is a directory".to_string(),
-        Some(36) => "the name is too long".to_string(),
-        number => format!("error number {}", number.unwrap_or(0)),
-    };
-    let mut error = format!("error cannot {doing} ").into_bytes();
-    error.extend(printable(file));
-    error.extend(format!(": {reason}").into_bytes());
-    error
-}
+/// First words by which a file of loads is known where another is read.
+const WORDS_OF_LOADS: [&str; 4] = ["boards", "load", "board", "ack"];
+const LOOKS_LIKE_LOADS: &str = "; this looks like a file of loads: did you mean rig clash?";

@@ -31,34 +31,81 @@ fn arbitration_answers_are_stored() {
     check("arbitration", arbitration);
 }
 
-/// The program's own stored answer: the night of forty loads.
+/// The program's own stored answer under the gate: its arguments, with its files by their whole names.
 #[test]
-fn the_night_of_loads_is_stored() {
+fn the_programs_own_answer_is_stored() {
     let file = |name: &str| format!("{}/../crates/rig/{name}", env!("CARGO_MANIFEST_DIR"));
-    let arguments = [b"clash".to_vec(), file("data/night.loads").into_bytes()];
+    let words = read_to_string(file("args")).expect("crates/rig/args");
+    let whole = |word: &str| {
+        let data = file(&format!("data/{word}"));
+        if std::path::Path::new(&data).exists() {
+            data
+        } else {
+            word.to_string()
+        }
+    };
+    let arguments: Vec<Vec<u8>> = words.split_whitespace().map(|word| whole(word).into_bytes()).collect();
     let stored = std::fs::read(file("stdout")).expect("crates/rig/stdout");
-    assert!(answer(&arguments, &mut std::io::empty()) == stored, "answers of rig");
+    assert!(answer(&arguments, &mut std::io::empty()).output == stored, "answers of rig");
 }
 
-/// The stored answers to the shipped examples: `COMMAND.FILE`, or `brief.FILE` for `clash FILE --brief`.
+fn top() -> String {
+    format!("{}/..", env!("CARGO_MANIFEST_DIR"))
+}
+
+/// The stored answers to the shipped examples: each name in tests/expected, and what belongs in it.
+fn examples() -> Vec<(String, Vec<u8>)> {
+    let mut answers = Vec::new();
+    for entry in std::fs::read_dir(format!("{}/examples", top())).unwrap() {
+        let file = entry.unwrap().file_name().into_string().unwrap();
+        let (_, kind) = file.rsplit_once('.').unwrap();
+        let words: &[(&str, &str)] = match kind {
+            "loads" => {
+                &[("clash", "clash"), ("table", "clash --table"), ("whole", "clash --registers --wave")]
+            }
+            "trace" => &[("decode", "decode")],
+            "events" => &[("encode", "encode")],
+            "session" => &[("session", "session")],
+            _ => panic!("examples/{file}: no kind of file"),
+        };
+        for (name, words) in words {
+            let mut arguments: Vec<Vec<u8>> = words.split(' ').map(Into::into).collect();
+            arguments.insert(1, format!("{}/examples/{file}", top()).into_bytes());
+            answers.push((format!("{name}.{file}"), answer(&arguments, &mut std::io::empty()).output));
+        }
+    }
+    answers.sort();
+    answers
+}
+
+fn stored_names() -> Vec<String> {
+    let entries = std::fs::read_dir(format!("{}/tests/expected", top())).unwrap();
+    let mut names: Vec<String> =
+        entries.map(|entry| entry.unwrap().file_name().into_string().unwrap()).collect();
+    names.sort();
+    names
+}
+
 #[test]
 fn the_examples_are_stored() {
-    let top = format!("{}/..", env!("CARGO_MANIFEST_DIR"));
-    let mut count = 0;
-    for entry in std::fs::read_dir(format!("{top}/tests/expected")).unwrap() {
-        let name = entry.unwrap().file_name().into_string().unwrap();
-        let (command, file) = name.split_once('.').unwrap();
-        let path = format!("{top}/examples/{file}");
-        let words = match command {
-            "brief" => vec!["clash", &path, "--brief"],
-            _ => vec![command, &path],
-        };
-        let arguments: Vec<Vec<u8>> = words.iter().map(|word| word.as_bytes().to_vec()).collect();
-        let stored = std::fs::read(format!("{top}/tests/expected/{name}")).unwrap();
-        assert!(answer(&arguments, &mut std::io::empty()) == stored, "{name}");
-        count += 1;
+    let examples = examples();
+    assert_eq!(stored_names(), examples.iter().map(|(name, _)| name.clone()).collect::<Vec<_>>());
+    for (name, answer) in examples {
+        let stored = std::fs::read(format!("{}/tests/expected/{name}", top())).unwrap();
+        assert!(answer == stored, "{name}");
     }
-    assert_eq!(count, 11, "stored answers");
+}
+
+/// Stores them anew: `cargo test --test scripts -- --ignored`.
+#[test]
+#[ignore]
+fn store_the_examples() {
+    for name in stored_names() {
+        std::fs::remove_file(format!("{}/tests/expected/{name}", top())).unwrap();
+    }
+    for (name, answer) in examples() {
+        std::fs::write(format!("{}/tests/expected/{name}", top()), answer).unwrap();
+    }
 }
 
 #[test]

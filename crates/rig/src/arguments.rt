@@ -1,30 +1,30 @@
 // The words of the command line after the command.
+use crate::lines::end;
+use crate::lines::put_not;
+use crate::lines::say;
+use crate::task::Task;
 use check::same;
+use rig_lines::console::begin;
+use rig_lines::console::put_quoted;
 use rig_lines::numbers::is_number;
 use rig_lines::numbers::value;
-use rig_lines::output::Output;
-use rig_lines::output::trouble;
+use text::put_bytes;
 
 pub(crate) struct Arguments {
-    // which argument names the file; 0: none does
+    pub(crate) task: Task,
+    // which argument names the first file; 0: none does
     pub(crate) file: usize,
-    pub(crate) brief: bool,
+    pub(crate) table: bool,
+    pub(crate) registers: bool,
+    pub(crate) wave: bool,
     // room to lend to the library; a command lends no more than it has
     pub(crate) room: usize,
-    // which options the command takes
-    takes_brief: bool,
-    takes_room: bool,
     // the next word is the number of --room
     wants_room: bool,
-    // an error has been printed
+    // an error stands on the page
     pub(crate) broken: bool,
-}
-
-fn unexpected(word: &[u8]) {
-    Output::new()
-        .words(b"error unexpected argument ")
-        .argument(word)
-        .print();
+    // where the page goes on
+    pub(crate) at: usize,
 }
 
 fn is_option(word: &[u8]) -> bool {
@@ -34,97 +34,195 @@ fn is_option(word: &[u8]) -> bool {
     (word[0] == b'-') & (word[1] == b'-')
 }
 
+pub(crate) fn too_long(page: &mut [u8], at: usize) -> usize {
+    say(page, at, b"error an argument is longer than 4096 bytes")
+}
+
 impl Arguments {
-    fn failed(mut self) -> Arguments {
+    fn none(task: Task) -> Arguments {
+        Arguments {
+            task,
+            file: 0,
+            table: false,
+            registers: false,
+            wave: false,
+            room: usize::MAX,
+            wants_room: false,
+            broken: false,
+            at: 0,
+        }
+    }
+
+    // An error stands on the page up to a position.
+    fn failed(mut self, at: usize) -> Arguments {
         self.broken = true;
+        self.at = at;
         self
     }
 
-    fn with_room(mut self, word: &[u8]) -> Arguments {
+    fn trouble(self, page: &mut [u8], words: &[u8]) -> Arguments {
+        self.failed(say(page, self.at, words))
+    }
+
+    fn no_number(self, page: &mut [u8], word: &[u8]) -> Arguments {
+        let from = begin(page, self.at);
+        let error = put_bytes(page, from, b"error expected a number after --room");
+        let met = put_not(page, error, word);
+        self.failed(end(page, met))
+    }
+
+    fn unknown_option(self, page: &mut [u8], word: &[u8]) -> Arguments {
+        let from = begin(page, self.at);
+        let error = put_bytes(page, from, b"error unknown option ");
+        let quoted = put_quoted(page, error, word);
+        let of = put_bytes(page, quoted, b" for ");
+        let task = self.task;
+        let named = task.put_name(page, of);
+        self.failed(end(page, named))
+    }
+
+    fn second_file(self, page: &mut [u8], word: &[u8]) -> Arguments {
+        let from = begin(page, self.at);
+        let error = put_bytes(page, from, b"error a second file ");
+        let quoted = put_quoted(page, error, word);
+        let of = put_bytes(page, quoted, b": ");
+        let task = self.task;
+        let named = task.put_name(page, of);
+        self.failed(put_bytes(page, named, b" reads one\n"))
+    }
+
+    fn with_room(mut self, page: &mut [u8], word: &[u8]) -> Arguments {
         let number = text::decimal(word);
         if !is_number(number) {
-            trouble(b"expected a number after --room");
-            return self.failed();
+            return self.no_number(page, word);
         }
         self.room = value(number) as usize;
         self.wants_room = false;
         self
     }
 
-    fn with_file(mut self, argument: usize, word: &[u8]) -> Arguments {
-        if is_option(word) | (self.file > 0) {
-            unexpected(word);
-            return self.failed();
-        }
-        self.file = argument;
-        self
-    }
-
-    fn with_word(mut self, argument: usize, word: &[u8]) -> Arguments {
-        if self.wants_room {
-            return self.with_room(word);
-        }
-        if self.takes_brief & same(word, b"--brief") {
-            self.brief = true;
+    fn with_file(mut self, page: &mut [u8], argument: usize, word: &[u8]) -> Arguments {
+        let task = self.task;
+        if self.file == 0 {
+            self.file = argument;
             return self;
         }
-        if self.takes_room & same(word, b"--room") {
+        if task.is_clash() {
+            return self;
+        }
+        self.second_file(page, word)
+    }
+
+    // An option that rig clash alone takes.
+    fn with_display(mut self, page: &mut [u8], word: &[u8]) -> Arguments {
+        let task = self.task;
+        if task.is_clash() {
+            if same(word, b"--table") {
+                self.table = true;
+                return self;
+            }
+            if same(word, b"--registers") {
+                self.registers = true;
+                return self;
+            }
+            if same(word, b"--wave") {
+                self.wave = true;
+                return self;
+            }
+        }
+        self.unknown_option(page, word)
+    }
+
+    fn with_option(mut self, page: &mut [u8], word: &[u8]) -> Arguments {
+        let task = self.task;
+        if same(word, b"--room") & !task.is_session() {
             self.wants_room = true;
             return self;
         }
-        self.with_file(argument, word)
+        self.with_display(page, word)
     }
 
-    fn with_argument(self, argument: usize) -> Arguments {
+    fn with_word(self, page: &mut [u8], argument: usize, word: &[u8]) -> Arguments {
+        if self.wants_room {
+            return self.with_room(page, word);
+        }
+        if is_option(word) {
+            return self.with_option(page, word);
+        }
+        self.with_file(page, argument, word)
+    }
+
+    fn with_argument(self, page: &mut [u8], argument: usize) -> Arguments {
         let mut space = io::buffer();
         let n = os::arg(argument, &mut space);
         if os::errno() != 0 {
-            trouble(b"an argument is longer than 4096 bytes");
-            return self.failed();
+            return self.failed(too_long(page, self.at));
         }
-        self.with_word(argument, &space[..n])
+        self.with_word(page, argument, &space[..n])
     }
 
-    fn finished(self) -> Arguments {
-        if self.wants_room & !self.broken {
-            trouble(b"expected a number after --room");
-            return self.failed();
+    // What is found once all words are read.
+    fn finished(self, page: &mut [u8]) -> Arguments {
+        let task = self.task;
+        if self.broken {
+            return self;
         }
-        self
-    }
-
-    // A file is named, or the command goes without.
-    pub(crate) fn with_file_needed(self) -> Arguments {
-        if (self.file == 0) & !self.broken {
-            trouble(b"expected a file, or - for standard input");
-            return self.failed();
+        if self.wants_room {
+            return self.trouble(page, b"error expected a number after --room");
+        }
+        if (self.file == 0) & !task.reads_input() {
+            return self.trouble(page, b"error expected a file, or - for standard input");
+        }
+        if self.table & (self.registers | self.wave) {
+            return self.trouble(
+                page,
+                b"error --table goes with neither --registers nor --wave",
+            );
         }
         self
     }
 }
 
-fn none(takes_brief: bool, takes_room: bool) -> Arguments {
-    Arguments {
-        file: 0,
-        brief: false,
-        room: usize::MAX,
-        takes_brief,
-        takes_room,
-        wants_room: false,
-        broken: false,
-    }
-}
-
-pub(crate) fn parse(takes_brief: bool, takes_room: bool) -> Arguments {
-    let mut arguments = none(takes_brief, takes_room);
+pub(crate) fn parse(page: &mut [u8], task: Task) -> Arguments {
+    let mut given = Arguments::none(task);
     let count = os::arg_count();
     let mut i: usize = 2;
     while i < count {
-        if arguments.broken {
-            return arguments;
+        if given.broken {
+            return given;
         }
-        arguments = arguments.with_argument(i);
+        given = given.with_argument(page, i);
         i += 1;
     }
-    arguments.finished()
+    given.finished(page)
+}
+
+// How many arguments it takes to pass one that is no file; 0 where it is a file.
+fn passed(argument: usize) -> usize {
+    let mut space = io::buffer();
+    let n = os::arg(argument, &mut space);
+    if same(&space[..n], b"--room") {
+        return 2;
+    }
+    if is_option(&space[..n]) {
+        return 1;
+    }
+    0
+}
+
+// The argument at or after one that names a file; 0 where none does.
+pub(crate) fn next_file(from: usize) -> usize {
+    let count = os::arg_count();
+    let mut i = from;
+    while i < count {
+        let past = passed(i);
+        if past == 0 {
+            return i;
+        }
+        if past > count - i {
+            return 0;
+        }
+        i += past;
+    }
+    0
 }

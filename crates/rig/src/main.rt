@@ -1,52 +1,74 @@
 // rig: rehearses loads of I2C boards, reads and draws bus traces, and steps a USI module.
-// The last line of output says how it went: `ok`, `refused` with a number, or `error`.
+// The last line of output says how it went: `ok`, `look`, `refused` with a number, or `error`.
 mod arguments; // arguments.rt: the words of the command line
-mod help; // help.rt: how to use it
+mod clash; // clash.rt: rehearses the loads of files
+mod decoding; // decoding.rt: the events of a trace
+mod encoding; // encoding.rt: an event list drawn as a trace
+mod hints; // hints.rt: what a file is, by its words
+mod lines; // lines.rt: whole lines of output
+mod session; // session.rt: a module driven by commands
 mod task; // task.rt: the commands by name
+mod trouble; // trouble.rt: what was not understood or could not be read
 
 use arguments::Arguments;
+use rig_lines::console;
 use rig_lines::files;
 use rig_lines::files::Opened;
 use rig_lines::input::Source;
+use task::Named;
 use task::Task;
 
-fn read_arguments(task: Task) -> Arguments {
+fn run_on(page: &mut [u8], given: Arguments, source: Source) -> usize {
+    let task = given.task;
     match task {
-        Task::Clash => arguments::parse(true, true).with_file_needed(),
-        Task::Decode => arguments::parse(false, true).with_file_needed(),
-        Task::Encode => arguments::parse(false, true),
-        _ => arguments::parse(false, false),
+        Task::Decode => decoding::run(page, given.at, source, given.room),
+        Task::Encode => encoding::run(page, given.at, source, given.room),
+        Task::Session => {
+            session::run(page, source);
+            given.at
+        }
+        Task::Clash => given.at,
     }
 }
 
-fn run_on(task: Task, given: Arguments, source: Source) {
-    match task {
-        Task::Clash => rig_clash::run(source, given.brief, given.room),
-        Task::Decode => rig_decode::run(source, given.room),
-        Task::Encode => rig_encode::run(source, given.room),
-        Task::Session => rig_session::run(source),
-        _ => {}
-    }
-}
-
-fn run(task: Task) {
-    let given = read_arguments(task);
-    if given.broken {
-        return;
-    }
+// Runs a command that reads one file.
+fn run_one(page: &mut [u8], given: Arguments) -> usize {
     match files::open(given.file) {
-        Opened::Source(source) => run_on(task, given, source),
-        Opened::Failed => {}
+        Opened::Source(source) => run_on(page, given, source),
+        Opened::Failed(errno) => trouble::file(page, given.at, b"cannot open ", given.file, errno),
+    }
+}
+
+fn run(page: &mut [u8], task: Task) -> usize {
+    let given = arguments::parse(page, task);
+    if given.broken {
+        return given.at;
+    }
+    if task.is_clash() {
+        clash::run(given.table, given.registers, given.wave, given.room);
+        return given.at;
+    }
+    run_one(page, given)
+}
+
+// Runs the command that the first argument names.
+fn begin(page: &mut [u8]) -> usize {
+    if os::arg_count() < 2 {
+        return task::none(page);
+    }
+    let mut space = io::buffer();
+    let n = os::arg(1, &mut space);
+    if os::errno() != 0 {
+        return arguments::too_long(page, 0);
+    }
+    match task::find(&space[..n]) {
+        Named::Task(task) => run(page, task),
+        Named::Unknown => task::unknown(page, &space[..n]),
     }
 }
 
 fn main() {
-    let mut space = io::buffer();
-    let n = os::arg(1, &mut space);
-    let task = task::named(&space[..n]);
-    match task {
-        Task::Unknown => help::unknown(),
-        Task::Help => help::run(),
-        _ => run(task),
-    }
+    let mut page = [0u8; console::PAGE];
+    let end = begin(&mut page);
+    console::flush(&page, end);
 }

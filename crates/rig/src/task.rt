@@ -1,30 +1,90 @@
 // The commands by name.
+use crate::lines::say;
 use check::same;
+use rig_lines::console::begin;
+use rig_lines::console::put_quoted;
+use text::put_bytes;
 
 pub(crate) enum Task {
     Clash,
     Decode,
     Encode,
     Session,
-    Help,
+}
+
+// What a word names.
+pub(crate) enum Named {
+    Task(Task),
     Unknown,
 }
 
-pub(crate) fn named(word: &[u8]) -> Task {
+pub(crate) fn find(word: &[u8]) -> Named {
     if same(word, b"clash") {
-        return Task::Clash;
+        return Named::Task(Task::Clash);
     }
     if same(word, b"decode") {
-        return Task::Decode;
+        return Named::Task(Task::Decode);
     }
     if same(word, b"encode") {
-        return Task::Encode;
+        return Named::Task(Task::Encode);
     }
     if same(word, b"session") {
-        return Task::Session;
+        return Named::Task(Task::Session);
     }
-    if same(word, b"help") {
-        return Task::Help;
+    Named::Unknown
+}
+
+impl Task {
+    pub(crate) fn is_clash(self) -> bool {
+        match self {
+            Task::Clash => true,
+            _ => false,
+        }
     }
-    Task::Unknown
+
+    pub(crate) fn is_session(self) -> bool {
+        match self {
+            Task::Session => true,
+            _ => false,
+        }
+    }
+
+    // Whether it goes without a file.
+    pub(crate) fn reads_input(self) -> bool {
+        match self {
+            Task::Encode => true,
+            Task::Session => true,
+            _ => false,
+        }
+    }
+
+    pub(crate) fn put_name(self, page: &mut [u8], at: usize) -> usize {
+        match self {
+            Task::Clash => put_bytes(page, at, b"clash"),
+            Task::Decode => put_bytes(page, at, b"decode"),
+            Task::Encode => put_bytes(page, at, b"encode"),
+            Task::Session => put_bytes(page, at, b"session"),
+        }
+    }
+}
+
+// There is no command.
+pub(crate) fn none(page: &mut [u8]) -> usize {
+    say(
+        page,
+        0,
+        b"error expected a command: clash, decode, encode or session",
+    )
+}
+
+// There is no such command.
+pub(crate) fn unknown(page: &mut [u8], word: &[u8]) -> usize {
+    let from = begin(page, 0);
+    let error = put_bytes(page, from, b"error unknown command ");
+    let quoted = put_quoted(page, error, word);
+    put_bytes(
+        page,
+        quoted,
+        b": expected clash, decode, encode or session\n",
+    )
 }

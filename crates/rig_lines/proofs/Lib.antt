@@ -1,4 +1,4 @@
 pub mod Words
-pub mod Ends
+pub mod Forms
 pub mod Storing
 pub mod Taking

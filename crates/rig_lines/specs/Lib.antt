@@ -1,5 +1,5 @@
 pub mod Bytes
-pub mod Output
+pub mod Console
 pub mod Numbers
 pub mod Store
 pub mod Input

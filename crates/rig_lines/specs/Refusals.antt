@@ -2,12 +2,12 @@
 use mathlib.Core.List.{List, [], _∷_, _++_}
 use Prim.Native.Nat.{ℕ}
 use Rattle.rig_lines.specs.Bytes.{ascii}
-use Rattle.rig_lines.specs.Output.{added, formed, lineAt}
-use Rattle.rig_lines.specs.declared.output.Output.{Output}
+use Rattle.rig_lines.specs.Console.{formText, lineAt}
 
--- what each refusal says, by its number: each in a line of its own, after the line of 0, which is none
-abbrev pub allRefusals : List ℕ
-allRefusals =
+-- what each refusal says, by its number: each in a line of its own, after the line of 0, which is none; those of 12 to 16
+-- are told with boards, lines and counts
+abbrev pub refusals : List ℕ
+refusals =
     ascii "\n"
     ++ ascii "the address is outside 078h to 07Dh\n"
     ++ ascii "a word access needs an even address\n"
@@ -20,22 +20,18 @@ allRefusals =
     ++ ascii "the event list is not complete\n"
     ++ ascii "the gap is 0 or above 1000\n"
     ++ ascii "the last stamp is above 4294967295\n"
-    ++ ascii "no board, or more than eight\n"
-    ++ ascii "a board has no bytes or more than 32\n"
-    ++ ascii "a board's first byte is odd, a read\n"
-    ++ ascii "there is not one acknowledge, 0 or 1, for each byte of the longest board\n"
-    ++ ascii "the least message is acknowledged to its end and begins another\n"
+    ++ ascii "\n\n\n\n\n"
     ++ ascii "a divider of 1 does not wait, and SCL was last seen low\n"
+    ++ ascii "a phase of SCL is too short for the mode\n"
 
--- what a refusal says, at the end of a line
-abbrev pub withWords : ℕ → Output → Output
-withWords number line = added (lineAt number allRefusals) line
+abbrev pub refusalWords : ℕ → List ℕ
+refusalWords number = lineAt number refusals
 
 -- a refusal without a place
-abbrev pub refused : ℕ → Output → Output
-refused number line = withWords number (formed (ascii "refused #: ") (number ∷ []) line)
+abbrev pub refusalText : ℕ → List ℕ
+refusalText number = formText (ascii "refused #: ") (number ∷ []) ++ refusalWords number
 
--- a refusal with its place, and the line of the file that the place stands in
-abbrev pub refusedAt : ℕ → ℕ → ℕ → Output → Output
-refusedAt number place row line =
-    withWords number (formed (ascii "refused # place # (line #): ") (number ∷ place ∷ row ∷ []) line)
+-- a refusal with the sample it is about, and the line of the file that the sample stands in
+abbrev pub sampleText : ℕ → ℕ → ℕ → List ℕ
+sampleText number sample line =
+    formText (ascii "refused # sample # (line #): ") (number ∷ sample ∷ line ∷ []) ++ refusalWords number

@@ -1,10 +1,13 @@
 // Files by the name on the command line, and what can be wrong with one.
-ghost use Rattle.rig_lines.specs.Opening.{Opening};
+ghost use Rattle.text.specs.Output.{Put};
+ghost use Rattle.rig_lines.specs.Opening.{Opening, reasonText, Named};
+use crate::console::put_form;
+use crate::console::put_shown;
 use crate::input;
 use crate::input::Source;
-use crate::output::Output;
 use check::same;
 use libc::STDIN_FILENO;
+use text::put_bytes;
 
 const NO_FILE: u64 = libc::ENOENT as u64;
 
@@ -13,6 +16,8 @@ const NO_PERMISSION: u64 = libc::EACCES as u64;
 const DIRECTORY: u64 = libc::EISDIR as u64;
 
 const LONG_NAME: u64 = libc::ENAMETOOLONG as u64;
+
+const NOT_OPEN: u64 = libc::EBADF as u64;
 
 fn counted(errno: i32) -> u64 {
     if errno > 0 { errno as u64 } else { 0 }
@@ -24,36 +29,35 @@ pub(crate) fn error_number(failed: bool) -> u64 {
 }
 
 // Why the system refuses a file.
-fn reason(out: Output, errno: u64) -> Output {
+pub fn put_reason(page: &mut [u8], at: usize, errno: u64) -> usize
+    ensures { λ r. ⌜ Put (now (page .entry)) at (reasonText errno) (now (page .exit)) r ⌝ }
+{
     match errno {
-        NO_FILE => out.words(b"no such file"),
-        NO_PERMISSION => out.words(b"permission denied"),
-        DIRECTORY => out.words(b"it is a directory"),
-        LONG_NAME => out.words(b"the name is too long"),
-        _ => out.form(b"error number #", &[errno]),
+        NO_FILE => put_bytes(page, at, b"no such file"),
+        NO_PERMISSION => put_bytes(page, at, b"permission denied"),
+        DIRECTORY => put_bytes(page, at, b"it is a directory"),
+        LONG_NAME => put_bytes(page, at, b"the name is too long"),
+        NOT_OPEN => put_bytes(page, at, b"it is not open"),
+        _ => put_form(page, at, b"error number #", &[errno]),
     }
 }
 
-// The file's name, as the command line has it.
-fn name(out: Output, argument: usize) -> Output {
+// A file's name, as the command line has it.
+pub fn put_name(page: &mut [u8], at: usize, argument: usize) -> usize
+    ensures { λ r. ⌜ Named argument (now (page .entry)) at (now (page .exit)) r ⌝ }
+{
     if argument == 0 {
-        return out.words(b"standard input");
+        return put_bytes(page, at, b"standard input");
     }
     let mut space = io::buffer();
     let n = os::arg(argument, &mut space);
-    out.argument(&space[..n])
+    put_shown(page, at, &space[..n])
 }
 
-// A last line about a file.
-pub(crate) fn complain(words: &[u8], argument: usize, errno: u64) {
-    let named = name(Output::new().words(b"error ").words(words), argument);
-    reason(named.words(b": "), errno).print();
-}
-
-// What opening a file comes to.
+// What opening a file comes to: a source, or the error's number.
 pub enum Opened {
     Source(Source),
-    Failed,
+    Failed(u64),
 }
 
 // Opens the file that an argument names; argument 0 and the name `-` are standard input.
@@ -70,8 +74,7 @@ pub fn open(argument: usize) -> Opened
     }
     let fd = os::open_read(&name[..n]);
     if fd < 0 {
-        complain(b"cannot open ", argument, error_number(true));
-        return Opened::Failed;
+        return Opened::Failed(error_number(true));
     }
     Opened::Source(input::begin(fd, argument))
 }

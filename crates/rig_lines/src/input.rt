@@ -5,10 +5,9 @@ ghost use lib.ListN.{length, take};
 ghost use Rattle.rig_lines.specs.Bytes.{plain, every};
 ghost use Rattle.rig_lines.specs.Input.{begun, nextNumber, afterRead as readAfter, Refilled, NextByte};
 ghost use Rattle.rig_lines.specs.Input.{judgedLine, judgedLast, Took, commentAt, contentOf};
+use crate::console::is_control;
 use crate::files;
 use crate::numbers::more;
-use crate::output::fault;
-use crate::output::is_control;
 use crate::parts;
 use text::put_byte;
 
@@ -199,17 +198,6 @@ pub fn next_line(piece: &mut [u8], line: &mut [u8], from: Source) -> Taken
     Taken {
         line: Line::TooLong,
         source: from,
-    }
-}
-
-// Says what is wrong with a line that is no text, or with the file.
-pub fn complain(found: Line, from: Source) {
-    match found {
-        Line::TooLong => fault(from.line, b"longer than 4096 bytes"),
-        Line::NoText => fault(from.line, b"a byte that is no text"),
-        Line::Failed => files::complain(b"cannot read ", from.argument, from.errno),
-        Line::End => {}
-        Line::Text(_) => {}
     }
 }
 

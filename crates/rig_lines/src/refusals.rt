@@ -1,13 +1,17 @@
 // Refusals in words.
-ghost use mathlib.Core.Path.{_≡_};
-ghost use Rattle.rig_lines.specs.Refusals.{withWords, refused, refusedAt};
-use crate::output::Output;
+ghost use Rattle.text.specs.Output.{Put};
+ghost use Rattle.rig_lines.specs.Refusals.{refusalWords, refusalText, sampleText};
+use crate::console::put_form;
+use crate::console::put_line;
 
-// What a refusal says, by its number: each stands in a line of its own, after the line of 0, which is none.
-fn words(out: Output, number: u8) -> Output
-    ensures { λ r. ⌜ r ≡ withWords number out ⌝ }
+// What a refusal says, by its number: each stands in a line of its own, after the line of 0, which is none. Those of 12 to
+// 16 are told with boards, lines and counts where they are given.
+fn put_words(page: &mut [u8], at: usize, number: u8) -> usize
+    ensures { λ r. ⌜ Put (now (page .entry)) at (refusalWords number) (now (page .exit)) r ⌝ }
 {
-    out.line(
+    put_line(
+        page,
+        at,
         b"
 the address is outside 078h to 07Dh
 a word access needs an even address
@@ -20,45 +24,31 @@ the reply needs more room than was lent
 the event list is not complete
 the gap is 0 or above 1000
 the last stamp is above 4294967295
-no board, or more than eight
-a board has no bytes or more than 32
-a board's first byte is odd, a read
-there is not one acknowledge, 0 or 1, for each byte of the longest board
-the least message is acknowledged to its end and begins another
+
+
+
+
+
 a divider of 1 does not wait, and SCL was last seen low
+a phase of SCL is too short for the mode
 ",
         number as usize,
     )
 }
 
 // A refusal without a place.
-pub fn refusal(out: Output, number: u8) -> Output
-    ensures { λ r. ⌜ r ≡ refused number out ⌝ }
+pub fn put_refusal(page: &mut [u8], at: usize, number: u8) -> usize
+    ensures { λ r. ⌜ Put (now (page .entry)) at (refusalText number) (now (page .exit)) r ⌝ }
 {
-    words(out.form(b"refused #: ", &[number as u64]), number)
+    let words = put_form(page, at, b"refused #: ", &[number as u64]);
+    put_words(page, words, number)
 }
 
-// A refusal with its place and the line of the file that the place stands in.
-pub fn refusal_at(out: Output, number: u8, place: usize, line: u64) -> Output
-    ensures { λ r. ⌜ r ≡ refusedAt number place line out ⌝ }
+// A refusal with the sample it is about, and the line of the file that the sample stands in.
+pub fn put_sample_refusal(page: &mut [u8], at: usize, number: u8, sample: usize, line: u64) -> usize
+    ensures { λ r. ⌜ Put (now (page .entry)) at (sampleText number sample line) (now (page .exit)) r ⌝ }
 {
-    let numbers = [number as u64, place as u64, line];
-    words(out.form(b"refused # place # (line #): ", &numbers), number)
-}
-
-pub fn refuse(number: u8) {
-    refusal(Output::new(), number).print();
-}
-
-pub fn refuse_at(number: u8, place: usize, line: u64) {
-    refusal_at(Output::new(), number, place, line).print();
-}
-
-// A last line that counts: `refused 13: 2 of 40 loads refused, the first on line 52`.
-pub fn count(number: u8, refused: u64, all: u64, things: &[u8], line: u64) {
-    Output::new()
-        .form(b"refused #: # of #", &[number as u64, refused, all])
-        .words(things)
-        .form(b" refused, the first on line #", &[line])
-        .print();
+    let numbers = [number as u64, sample as u64, line];
+    let words = put_form(page, at, b"refused # sample # (line #): ", &numbers);
+    put_words(page, words, number)
 }

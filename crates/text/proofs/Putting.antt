@@ -1,7 +1,7 @@
 -- Text put into a buffer piece by piece: `Put` of each piece is `Put` of the whole.
 use mathlib.Core.Path.{_≡_, refl, sym, ap, _∙_}
-use mathlib.Core.Bool.{Bool, true, false}
-use mathlib.Core.List.{List, [], _∷_, _++_}
+use mathlib.Core.Bool.{Bool, true, false, cond}
+use mathlib.Core.List.{List, [], _∷_, _++_, append-assoc, append-nil}
 use Prim.Native.Nat.{ℕ, suc, _+_, _≤_, _<_, min}
 use native.Mathlib.Nat.{le-refl, min-eq-left, min-eq-right}
 use native.Mathlib.Numerals.{add-one}
@@ -90,3 +90,43 @@ put-one old at b h = put-holds old at (b ∷ []) (set old at b) (at + 1) refl (o
 
 pub put-full : (old : List ℕ) (at b : ℕ) → length old ≤ at → Put old at (b ∷ []) old (length old)
 put-full old at b h = put-holds old at (b ∷ []) old (length old) (sym (set-out old at b h)) (omega arith)
+
+-- A text put piece by piece, by a loop: what is put so far, and what is left, are the whole.
+pub record Putting (old : List ℕ) (at : ℕ) (whole rest new : List ℕ) (next : ℕ) : Type 0 where
+  pub front : List ℕ
+  pub put : Put old at front new next
+  pub parts : front ++ rest ≡ whole
+
+pub putting-none : (old : List ℕ) (at : ℕ) (whole : List ℕ) (next : ℕ)
+    → next ≡ min at (length old) → Putting old at whole whole old next
+putting-none old at whole next m = record { front = []; put = put-none old at next m; parts = refl }
+
+pub putting-more : {old whole rest mid new : List ℕ} {at next end : ℕ} (piece left : List ℕ) → rest ≡ piece ++ left
+    → Putting old at whole rest mid next → Put mid next piece new end → Putting old at whole left new end
+putting-more {old} {whole} {rest} {mid} {new} {at} {next} {end} piece left e p q =
+    record {
+      front = p .front ++ piece;
+      put = put-next old at (p .put) q;
+      parts = append-assoc (p .front) piece left ∙ sym (ap (λ (l : List ℕ). p .front ++ l) e) ∙ p .parts;
+    }
+
+pub putting-done : {old whole rest new : List ℕ} {at next : ℕ} → rest ≡ []
+    → Putting old at whole rest new next → Put old at whole new next
+putting-done {old} {whole} {rest} {new} {at} {next} e p =
+    put-as old at (sym (p .parts) ∙ ap (λ (l : List ℕ). p .front ++ l) e ∙ append-nil (p .front)) (p .put)
+
+pub putting-length : {old whole rest new : List ℕ} {at next : ℕ}
+    → Putting old at whole rest new next → length new ≡ length old
+putting-length {old} {whole} {rest} {new} {at} {next} p = put-length old at (p .put)
+
+-- a text by cases
+pub put-first : {old new : List ℕ} {at next : ℕ} (b : Bool) (s t : List ℕ) → b ≡ true
+    → Put old at s new next → Put old at (cond b s t) new next
+put-first b s t e p = rw e p
+
+pub put-second : {old new : List ℕ} {at next : ℕ} (b : Bool) (s t : List ℕ) → b ≡ false
+    → Put old at t new next → Put old at (cond b s t) new next
+put-second b s t e p = rw e p
+
+-- rules by which `search` puts a text together of the pieces that were put
+pub ruleset puts = (put-next, put-first, put-second)

@@ -1,14 +1,15 @@
 //! The command line, read from left to right: the first thing that is wrong is the error.
 
-use super::text::decimal;
+use super::text::{decimal, quoted};
 
 /// The longest argument.
 const ARGUMENT_BYTES: usize = 4096;
 
-const NO_COMMAND: &str = "error expected a command: clash, decode, encode, session or help";
-const NO_FILE: &str = "error expected a file, or - for standard input";
-const NO_NUMBER: &str = "error expected a number after --room";
-const LONG_ARGUMENT: &str = "error an argument is longer than 4096 bytes";
+const NO_COMMAND: &str = "expected a command: clash, decode, encode or session";
+const NO_FILE: &str = "expected a file, or - for standard input";
+const NO_NUMBER: &str = "expected a number after --room";
+const LONG_ARGUMENT: &str = "an argument is longer than 4096 bytes";
+const TABLE_ALONE: &str = "--table goes with neither --registers nor --wave";
 
 #[derive(Clone, Copy, PartialEq, Eq, Debug)]
 pub enum Command {
@@ -18,108 +19,98 @@ pub enum Command {
     Session,
 }
 
-/// What is to be run, and on what.
+/// What is to be run, on what, and how it is shown.
 #[derive(Clone, PartialEq, Eq, Debug)]
 pub struct Options {
     pub command: Command,
-    pub file: Vec<u8>,
-    pub brief: bool,
+    /// `-` is standard input; all but clash have one.
+    pub files: Vec<String>,
+    pub table: bool,
+    pub registers: bool,
+    pub wave: bool,
     pub room: Option<u64>,
 }
 
-#[derive(Clone, PartialEq, Eq, Debug)]
-pub enum Asked {
-    Help,
-    Run(Options),
-}
-
 impl Command {
-    fn from_word(word: &[u8]) -> Option<Command> {
-        match word {
-            b"clash" => Some(Command::Clash),
-            b"decode" => Some(Command::Decode),
-            b"encode" => Some(Command::Encode),
-            b"session" => Some(Command::Session),
-            _ => None,
-        }
+    fn from_word(word: &str) -> Option<Command> {
+        let commands = [Command::Clash, Command::Decode, Command::Encode, Command::Session];
+        commands.into_iter().find(|command| command.word() == word)
     }
 
-    fn needs_file(self) -> bool {
-        matches!(self, Command::Clash | Command::Decode)
+    fn word(self) -> &'static str {
+        match self {
+            Command::Clash => "clash",
+            Command::Decode => "decode",
+            Command::Encode => "encode",
+            Command::Session => "session",
+        }
     }
 }
 
 impl Options {
+    pub fn new(command: Command) -> Options {
+        Options { command, files: Vec::new(), table: false, registers: false, wave: false, room: None }
+    }
+
     /// The room lent: the lesser of `most` and what `--room` says.
     pub fn room(&self, most: usize) -> usize {
         self.room.map_or(most, |room| room.min(most as u64) as usize)
     }
-}
 
-/// The arguments after the program's name, or the error line.
-pub fn parse(arguments: &[Vec<u8>]) -> Result<Asked, Vec<u8>> {
-    let mut rest = arguments.iter();
-    let first = rest.next().ok_or(NO_COMMAND)?.as_slice();
-    if first == b"help" {
-        return help(rest);
-    }
-    let command = Command::from_word(first).ok_or(NO_COMMAND)?;
-    let mut file = None;
-    let mut options = Options { command, file: b"-".to_vec(), brief: false, room: None };
-    while let Some(word) = rest.next() {
+    /// One word after the command; `--room` takes the next one too.
+    fn word<'a>(&mut self, word: &str, rest: &mut impl Iterator<Item = &'a String>) -> Result<(), String> {
+        let clash = self.command == Command::Clash;
         match short(word)? {
-            b"--brief" if command == Command::Clash => options.brief = true,
-            b"--room" if command != Command::Session => options.room = Some(room(rest.next())?),
-            word if is_option(word) || file.is_some() => return Err(unexpected(word)),
-            word => file = Some(word.to_vec()),
+            "--table" if clash => self.table = true,
+            "--registers" if clash => self.registers = true,
+            "--wave" if clash => self.wave = true,
+            "--room" if self.command != Command::Session => self.room = Some(room(rest.next())?),
+            word if word.starts_with("--") => {
+                return Err(format!("unknown option {} for {}", quoted(word), self.command.word()));
+            }
+            word if !clash && !self.files.is_empty() => {
+                return Err(format!("a second file {}: {} reads one", quoted(word), self.command.word()));
+            }
+            word => self.files.push(word.to_string()),
         }
+        Ok(())
     }
-    match file {
-        Some(file) => options.file = file,
-        None if command.needs_file() => return Err(NO_FILE.into()),
-        None => {}
+
+    /// What is found when all words are read.
+    fn finished(mut self) -> Result<Options, String> {
+        if self.files.is_empty() {
+            match self.command {
+                Command::Clash | Command::Decode => return Err(NO_FILE.to_string()),
+                _ => self.files.push("-".to_string()),
+            }
+        }
+        if self.table && (self.registers || self.wave) {
+            return Err(TABLE_ALONE.to_string());
+        }
+        Ok(self)
     }
-    Ok(Asked::Run(options))
 }
 
-/// `help`, or `help` with one of the four commands; a word too many is found before an unknown command.
-fn help<'a>(rest: impl Iterator<Item = &'a Vec<u8>>) -> Result<Asked, Vec<u8>> {
-    let mut topic = None;
-    for word in rest {
-        let word = short(word)?;
-        if is_option(word) || topic.is_some() {
-            return Err(unexpected(word));
-        }
-        topic = Some(word);
+/// The arguments after the program's name, or what is wrong with them.
+pub fn parse(arguments: &[String]) -> Result<Options, String> {
+    let mut rest = arguments.iter();
+    let first = short(rest.next().ok_or(NO_COMMAND)?)?;
+    let unknown = || format!("unknown command {}: expected clash, decode, encode or session", quoted(first));
+    let mut options = Options::new(Command::from_word(first).ok_or_else(unknown)?);
+    while let Some(word) = rest.next() {
+        options.word(word, &mut rest)?;
     }
-    match topic.map(Command::from_word) {
-        Some(None) => Err(NO_COMMAND.into()),
-        _ => Ok(Asked::Help),
-    }
+    options.finished()
 }
 
-fn short(word: &[u8]) -> Result<&[u8], Vec<u8>> {
-    if word.len() > ARGUMENT_BYTES {
-        return Err(LONG_ARGUMENT.into());
+fn short(word: &str) -> Result<&str, String> {
+    if word.chars().count() > ARGUMENT_BYTES {
+        return Err(LONG_ARGUMENT.to_string());
     }
     Ok(word)
 }
 
-/// A word that begins with two dashes; a file's name may begin with one.
-fn is_option(word: &[u8]) -> bool {
-    word.starts_with(b"--")
-}
-
-fn room(word: Option<&Vec<u8>>) -> Result<u64, Vec<u8>> {
+fn room(word: Option<&String>) -> Result<u64, String> {
     let word = short(word.ok_or(NO_NUMBER)?)?;
-    Ok(decimal(word).ok_or(NO_NUMBER)?)
-}
-
-fn unexpected(word: &[u8]) -> Vec<u8> {
-    [b"error unexpected argument ", &printable(word)[..]].concat()
-}
-
-/// A word with `?` for each control byte.
-pub fn printable(word: &[u8]) -> Vec<u8> {
-    word.iter().map(|&byte| if byte < 0x20 || byte == 0x7F { b'?' } else { byte }).collect()
+    decimal(word).ok_or_else(|| format!("{NO_NUMBER}, not {}", quoted(word)))
 }

@@ -1,10 +1,17 @@
 //! `rig decode`: a record of stamps and levels in, its events out.
 
 use super::arguments::Options;
+use super::files::Contents;
 use super::refusals;
-use super::text::{counted, decimal, each_statement, Next};
-use crate::bus::{self, Decoded, REPEATED_START, SAMPLES, START, STOP};
+use super::text::{counted, decimal, each_statement, expected, quoted, Next};
+use super::{LOOKS_LIKE_LOADS, WORDS_OF_LOADS};
+use crate::bus::{self, Decoded, CUT, GAP, REPEATED_START, SAMPLES, START, STOP};
 use crate::refusal::{Reason, Refusal};
+use gaps::Gaps;
+
+mod gaps;
+
+const LOOKS_LIKE_A_LIST: &str = "; this looks like an event list: did you mean rig encode?";
 
 /// The record as the file lends it, with the line of each stamp.
 #[derive(Default)]
@@ -16,38 +23,39 @@ struct Record {
     no_level: Option<usize>,
 }
 
-pub fn decode(text: &[u8], options: &Options) -> Vec<u8> {
+pub fn decode(contents: &Contents, options: &Options) -> String {
     let mut record = Record::default();
-    if let Err(error) = each_statement(text, |line, words| record.line(line, words)) {
-        return error.to_string().into_bytes();
+    if let Err(error) = each_statement(contents, |line, words| record.line(line, words)) {
+        return error + "\n";
     }
     let mut events = vec![0; options.room(SAMPLES)];
-    let text = match bus::decode(&record.stamps, &record.levels, &mut events) {
+    match bus::decode(&record.stamps, &record.levels, &mut events) {
         Ok(reply) => record.report(&events[..reply.count], &reply),
-        Err(refusal) => record.refused(refusal),
-    };
-    text.into_bytes()
+        Err(refusal) => record.refused(refusal) + "\n",
+    }
 }
 
 impl Record {
     /// `STAMP LEVEL`, or `STAMP` alone; reading ends at the stamp that is one too many.
-    fn line(&mut self, line: usize, words: &[&[u8]]) -> Result<Next, &'static str> {
-        const EXPECTED: &str = "expected STAMP LEVEL, two decimal numbers";
-        if words[0] == b"ok" {
+    fn line(&mut self, line: usize, words: &[&str]) -> Result<Next, String> {
+        if words[0] == "ok" {
             return Ok(Next::Line);
         }
-        let stamp = decimal(words[0]).ok_or(EXPECTED)?;
-        let level = match words[1..] {
-            [] => None,
-            [level] => Some(decimal(level).ok_or(EXPECTED)?),
-            _ => return Err(EXPECTED),
-        };
-        self.stamps.push(u32::try_from(stamp).map_err(|_| "the stamp is above 4294967295")?);
-        self.lines.push(line);
+        let (stamp, level) = numbers(words).map_err(|word| {
+            expected("STAMP LEVEL, two decimal numbers", Some(word)) + looks_like(words[0])
+        })?;
+        let high =
+            |what: &str, most: u64, word: &str| format!("the {what} is above {most}: {}", quoted(word));
+        let stamp = u32::try_from(stamp).map_err(|_| high("stamp", u32::MAX.into(), words[0]))?;
         match level {
-            Some(level) => self.levels.push(u8::try_from(level).map_err(|_| "the level is above 255")?),
+            Some(level) => {
+                let level = u8::try_from(level).map_err(|_| high("level", u8::MAX.into(), words[1]))?;
+                self.levels.push(level);
+            }
             None => self.no_level = self.no_level.or(Some(line)),
         }
+        self.stamps.push(stamp);
+        self.lines.push(line);
         Ok(if self.stamps.len() > SAMPLES { Next::End } else { Next::Line })
     }
 
@@ -56,27 +64,91 @@ impl Record {
             (Reason::StampsAndLevelsDiffer, Some(line)) => {
                 format!("{}; line {line} has no level", refusals::plain(refusal))
             }
-            _ => refusals::placed(refusal, &self.lines),
+            _ => refusals::at_sample(refusal, &self.lines),
         }
     }
 
     fn report(&self, events: &[u16], reply: &Decoded) -> String {
-        let samples = bus::event_samples(&self.levels);
-        let mut text = String::new();
-        let mut before = None;
-        for (&event, sample) in events.iter().zip(samples) {
-            text += &format!("{}: {}\n", self.stamps[sample], event_text(event, before));
-            before = Some(event);
-        }
-        text + &self.summary(reply)
+        let gaps = Gaps::new(&self.stamps, &bus::frame_open_after(&self.levels));
+        let settings = self.settings();
+        let listed = self.listed(events, &gaps);
+        format!("{settings}{listed}{}\n", self.summary(events, reply, gaps.long_count()))
     }
 
-    fn summary(&self, reply: &Decoded) -> String {
-        let (events, samples) = (counted(reply.count, "event"), counted(self.stamps.len(), "sample"));
+    /// Start and gap, where `encode` can draw the record with them.
+    fn settings(&self) -> String {
+        let start = self.stamps.first().map(|start| format!("start {start}\n"));
+        let mut gaps = self.stamps.windows(2).map(|pair| pair[1] - pair[0]);
+        let first = gaps.next().filter(|&first| first <= GAP && gaps.all(|gap| gap == first));
+        start.unwrap_or_default() + &first.map(|gap| format!("gap {gap}\n")).unwrap_or_default()
+    }
+
+    /// A line for each event, and a note before the events of a sample that comes late.
+    fn listed(&self, events: &[u16], gaps: &Gaps) -> String {
+        let mut listed = events.iter().zip(bus::event_samples(&self.levels)).peekable();
+        let mut text = String::new();
+        let (mut before, mut doubtful) = (None, false);
+        for sample in 0..self.stamps.len() {
+            if let Some(times) = gaps.long(sample) {
+                text += &self.note(sample, times);
+                doubtful = true;
+            }
+            while let Some((&event, _)) = listed.next_if(|(_, listing)| *listing == sample) {
+                doubtful = doubtful && !matches!(event, START | REPEATED_START | STOP);
+                let doubt = if doubtful { " doubtful" } else { "" };
+                text += &format!("{}: {}{doubt}\n", self.stamps[sample], event_text(event, before));
+                before = Some(event);
+            }
+        }
+        text
+    }
+
+    fn note(&self, sample: usize, times: u64) -> String {
+        let (from, to, line) = (self.stamps[sample - 1], self.stamps[sample], self.lines[sample]);
+        let where_ = format!("note: no sample from {from} to {to} (line {line})");
+        format!("{where_}, {times} times the usual gap: samples may be lost there\n")
+    }
+
+    fn summary(&self, events: &[u16], reply: &Decoded, long_gaps: usize) -> String {
+        let (count, samples) = (counted(reply.count, "event"), counted(self.stamps.len(), "sample"));
         let frame = if reply.open { "frame open" } else { "no frame open" };
         let bits = counted(usize::from(reply.pending), "bit");
         let value = if reply.pending > 0 { format!(", value {:02X}h", reply.value) } else { String::new() };
-        format!("ok {events} in {samples}, {frame}, {bits} pending{value}")
+        let cut = events.iter().filter(|&&event| event == CUT).count();
+        let mut doubts = String::new();
+        if cut > 0 {
+            doubts += &format!(", {}", counted(cut, "cut byte"));
+        }
+        if long_gaps > 0 {
+            doubts += &format!(", {}", counted(long_gaps, "long gap"));
+        }
+        if !events.iter().any(|&event| event < START) {
+            doubts += ", no byte in any frame";
+        }
+        let word = if reply.open || !doubts.is_empty() { "look" } else { "ok" };
+        format!("{word} {count} in {samples}, {frame}, {bits} pending{value}{doubts}")
+    }
+}
+
+/// The stamp, and the level if there is one; else the word that is wrong.
+fn numbers<'a>(words: &[&'a str]) -> Result<(u64, Option<u64>), &'a str> {
+    let stamp = decimal(words[0]).ok_or(words[0])?;
+    if let Some(third) = words.get(2) {
+        return Err(third);
+    }
+    match words.get(1) {
+        Some(level) => Ok((stamp, Some(decimal(level).ok_or(*level)?))),
+        None => Ok((stamp, None)),
+    }
+}
+
+/// What the file seems to be, by the first word of a line that is wrong.
+fn looks_like(word: &str) -> &'static str {
+    match word {
+        "START" | "STOP" | "repeated" | "cut" | "start" | "gap" => LOOKS_LIKE_A_LIST,
+        _ if word.ends_with(':') => LOOKS_LIKE_A_LIST,
+        _ if WORDS_OF_LOADS.contains(&word) => LOOKS_LIKE_LOADS,
+        _ => "",
     }
 }
 

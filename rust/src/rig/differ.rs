@@ -19,7 +19,7 @@ const PATIENCE: Duration = Duration::from_secs(20);
 pub struct Differ {
     program: PathBuf,
     folder: PathBuf,
-    /// The exit status is 0, 1 or 2 by the last line; otherwise it is always 0.
+    /// The exit status is 0 to 3 by the last line; otherwise it is always 0.
     status_by_last_line: bool,
 }
 
@@ -57,10 +57,10 @@ impl Differ {
         let case = kind.draw(seed, file.as_os_str().as_bytes());
         fs::write(&file, &case.input).expect("the folder takes the input");
         let standard = if case.source == Source::File { &[][..] } else { &case.input[..] };
-        let expected = super::answer(&case.arguments, &mut &standard[..]);
+        let expected = super::answer(&case.arguments, &mut &standard[..]).output;
         counts.add(format!("{}: {}", kind.word, ending(&expected)));
         let problem = match self.run(&case, &file) {
-            Ok(ran) => match self.problem(&case, &expected, &ran) {
+            Ok(ran) => match self.problem(&expected, &ran) {
                 None => return Ok(()),
                 Some(problem) => {
                     self.keep("output", &ran.output);
@@ -120,17 +120,15 @@ impl Differ {
     }
 
     /// What is wrong with a run, if anything is.
-    fn problem(&self, case: &Case, expected: &[u8], ran: &Ran) -> Option<String> {
+    fn problem(&self, expected: &[u8], ran: &Ran) -> Option<String> {
         let Some(verdict) = verdict(&ran.output) else {
-            return Some(format!("the last line is none of ok, refused, error; {}", ran.status));
+            return Some(format!("the last line is none of ok, look, refused, error; {}", ran.status));
         };
         let code = if self.status_by_last_line { verdict } else { 0 };
         if ran.status.code() != Some(code) {
             return Some(format!("{} where {code} is right", ran.status));
         }
-        let help = case.arguments.first().is_some_and(|word| word == b"help") && expected == b"ok help\n";
-        let same = if help { last_line(&ran.output) == b"ok help" } else { ran.output == expected };
-        (!same).then(|| first_difference(expected, &ran.output))
+        (ran.output != expected).then(|| first_difference(expected, &ran.output))
     }
 }
 
@@ -148,7 +146,7 @@ fn last_line(output: &[u8]) -> &[u8] {
     whole.split(|&byte| byte == b'\n').next_back().unwrap_or(whole)
 }
 
-/// 0, 1, 2 for a last line that begins with `ok`, `refused N` or `error` and ends in a newline.
+/// 0, 1, 2, 3 for a last line that begins with `ok`, `refused N`, `error` or `look` and ends in a newline.
 pub fn verdict(output: &[u8]) -> Option<i32> {
     let line = last_line(output);
     let mut words = line.split(|&byte| byte == b' ');
@@ -157,6 +155,7 @@ pub fn verdict(output: &[u8]) -> Option<i32> {
         Some(b"ok") => Some(0),
         Some(b"refused") => words.next()?.first().filter(|byte| byte.is_ascii_digit()).map(|_| 1),
         Some(b"error") => Some(2),
+        Some(b"look") => Some(3),
         _ => None,
     }
 }

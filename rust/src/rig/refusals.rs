@@ -1,8 +1,8 @@
-//! The words of the refusals.
+//! The words of the refusals that every command gives in the same way.
 
 use crate::refusal::{Reason, Refusal};
 
-/// What `rig` says of each refusal.
+/// What `rig` says of each refusal; those of arbitration are told with boards, lines and counts instead.
 fn words(reason: Reason) -> &'static str {
     match reason {
         Reason::Address => "the address is outside 078h to 07Dh",
@@ -16,16 +16,12 @@ fn words(reason: Reason) -> &'static str {
         Reason::IncompleteList => "the event list is not complete",
         Reason::Gap => "the gap is 0 or above 1000",
         Reason::LastStamp => "the last stamp is above 4294967295",
-        Reason::MasterCount => "no board, or more than eight",
-        Reason::MessageLength => "a board has no bytes or more than 32",
-        Reason::ReadMessage => "a board's first byte is odd, a read",
-        Reason::Acknowledges => "there is not one acknowledge, 0 or 1, for each byte of the longest board",
-        Reason::Undecided => "the least message is acknowledged to its end and begins another",
         Reason::NoWaiting => "a divider of 1 does not wait, and SCL was last seen low",
-        Reason::ShortPhase => "a phase of SCL is too short for the mode",
-        Reason::BoardsDoNotRise | Reason::BoardLengths | Reason::BoardAbsent => {
-            unreachable!("no command asks a catalogue")
-        }
+        Reason::MasterCount
+        | Reason::MessageLength
+        | Reason::ReadMessage
+        | Reason::Acknowledges
+        | Reason::Undecided => unreachable!("clash has its own words"),
     }
 }
 
@@ -34,12 +30,13 @@ pub fn plain(refusal: Refusal) -> String {
     format!("refused {}: {}", refusal.number(), words(refusal.reason))
 }
 
-/// The same with the place, where 01's table gives one, and the file's line of that sample or board.
-pub fn placed(refusal: Refusal, lines: &[usize]) -> String {
-    let has_place = [Reason::Level, Reason::StampNotAbove, Reason::MessageLength, Reason::ReadMessage];
-    if !has_place.contains(&refusal.reason) {
-        return plain(refusal);
+/// The same with the sample and its line, where 01's table gives a place.
+pub fn at_sample(refusal: Refusal, lines: &[usize]) -> String {
+    let (number, sample) = (refusal.number(), refusal.place);
+    match refusal.reason {
+        Reason::Level | Reason::StampNotAbove => {
+            format!("refused {number} sample {sample} (line {}): {}", lines[sample], words(refusal.reason))
+        }
+        _ => plain(refusal),
     }
-    let (number, place) = (refusal.number(), refusal.place);
-    format!("refused {number} place {place} (line {}): {}", lines[place], words(refusal.reason))
 }

@@ -1,7 +1,8 @@
 //! `rig session`: one module, one answer to each line, and a count at the end.
 
+use super::files::Contents;
 use super::refusals;
-use super::text::{counted, hexadecimal, lines, Words};
+use super::text::{counted, hexadecimal, lines, quoted, Words};
 use crate::cases::module_text;
 use crate::module::Module;
 use crate::refusal::Refusal;
@@ -23,21 +24,21 @@ struct Session {
     refused: Vec<(Refusal, usize)>,
 }
 
-pub fn session(text: &[u8]) -> Vec<u8> {
+pub fn session(contents: &Contents) -> String {
     let mut session =
         Session { module: Module::power_up(0, 0), commands: 0, errors: Vec::new(), refused: Vec::new() };
-    let mut output = Vec::new();
-    for (line, words) in lines(text) {
-        let answer = match words {
+    let mut output = String::new();
+    for (line, words) in lines(&contents.text) {
+        output += &match words {
             Ok(words) if words.is_empty() => "ok".to_string(),
             Ok(words) => session.answer(line, &words),
             Err(fault) => session.error(line, fault.words()),
         };
-        output.extend(answer.into_bytes());
-        output.push(b'\n');
+        output.push('\n');
     }
-    output.extend(session.summary().into_bytes());
-    output
+    let last =
+        contents.failure.as_ref().map_or_else(|| session.summary(), |failure| format!("error {failure}"));
+    output + &last + "\n"
 }
 
 impl Session {
@@ -49,7 +50,7 @@ impl Session {
 
     fn answer(&mut self, line: usize, words: &Words) -> String {
         let Some(expected) = expected(words[0]) else {
-            return self.error(line, "unknown command; try help");
+            return self.error(line, &format!("unknown command {}; try help", quoted(words[0])));
         };
         match self.command(words) {
             Some(Ok(reply)) => {
@@ -68,16 +69,16 @@ impl Session {
     fn command(&mut self, words: &Words) -> Reply {
         let module = self.module;
         match words[..] {
-            [b"power"] => self.step(Ok(Module::power_up(0, 0))),
-            [b"power", low, high] => self.step(Ok(Module::power_up(byte(low)?, byte(high)?))),
-            [b"write", at, value] => self.write(module.write(address(at)?, byte(value)?)),
-            [b"writew", at, value] => self.write(module.write_word(address(at)?, word(value)?)),
-            [b"sample", level] => self.step(module.sample(byte(level)?)),
-            [b"tick"] => self.step(module.tick()),
-            [b"read", at] => Some(module.read(address(at)?).map(|value| format!("{value:02X}"))),
-            [b"readw", at] => Some(module.read_word(address(at)?).map(|value| format!("{value:04X}"))),
-            [b"lines"] => Some(Ok(lines_text(&module))),
-            [b"help"] => Some(Ok(HELP.to_string())),
+            ["power"] => self.step(Ok(Module::power_up(0, 0))),
+            ["power", low, high] => self.step(Ok(Module::power_up(byte(low)?, byte(high)?))),
+            ["write", at, value] => self.write(module.write(address(at)?, byte(value)?)),
+            ["writew", at, value] => self.write(module.write_word(address(at)?, word(value)?)),
+            ["sample", level] => self.step(module.sample(byte(level)?)),
+            ["tick"] => self.step(module.tick()),
+            ["read", at] => Some(module.read(address(at)?).map(|value| format!("{value:02X}"))),
+            ["readw", at] => Some(module.read_word(address(at)?).map(|value| format!("{value:04X}"))),
+            ["lines"] => Some(Ok(lines_text(&module))),
+            ["help"] => Some(Ok(HELP.to_string())),
             _ => None,
         }
     }
@@ -114,17 +115,17 @@ impl Session {
 }
 
 /// The form of each command.
-fn expected(command: &[u8]) -> Option<&'static str> {
+fn expected(command: &str) -> Option<&'static str> {
     Some(match command {
-        b"power" => "power or power LL HH",
-        b"read" => "read AAA",
-        b"write" => "write AAA VV",
-        b"readw" => "readw AAA",
-        b"writew" => "writew AAA VVVV",
-        b"sample" => "sample L",
-        b"tick" => "tick",
-        b"lines" => "lines",
-        b"help" => "help",
+        "power" => "power or power LL HH",
+        "read" => "read AAA",
+        "write" => "write AAA VV",
+        "readw" => "readw AAA",
+        "writew" => "writew AAA VVVV",
+        "sample" => "sample L",
+        "tick" => "tick",
+        "lines" => "lines",
+        "help" => "help",
         _ => return None,
     })
 }
@@ -135,17 +136,17 @@ fn lines_text(module: &Module) -> String {
     format!("scl={} sda={}", state(lines.scl), state(lines.sda))
 }
 
-fn byte(word: &[u8]) -> Option<u8> {
+fn byte(word: &str) -> Option<u8> {
     u8::try_from(hexadecimal(word)?).ok()
 }
 
-fn word(word: &[u8]) -> Option<u16> {
+fn word(word: &str) -> Option<u16> {
     u16::try_from(hexadecimal(word)?).ok()
 }
 
 /// A register's name in any case, or its number.
-fn address(word_or_name: &[u8]) -> Option<u16> {
-    let named = |name: &&str| name.as_bytes().eq_ignore_ascii_case(word_or_name);
+fn address(word_or_name: &str) -> Option<u16> {
+    let named = |name: &&str| name.eq_ignore_ascii_case(word_or_name);
     match REGISTERS.iter().position(named) {
         Some(register) => Some(Module::USICTL0 + register as u16),
         None => word(word_or_name),

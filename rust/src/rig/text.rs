@@ -1,12 +1,17 @@
-//! The common rules of input: lines, words, numbers, and the words of a line that is wrong.
+//! The common rules of input: lines, words, numbers, and how a word is quoted.
+//!
+//! Inside the mirror a text is a `String` in which every `char` stands for one byte, so that widths count bytes.
 
-use std::fmt;
+use super::files::Contents;
 
 /// The longest line, without its newline.
 pub const LINE_BYTES: usize = 4096;
 
+/// The longest part of a word that is quoted.
+const QUOTED_BYTES: usize = 32;
+
 /// The words of a line, without its comment.
-pub type Words<'a> = Vec<&'a [u8]>;
+pub type Words<'a> = Vec<&'a str>;
 
 /// Why a line is not read at all.
 #[derive(Clone, Copy, PartialEq, Eq, Debug)]
@@ -15,11 +20,11 @@ pub enum Fault {
     NoText,
 }
 
-/// The error about a line of the file, which is the last line of output.
+/// Whether the next line is looked at.
 #[derive(Clone, Copy, PartialEq, Eq, Debug)]
-pub struct LineError {
-    pub line: usize,
-    pub words: &'static str,
+pub enum Next {
+    Line,
+    End,
 }
 
 impl Fault {
@@ -31,86 +36,115 @@ impl Fault {
     }
 }
 
-impl fmt::Display for LineError {
-    fn fmt(&self, formatter: &mut fmt::Formatter<'_>) -> fmt::Result {
-        write!(formatter, "error line {}: {}", self.line, self.words)
-    }
+pub fn text_of(bytes: &[u8]) -> String {
+    bytes.iter().map(|&byte| char::from(byte)).collect()
+}
+
+pub fn bytes_of(text: &str) -> Vec<u8> {
+    text.chars().map(|letter| letter as u8).collect()
 }
 
 /// Every line with its number from 1: its words, none perhaps, or its fault.
-pub fn lines(text: &[u8]) -> impl Iterator<Item = (usize, Result<Words<'_>, Fault>)> {
-    let pieces = text.split_inclusive(|&byte| byte == b'\n');
-    let lines = pieces.map(|piece| piece.strip_suffix(b"\n").unwrap_or(piece));
+pub fn lines(text: &str) -> impl Iterator<Item = (usize, Result<Words<'_>, Fault>)> {
+    let lines = text.split_inclusive('\n').map(|piece| piece.strip_suffix('\n').unwrap_or(piece));
     lines.enumerate().map(|(index, line)| (index + 1, words(line)))
 }
 
-/// The lines of a file that have words, each handed on with its number; the first error ends it.
+/// The lines of a file that have words, each handed on with its number. The first error, which ends it, or why the
+/// file could not be read to its end, is the last line of the output.
 pub fn each_statement(
-    text: &[u8],
-    mut statement: impl FnMut(usize, &[&[u8]]) -> Result<Next, &'static str>,
-) -> Result<(), LineError> {
-    for (line, words) in lines(text) {
-        let words = words.map_err(|fault| LineError { line, words: fault.words() })?;
+    contents: &Contents,
+    mut statement: impl FnMut(usize, &[&str]) -> Result<Next, String>,
+) -> Result<(), String> {
+    for (line, words) in lines(&contents.text) {
+        let words = words.map_err(|fault| format!("error line {line}: {}", fault.words()))?;
         if words.is_empty() {
             continue;
         }
         match statement(line, &words) {
             Ok(Next::Line) => {}
-            Ok(Next::End) => break,
-            Err(words) => return Err(LineError { line, words }),
+            Ok(Next::End) => return Ok(()),
+            Err(words) => return Err(format!("error line {line}: {words}")),
         }
     }
-    Ok(())
+    match &contents.failure {
+        Some(failure) => Err(format!("error {failure}")),
+        None => Ok(()),
+    }
 }
 
-/// Whether the next line is looked at.
-#[derive(Clone, Copy, PartialEq, Eq, Debug)]
-pub enum Next {
-    Line,
-    End,
-}
-
-fn words(line: &[u8]) -> Result<Words<'_>, Fault> {
-    if line.len() > LINE_BYTES {
+fn words(line: &str) -> Result<Words<'_>, Fault> {
+    if line.chars().count() > LINE_BYTES {
         return Err(Fault::TooLong);
     }
-    if line.iter().any(|&byte| matches!(byte, 0x00..=0x08 | 0x0A..=0x0C | 0x0E..=0x1F | 0x7F)) {
+    if line.chars().any(|letter| is_control(letter) && !"\t\r".contains(letter)) {
         return Err(Fault::NoText);
     }
-    let statement = line.split(|&byte| byte == b'#').next().unwrap_or(line);
-    let pieces = statement.split(|byte| b" \t\r".contains(byte));
-    Ok(pieces.filter(|piece| !piece.is_empty()).collect())
+    let statement = line.split('#').next().unwrap_or(line);
+    Ok(statement.split([' ', '\t', '\r']).filter(|word| !word.is_empty()).collect())
+}
+
+fn is_control(letter: char) -> bool {
+    letter < ' ' || letter == '\u{7F}'
 }
 
 /// A decimal number; one too large for 64 bits counts as the largest.
-pub fn decimal(word: &[u8]) -> Option<u64> {
+pub fn decimal(word: &str) -> Option<u64> {
     number(word, 10)
 }
 
 /// A hexadecimal number; one too large for 64 bits counts as the largest.
-pub fn hexadecimal(word: &[u8]) -> Option<u64> {
+pub fn hexadecimal(word: &str) -> Option<u64> {
     number(word, 16)
 }
 
-fn number(word: &[u8], base: u32) -> Option<u64> {
+fn number(word: &str, base: u32) -> Option<u64> {
     if word.is_empty() {
         return None;
     }
-    word.iter().try_fold(0u64, |number, &byte| {
-        let digit = char::from(byte).to_digit(base)?;
+    word.chars().try_fold(0u64, |number, letter| {
+        let digit = letter.to_digit(base)?;
         Some(number.saturating_mul(u64::from(base)).saturating_add(u64::from(digit)))
     })
 }
 
 /// A byte of one or two hexadecimal digits.
-pub fn short_byte(word: &[u8]) -> Option<u8> {
-    if word.len() > 2 {
-        return None;
-    }
-    hexadecimal(word).map(|byte| byte as u8)
+pub fn short_byte(word: &str) -> Option<u8> {
+    hexadecimal(word).filter(|_| word.len() <= 2).map(|byte| byte as u8)
+}
+
+/// A byte of two hexadecimal digits.
+pub fn byte(word: &str) -> Option<u8> {
+    short_byte(word).filter(|_| word.len() == 2)
 }
 
 /// A count with its noun: `1 load`, `2 loads`.
 pub fn counted(count: usize, noun: &str) -> String {
     format!("{count} {noun}{}", if count == 1 { "" } else { "s" })
+}
+
+/// Bytes in hexadecimal, with a space between two.
+pub fn hex(bytes: &[u8]) -> String {
+    bytes.iter().map(|byte| format!("{byte:02X}")).collect::<Vec<_>>().join(" ")
+}
+
+/// A word with `?` for each control byte.
+pub fn printable(word: &str) -> String {
+    word.chars().map(|letter| if is_control(letter) { '?' } else { letter }).collect()
+}
+
+/// The first bytes of a text, at most so many.
+pub fn beginning(text: &str, most: usize) -> String {
+    text.chars().take(most).collect()
+}
+
+/// A word as errors show it: in quotes, printable, and not too long.
+pub fn quoted(word: &str) -> String {
+    let more = if word.chars().count() > QUOTED_BYTES { ".." } else { "" };
+    format!("'{}{more}'", printable(&beginning(word, QUOTED_BYTES)))
+}
+
+/// What was expected, and the word that was met instead, if one was.
+pub fn expected(what: &str, met: Option<&str>) -> String {
+    format!("expected {what}{}", met.map_or(String::new(), |word| format!(", not {}", quoted(word))))
 }

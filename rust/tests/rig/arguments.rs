@@ -5,64 +5,75 @@ use rehearsal_model::rig::answer;
 
 fn error(arguments: &[&[u8]]) -> Vec<u8> {
     let arguments: Vec<Vec<u8>> = arguments.iter().map(|argument| argument.to_vec()).collect();
-    let output = answer(&arguments, &mut &b""[..]);
+    let output = answer(&arguments, &mut &b""[..]).output;
     output.strip_prefix(b"error ").unwrap().strip_suffix(b"\n").unwrap().to_vec()
 }
 
 #[test]
 fn commands() {
-    let expected = "error expected a command: clash, decode, encode, session or help\n";
-    for arguments in ["", "Clash", "run x", "--brief", "help me", "help help"] {
-        assert_eq!(rig(arguments, ""), expected, "{arguments}");
-    }
-    assert_eq!(rig("help x y", ""), "error unexpected argument y\n");
-    for arguments in ["help", "help clash", "help decode", "help encode", "help session"] {
-        assert_eq!(rig(arguments, ""), "ok help\n", "{arguments}");
+    assert_eq!(rig("", ""), "error expected a command: clash, decode, encode or session\n");
+    for word in ["Clash", "run", "--table", "help", "-h"] {
+        let expected = format!("error unknown command '{word}': expected clash, decode, encode or session\n");
+        assert_eq!(rig(&format!("{word} x"), ""), expected);
     }
 }
 
 #[test]
 fn files_and_options() {
-    for arguments in ["clash", "decode", "clash --brief", "decode --room 5"] {
+    for arguments in ["clash", "decode", "clash --table", "decode --room 5", "clash --table --wave"] {
         let expected = "error expected a file, or - for standard input\n";
         assert_eq!(rig(arguments, ""), expected, "{arguments}");
     }
-    for arguments in ["clash --room", "decode - --room x", "encode --room -1", "clash --room --brief"] {
-        assert_eq!(rig(arguments, ""), "error expected a number after --room\n", "{arguments}");
-    }
-    let unexpected = [
-        ("decode a b", "b"),
-        ("decode - --brief", "--brief"),
-        ("encode --brief", "--brief"),
-        ("session --room 5", "--room"),
-        ("session - -", "-"),
-        ("clash --verbose", "--verbose"),
-        ("help clash decode", "decode"),
+    let cases = [
+        ("clash --room", "expected a number after --room"),
+        ("decode - --room x", "expected a number after --room, not 'x'"),
+        ("encode --room -1", "expected a number after --room, not '-1'"),
+        ("clash --room --table", "expected a number after --room, not '--table'"),
+        ("decode a b", "a second file 'b': decode reads one"),
+        ("session - -", "a second file '-': session reads one"),
+        ("decode - --table", "unknown option '--table' for decode"),
+        ("encode --wave", "unknown option '--wave' for encode"),
+        ("session --room 5", "unknown option '--room' for session"),
+        ("clash --brief x", "unknown option '--brief' for clash"),
+        ("clash x --", "unknown option '--' for clash"),
+        ("clash - --table --wave", "--table goes with neither --registers nor --wave"),
+        ("clash --registers - --table", "--table goes with neither --registers nor --wave"),
     ];
-    for (arguments, word) in unexpected {
-        assert_eq!(rig(arguments, ""), format!("error unexpected argument {word}\n"), "{arguments}");
+    for (arguments, words) in cases {
+        assert_eq!(rig(arguments, ""), format!("error {words}\n"), "{arguments}");
     }
 }
 
 #[test]
 fn options_stand_anywhere() {
-    let (input, refused) = ("load a\nboard 90", "refused 8: 1 of 1 loads refused, the first on line 1\n");
-    for arguments in ["clash - --brief --room 22", "clash --room 22 - --brief", "clash --brief --room 022 -"]
-    {
+    let (input, refused) = ("load a\nboard 90", "refused 8: 1 load: 1 refused\n");
+    for arguments in ["clash - --table --room 22", "clash --room 22 - --wave", "clash --table --room 022 -"] {
         assert!(rig(arguments, input).ends_with(refused), "{arguments}");
     }
     for arguments in ["clash - --room 23", "clash - --room 99999999999999999999999"] {
-        assert!(rig(arguments, input).ends_with("\nok 1 load\n"), "{arguments}");
+        assert!(
+            rig(arguments, input).ends_with("\nok 1 load: 1 sent, 1 without an ack line\n"),
+            "{arguments}"
+        );
     }
 }
 
 #[test]
 fn long_arguments() {
     let long = [b'a'; 4097];
-    assert_eq!(error(&[&long]), b"expected a command: clash, decode, encode, session or help");
+    assert_eq!(error(&[&long]), b"an argument is longer than 4096 bytes");
     assert_eq!(error(&[b"decode", &long]), b"an argument is longer than 4096 bytes");
+    assert_eq!(error(&[b"decode", b"--room", &long]), b"an argument is longer than 4096 bytes");
     let name = &long[..4096];
     assert_eq!(error(&[b"decode", name]), [b"cannot open ", name, b": the name is too long"].concat());
+    let quoted = format!("unknown command '{}..': expected clash, decode, encode or session", "a".repeat(32));
+    assert_eq!(error(&[&long[..33]]), quoted.as_bytes());
+}
+
+#[test]
+fn words_are_quoted_printable() {
+    let expected = b"unknown command 'a?b??c\xE9': expected clash, decode, encode or session";
+    assert_eq!(error(&[b"a\x01b\x7F\nc\xE9"]), expected);
 }
 
 #[test]
@@ -75,10 +86,10 @@ fn files_that_cannot_be_read() {
     assert_eq!(error(&[b"session", folder.as_bytes()]), expected.as_bytes());
     let below = format!("{folder}/Cargo.toml/x");
     assert_eq!(
-        error(&[b"clash", below.as_bytes()]),
+        error(&[b"decode", below.as_bytes()]),
         format!("cannot open {below}: error number 20").as_bytes()
     );
-    assert_eq!(error(&[b"clash", b""]), b"cannot open : no such file");
+    assert_eq!(error(&[b"decode", b""]), b"cannot open : no such file");
 }
 
 #[test]

@@ -1,107 +1,190 @@
-//! `rig clash`: P8 to P12 as loads, both forms, and lines that are wrong.
+//! `rig clash`: the worked numbers P8 to P12 as loads, each verdict, and each refusal with its boards and lines.
 
-use super::{check_errors, last, rig};
+use super::rig;
 
-const WORKED: &str = "# worked numbers\n\n\
-    load p8\nboard 90 12\nboard 90 0F\n\
-    load p9\nboard 90 12\nboard 90 0F\nack 1 0\n\
-    load p10\nboard 90\nboard 90 00\nack 0 0\n\
-    load p11\nboard 90\nboard 90 00\nack 1 0\n\
-    load p12\nboard 90\nboard 90 00\nboard 50\nack 0 0\n";
+const WORKED: &str = "# worked numbers\nboards first second third\n\
+    load p8 two boards\nboard first 90 12\nboard second 90 0F\nboard third -\nack 0 0\n\
+    load p9\nboard third -\nboard second 90 0F\nboard first 90 12\nack 1 0\n\
+    load p10\nboard first 90\nboard second 90 00\nboard third -\nack 0 0\n\
+    load p11\nboard first 90\nboard second 90 00\nboard third -\nack 1 0\n\
+    load p12\nboard first 90\nboard second 90 00\nboard third 50\nack 0 0\n\
+    end 5\n";
 
-const P8: &str = r#"load p8, line 3
-  won board 1
-  lost board 0 at byte 1 bit 3, place 12
-  carried 90 ACK, 0F ACK
-  board 0 USICTL0=C0 USICTL1=4D USICKCTL=22 USICNT=80 USISRL=0F USISRH=00 cleared=03
-  board 1 USICTL0=C8 USICTL1=45 USICKCTL=22 USICNT=00 USISRL=FF USISRH=00 cleared=03
+const P8: &str = "\
+load p8 two boards
+  WON    1 second  90 0F                    sent 2 of 2 bytes
+  lost   0 first   90 12                    byte 1 bit 3: sends 1, the bus is 0; 2 bytes still to send
+  silent 2 third
+";
+
+const P9: &str = "\
+load p9
+  UNDECIDED between 0, 1: the bus stopped after byte 0 (90), before they differ; nothing was sent whole
+  in     0 first   90 12                    1 of 2 bytes carried
+  in     1 second  90 0F                    1 of 2 bytes carried
+  silent 2 third
+";
+
+const P10: &str = "\
+load p10
+  refused 16: first (line 14) ends with 90, acknowledged, where second (line 15) goes on with 00
+";
+
+const P11: &str = "\
+load p11
+  UNDECIDED between 0, 1: the bus stopped after byte 0 (90), before they differ; nothing was sent whole
+  in     0 first   90                       1 of 1 byte carried
+  in     1 second  90 00                    1 of 2 bytes carried
+  silent 2 third
+";
+
+const P12: &str = "\
+load p12
+  WON    2 third   50                       sent 1 of 1 byte
+  lost   0 first   90                       byte 0 bit 0: sends 1, the bus is 0; 1 byte still to send
+  lost   1 second  90 00                    byte 0 bit 0: sends 1, the bus is 0; 2 bytes still to send
+";
+
+const LAST: &str = "see p9 p10 p11\nrefused 16: 5 loads: 2 sent, 2 undecided, 1 refused\n";
+
+const P8_WAVE: &str = r#"  carried 90 ACK, 0F ACK
   scl:""\/\/\/\/\/\/\/\/\/\/\/\/\/\/\/\/\/\/\/"
   sda:"\/"\.../"\................./"""""""\.../
 "#;
 
-#[test]
-fn worked_numbers_brief() {
-    let expected = "load p8, line 3: won 1; lost 0 at 12; carried 90 ACK, 0F ACK\n\
-        load p9, line 6: won 0, 1; lost none; carried 90 NACK\n\
-        load p10, line 10: refused 16: the least message is acknowledged to its end and begins another\n\
-        load p11, line 14: won 0, 1; lost none; carried 90 NACK\n\
-        load p12, line 18: won 2; lost 0 at 0, 1 at 0; carried 50 ACK\n\
-        refused 16: 1 of 5 loads refused, the first on line 10\n";
-    assert_eq!(rig("clash --brief -", WORKED), expected);
-    assert_eq!(rig("clash - --brief", WORKED.replace('\n', "\r\n")), expected);
+/// The final registers of P8, the loser's and the winner's.
+fn p8_registers() -> String {
+    let lost = "USICTL0=C0 PE7 PE6, USICTL1=4D I2C AL STP IFG, USICKCTL=22 DIV=1 SSEL=0 CKPL, ";
+    let won = "USICTL0=C8 PE7 PE6 MST, USICTL1=45 I2C STP IFG, USICKCTL=22 DIV=1 SSEL=0 CKPL, ";
+    let (lost, won) = (format!("{lost}USICNT=80 SCLREL CNT=0"), format!("{won}USICNT=00 CNT=0"));
+    let first = format!("  regs   0 first   {lost}, USISRL=0F, USISRH=00\n");
+    format!("{first}  regs   1 second  {won}, USISRL=FF, USISRH=00\n")
+}
+
+/// The output for one load with boards p, q, r, without its first and last lines.
+fn load(lines: &str) -> String {
+    let output = rig("clash -", format!("boards p q r\nload x\n{lines}\nend 1\n"));
+    let rest = output.strip_prefix("load x\n").unwrap_or(&output);
+    let lines: Vec<&str> = rest.lines().filter(|line| !line.starts_with("see ")).collect();
+    lines[..lines.len() - 1].join("\n")
 }
 
 #[test]
-fn worked_numbers_in_full() {
-    let output = rig("clash -", WORKED);
-    assert!(output.starts_with(P8), "{output}");
-    assert!(output.contains("\nload p9, line 6\n  won board 0, board 1\n  lost none\n  carried 90 NACK\n"));
-    let refused = "load p10, line 10\n  refused 16: the least message is acknowledged to its end and begins";
-    assert!(output.contains(refused));
-    let lost = "  lost board 0 at byte 0 bit 0, place 0\n  lost board 1 at byte 0 bit 0, place 0\n  carried 50 ACK\n";
-    assert!(output.contains(&format!("load p12, line 18\n  won board 2\n{lost}")));
-    assert!(output.ends_with("/\nrefused 16: 1 of 5 loads refused, the first on line 10\n"));
+fn worked_numbers() {
+    assert_eq!(rig("clash -", WORKED), [P8, P9, P10, P11, P12, LAST].concat());
+    assert_eq!(rig("clash -", WORKED.replace('\n', "\r\n")), [P8, P9, P10, P11, P12, LAST].concat());
+}
+
+#[test]
+fn registers_and_wave() {
+    let output = rig("clash - --wave --registers", WORKED);
+    assert!(output.starts_with(&format!("{P8}{}{P8_WAVE}{P9}", p8_registers())), "{output}");
+    assert!(output.contains("\n  carried 90 NACK\n"));
+    assert!(!rig("clash - --registers", WORKED).contains("carried 90 ACK"));
+    assert!(!rig("clash - --wave", WORKED).contains("USICTL0"));
 }
 
 #[test]
 fn one_board_alone_draws_p7() {
-    let output = rig("clash -", "load one\nboard a0");
+    let output = rig("clash - --wave", "boards p\nload one\nboard p a0\nack all\nend 1");
     assert!(output.contains("\n  scl:\"\"\\/\\/\\/\\/\\/\\/\\/\\/\\/\\/\"\n"), "{output}");
     assert!(output.contains("\n  sda:\"\\/\"\\./\"\\............./\n"), "{output}");
-    assert!(output.ends_with("\nok 1 load\n"));
-    assert_eq!(last("clash -", "load a\nboard 0\nload b\nboard 2\nload c\nboard 4"), "ok 3 loads");
+    assert!(output.ends_with("\nok 1 load: 1 sent\n"));
 }
 
 #[test]
-fn acknowledges_may_stand_anywhere() {
-    let brief = |text: &str| rig("clash --brief -", text);
-    let expected = "load a, line 1: won 0; lost none; carried 90 ACK, 01 NACK\nok 1 load\n";
-    assert_eq!(brief("load a\nack 0 1 0\nboard 90 1 2\n"), expected);
-    assert_eq!(brief("load a # name\n\tboard 90 1 2#3\n  ack\t00 01 0 \r"), expected);
+fn a_message_that_is_cut() {
+    let cut = |acks: &str| load(&format!("board p 50 26 FF 11\nboard q 50 26 FF 11\nboard r -\nack {acks}"));
+    let both = |fate: &str| {
+        let line = |board: &str| format!("  WON    {board}  50 26 FF 11              {fate}\n");
+        format!("{}{}  silent 2 r", line("0 p"), line("1 q"))
+    };
+    assert_eq!(cut("0 0 0 0"), both("sent 4 of 4 bytes"));
+    assert_eq!(cut("0 1 0 0"), both("CUT after 2 of 4 bytes: byte 1 (26) not acknowledged; FF 11 not sent"));
+    assert_eq!(cut("0 0 0 1"), both("CUT after 4 of 4 bytes: byte 3 (11) not acknowledged"));
 }
 
 #[test]
-fn errors() {
-    let other = "line 1: expected load NAME, board HH HH .. or ack A A ..";
-    let name = "line 1: expected load NAME, one word of at most 32 bytes";
-    let bytes = "line 2: expected bytes of one or two hexadecimal digits";
-    let acks = "line 2: expected acknowledges 0 or 1";
-    let long_name = format!("load {}", "n".repeat(33));
+fn what_is_expected() {
+    let base = "board p 50 26\nboard q 90\nboard r -\n";
+    let expect = |acks: &str, words: &str| load(&format!("{base}ack {acks}\nexpect {words}"));
+    let note = "  NOT AS EXPECTED: line 7 expects ";
+    assert!(!expect("all", "p 2/2").contains(note));
+    assert!(!expect("1 0", "p 1/2").contains(note));
+    for words in ["q 1/1", "p 1/2", "p 2/3", "r 2/2", "p 18446744073709551615/2"] {
+        assert!(expect("all", words).ends_with(&format!("{note}{words}")), "{words}");
+    }
+    assert!(expect("all", "p 02/0003").ends_with(&format!("{note}p 2/3")));
+    let undecided = load("board p 50 26\nboard q 50 27\nboard r -\nack 1 0\nexpect p 1/2");
+    assert!(undecided.ends_with("  NOT AS EXPECTED: line 7 expects p 1/2"), "{undecided}");
+}
+
+#[test]
+fn an_ack_line_that_is_left_out() {
+    let note = "  note: no ack line, rehearsed as all acknowledged";
+    assert!(load("board p 50\nboard q -\nboard r -").ends_with(note));
+    assert!(!load("board p 50\nboard q -\nboard r -\nack all").contains(note));
+    let last = super::last("clash -", "boards p\nload x\nboard p 50\nend 1");
+    assert_eq!(last, "ok 1 load: 1 sent, 1 without an ack line");
+}
+
+#[test]
+fn the_board_shown_is_the_satellites() {
+    let expected = "  WON    1 q  50                       sent 1 of 1 byte\n  silent 0 p\n  silent 2 r";
+    assert_eq!(load("board r -\nboard q 50\nboard p -\nack all"), expected);
+}
+
+#[test]
+fn refusals_name_boards_lines_and_counts() {
+    let long = format!("board p 50\nboard q {}\nboard r -", "50 ".repeat(35));
     let cases = [
-        ("", "no load in the file"),
-        ("\n# load\n", "no load in the file"),
-        ("lode x", other),
-        ("Load x", other),
-        ("load", name),
-        ("load a b", name),
-        (&long_name, name),
-        ("board 90", "line 1: expected load NAME first"),
-        ("\nack 5000", "line 2: expected load NAME first"),
-        ("load a\nboard 100", bytes),
-        ("load a\nboard 9G", bytes),
-        ("load a\nboard 90 001", bytes),
-        ("load a\nack 256", acks),
-        ("load a\nack 0 x", acks),
-        ("load a\nack\nboard 90\nack", "line 4: a second ack line in one load"),
+        ("board p -\nboard q -\nboard r -", "12: every board is silent"),
+        ("board p 50\nboard q\nboard r -", "13: q (line 4) has no bytes"),
+        (&long, "13: q (line 4) has 35 bytes, and at most 32 may be sent"),
+        ("board p 50\nboard q -\nboard r 91 00", "14: r (line 5) begins with 91, which is odd, a read"),
+        (
+            "board p 50\nboard q 60 00\nboard r 70 00\nack 0",
+            "15: 1 acknowledge (line 6) for the 2 bytes of q (line 4), the longest",
+        ),
+        (
+            "board p 50\nboard q -\nboard r -\nack",
+            "15: 0 acknowledges (line 6) for the 1 byte of p (line 3), the longest",
+        ),
+        ("board p 50 00\nboard q -\nboard r -\nack 0 7", "15: acknowledge 1 (line 6) is 7, neither 0 nor 1"),
+        (
+            "board r 50 18 7E\nboard q 50 18\nboard p 90\nack all",
+            "16: q (line 4) ends with 50 18, acknowledged, where r (line 3) goes on with 7E",
+        ),
     ];
-    check_errors("clash -", &cases);
+    for (lines, words) in cases {
+        assert_eq!(load(lines), format!("  refused {words}"));
+    }
+    let output = rig("clash - --room 22", "boards p\nload x\nboard p 50\nack all\nend 1");
+    assert!(output.contains("\n  refused 8: the reply needs more room than was lent\n"), "{output}");
 }
 
 #[test]
-fn an_error_drops_its_load_and_no_other() {
-    let first = "load a, line 1: won 0; lost none; carried 90 ACK\n";
-    let after = |rest: &str| rig("clash --brief -", format!("load a\nboard 90\n{rest}"));
-    assert_eq!(after("board x"), "error line 3: expected bytes of one or two hexadecimal digits\n");
-    let error = "error line 3: expected load NAME, one word of at most 32 bytes\n";
-    assert_eq!(after("load a b"), format!("{first}{error}"));
-    let error = "error line 4: expected load NAME, board HH HH .. or ack A A ..\n";
-    assert_eq!(after("load b\nbord"), format!("{first}{error}"));
-    assert_eq!(after("load \0"), "error line 3: a byte that is no text\n");
-}
-
-#[test]
-fn names_of_32_bytes_and_above_ascii() {
-    let name = "\u{e9}".repeat(16);
-    let expected = format!("load {name}, line 1: won 0; lost none; carried 90 ACK\nok 1 load\n");
-    assert_eq!(rig("clash - --brief", format!("load {name}\nboard 90")), expected);
+fn the_old_form() {
+    let output = rig(
+        "clash -",
+        "load x\nboard 90 12\nboard 9 F # two\nload y\nload z\nboard 5\nload w\nboard 90\nboard 90 0",
+    );
+    let expected = "\
+load x
+  WON    1  09 0F                    sent 2 of 2 bytes
+";
+    assert!(
+        output.contains("  refused 14: board 1 (line 3) begins with 09, which is odd, a read\n"),
+        "{output}"
+    );
+    assert!(output.contains("load y\n  refused 12: no board\n"), "{output}");
+    assert!(output.contains("  refused 14: board 0 (line 6) begins with 05, which is odd, a read\n"));
+    let sixteen =
+        "  refused 16: board 0 (line 8) ends with 90, acknowledged, where board 1 (line 9) goes on with 00\n";
+    assert!(output.contains(sixteen));
+    assert!(rig("clash -", "load x\nboard 90 12\nboard 8 F\nack all")
+        .replace("08 0F", "09 0F")
+        .starts_with(expected));
+    let nine = format!("load x\n{}", "board 90\n".repeat(9));
+    assert!(rig("clash -", nine).contains("  refused 12: 9 boards, and at most 8 may start together\n"));
 }

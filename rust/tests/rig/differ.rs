@@ -39,7 +39,7 @@ fn the_model_is_equal_to_itself() {
 
 #[test]
 fn wrong_programs_are_found() {
-    check_found("nothing", "true", &[], "the last line is none of ok, refused, error");
+    check_found("nothing", "true", &[], "the last line is none of ok, look, refused, error");
     check_found("crash", "kill -SEGV $$", &[], "signal: 11");
     check_found("status", "rig \"$@\"; exit 1", &[], "exit status: 1 where 0 is right");
     check_found("word", "rig \"$@\" | sed 's/ACK/NAK/'", &["--kind", "decode"], "NAK");
@@ -50,7 +50,8 @@ fn wrong_programs_are_found() {
 #[test]
 fn the_status_by_the_last_line() {
     let body = "text=$(rig \"$@\" | tr -d '\\000'; echo .)\nprintf '%s' \"${text%.}\"\n\
-        case \"$(printf '%s' \"${text%.}\" | tail -n 1)\" in ok*) exit 0;; refused*) exit 1;; esac\nexit 2";
+        case \"$(printf '%s' \"${text%.}\" | tail -n 1)\" in\n\
+        ok*) exit 0;; refused*) exit 1;; look*) exit 3;; esac\nexit 2";
     let path = script("wrapper", body);
     let options = ["--status-by-last-line", "--count", "20", "--kind", "session"];
     let (equal, output) = differ(path.to_str().unwrap(), &options);

@@ -15,6 +15,7 @@ fn p7_whole_in_all_forms() {
         "512\r\n160\r\n514\r\n",
         "50: START\n1000: A0 write ACK\n1100: STOP\nok 3 events in 23 samples, no frame open, 0 bits pending\n",
         "x: 512 160\n: STOP # end",
+        "note: no sample from 0 to 9\n512 160\nlook 3 events\nSTOP",
         "gap 7\nstart 9\n512\nstart 0\ngap 50\n0160 514",
     ];
     for form in forms {
@@ -54,30 +55,49 @@ fn the_limit_of_events() {
 
 #[test]
 fn errors() {
-    let event = "line 1: expected START, repeated START, STOP, cut byte, HH ACK, HH NACK or event numbers";
-    let lines = "\
-        5:; :; 5: start 1; 5: gap 1; 5: ok; 5: 6: START; START STOP; START ACK; STOP 1; repeated; \
-        repeated STOP; cut; cut byte 5; ACK; A0 write; A1 read; A0 write ack; A0 ACK 5; 100 ACK; \
-        G0 ACK; write ACK; x; 512 x; 512 -1; A0; A0 write foo; start:; ok: ok";
-    for line in lines.split("; ") {
-        check_errors("encode", &[(line, event)]);
+    let event =
+        "line 1: expected START, repeated START, STOP, cut byte, HH ACK, HH NACK or event numbers, not";
+    let firsts = "START STOP; START ACK; STOP 1; repeated; repeated STOP; cut; cut byte 5; ACK; A0 write; A1 read; \
+        A0 write ack; A0 ACK 5; A0 ACK doubtful; 100 ACK; G0 ACK; write ACK; x; A0; A0 write foo; start:; 5:; :";
+    for line in firsts.split("; ") {
+        let word = line.split(' ').next().unwrap();
+        check_errors("encode", &[(line, &format!("{event} '{word}'"))]);
     }
-    let direction = "line 1: an even address byte is a write, an odd one a read";
-    let start = "line 2: expected start N, from 0 to 4294967295";
+    let words =
+        [("5: start 1", "start"), ("5: ok", "ok"), ("5: 6: START", "6:"), ("512 x", "x"), ("512 -1", "-1")];
+    for (line, word) in words {
+        check_errors("encode", &[(line, &format!("{event} '{word}'"))]);
+    }
+    let loads = "; this looks like a file of loads: did you mean rig clash?";
+    for (line, word) in
+        [("load x", "load"), ("boards a b", "boards"), ("board ACK", "board"), ("ack 0", "ack")]
+    {
+        check_errors("encode", &[(line, &format!("{event} '{word}'{loads}"))]);
+    }
+}
+
+#[test]
+fn errors_of_settings_and_directions() {
+    let direction =
+        |word: &str| format!("line 1: an even address byte is a write, an odd one a read: '{word}'");
+    let start = |met: &str| format!("line 2: expected start N, from 0 to 4294967295{met}");
+    let gap = |met: &str| format!("line 1: expected gap N{met}");
     let cases = [
-        ("A1 write ACK", direction),
-        ("0 read NACK", direction),
-        ("A0 read", direction),
-        ("A1 write foo", direction),
-        ("\nstart", start),
-        ("\nstart x", start),
-        ("\nstart 1 2", start),
-        ("\nstart 4294967296", start),
-        ("gap", "line 1: expected gap N"),
-        ("gap 5 5", "line 1: expected gap N"),
-        ("gap five", "line 1: expected gap N"),
+        ("A1 write ACK", direction("A1")),
+        ("0 read NACK", direction("0")),
+        ("A0 read", direction("A0")),
+        ("A1 write foo", direction("A1")),
+        ("\nstart", start("")),
+        ("\nstart x", start(", not 'x'")),
+        ("\nstart 1 2", start(", not '2'")),
+        ("\nstart 4294967296", start(", not '4294967296'")),
+        ("gap", gap("")),
+        ("gap 5 6", gap(", not '6'")),
+        ("gap five", gap(", not 'five'")),
     ];
-    check_errors("encode", &cases);
+    for (line, words) in cases {
+        check_errors("encode", &[(line, &words)]);
+    }
 }
 
 #[test]
@@ -87,4 +107,15 @@ fn a_damaged_list_is_incomplete() {
         assert_eq!(rig("encode", list), refused, "{list}");
     }
     assert_eq!(last("encode", "gap 4294967297\n512 160 514"), "refused 10: the gap is 0 or above 1000");
+}
+
+#[test]
+fn a_trace_is_known() {
+    let hint = "; this looks like a trace: did you mean rig decode?";
+    assert_eq!(rig("encode", "0 3\n50 1\n"), format!("refused 9: the event list is not complete{hint}\n"));
+    let many: String = (0..3000).map(|stamp| format!("{stamp} 3\n")).collect();
+    assert_eq!(rig("encode", many), format!("error line 2049: more than 4096 events{hint}\n"));
+    for list in ["0 4\n", "0 3\nSTART", "512 1 514", "5: 0 3", "0 3\n5", ""] {
+        assert!(!rig("encode", list).contains("looks like"), "{list}");
+    }
 }

@@ -7,7 +7,7 @@ use rehearsal_model::rig::inputs::{Kind, Source, KINDS};
 /// A file that is not there: the input stands in for it.
 fn output(kind: &Kind, seed: u64) -> Vec<u8> {
     let case = kind.draw(seed, b"-");
-    answer(&case.arguments, &mut &case.input[..])
+    answer(&case.arguments, &mut &case.input[..]).output
 }
 
 #[test]
@@ -35,7 +35,7 @@ fn every_last_line_is_of_the_right_kind() {
 fn check_reach(word: &str, texts: &[&str]) {
     let kind = Kind::named(word).unwrap();
     let mut missing = texts.to_vec();
-    for seed in 0..6000 {
+    for seed in 0..20_000 {
         if missing.is_empty() {
             return;
         }
@@ -46,43 +46,74 @@ fn check_reach(word: &str, texts: &[&str]) {
 }
 
 #[test]
-fn clash_inputs_reach_every_answer() {
-    let texts = "refused 12: |refused 13 place |refused 14 place |refused 15: |refused 16: |refused 8: |ok 1 load\
-        |ok 2 loads|: expected load NAME, board|: expected load NAME, one|: expected load NAME first\
-        |: expected bytes|: expected acknowledges|: a second ack|error no load|: longer than|: a byte that is no\
-        |lost none|lost board 7 at|; lost 0 at|won board 0, board|NACK";
+fn clash_blocks_reach_every_answer() {
+    let texts = "  WON    |  in     |  lost   |  silent |: sends 1, the bus is 0; |  UNDECIDED between \
+        |CUT after |not acknowledged; | not acknowledged\n|  note: no ack line|  NOT AS EXPECTED\
+        |  regs   |  carried |  sda:|  refused 8: |every board is silent|refused 12: no board\
+        |boards, and at most|has no bytes|bytes, and at most|which is odd|, the longest|neither 0 nor 1\
+        |goes on with|  ERROR: not rehearsed";
+    check_reach("clash", &texts.split('|').collect::<Vec<_>>());
+}
+
+#[test]
+fn clash_tables_reach_every_answer() {
+    let texts = " sent\n|sent, no ack line|CUT at byte |not sent\n|, the last\n|UNDECIDED at byte|EXPECTED \
+        |REFUSED 8: too|REFUSED 12: every|REFUSED 12: no board|REFUSED 12: 9 boards|REFUSED 13: \
+        |REFUSED 14: |acknowledges for |: acknowledge |REFUSED 16: |ERROR: not rehearsed|~ |~\n\
+        |! cannot open|! cannot read|\nsee | and 1 more|\nok |\nlook |\nrefused 1|\nerror | in error\
+        | undecided| not as expected|faults outside";
+    check_reach("clash", &texts.split('|').collect::<Vec<_>>());
+}
+
+#[test]
+fn clash_files_reach_every_error() {
+    let texts = "; the file is not read|expected boards or load first|more than 8 boards|expected boards and\
+        |expected a name of 1 to 16|is named twice|expected load or end|a second boards line\
+        |expected a name of 1 to 32 bytes\n|expected a name of 1 to 32 bytes, not|: a title needs\
+        |the title is longer|this name was taken|more than 4096 loads\
+        |expected load, board, ack, expect or end|expected load, board or ack|boards must stand\
+        |expected board NAME|no board '|a second line for board|expected nothing after\
+        |expected bytes of two|expected bytes of one or two|a second ack line|expected all, or\
+        |a second expect line|expected expect NAME N/M\n|expected expect NAME N/M, not|no line for board\
+        |this load may be cut short|expected end N, the number of loads\n\
+        |expected end N, the number of loads, not|end says|after end (line|! the file ends without\
+        |! no load in the file|: longer than|: a byte that is no";
     check_reach("clash", &texts.split('|').collect::<Vec<_>>());
 }
 
 #[test]
 fn decode_inputs_reach_every_answer() {
-    let texts = "refused 4 place |refused 5: |refused 6: |refused 7 place |refused 8: |: expected STAMP\
-        |: the stamp is|: the level is|: longer than|: a byte that is no|cut byte|repeated START|write ACK\
-        |read NACK| 0 events| 1 event | 0 samples| 1 sample,|, frame open, 0 bits|1 bit pending, value 0\
-        |8 bits pending";
+    let texts = "refused 4 sample |refused 5: |refused 6: |refused 7 sample |refused 8: |: expected STAMP\
+        |: the stamp is|: the level is|: longer than|: a byte that is no|cut byte|repeated START\
+        |write ACK|read NACK| 0 events| 1 event | 0 samples| 1 sample,|, frame open, 0 bits\
+        |1 bit pending, value 0|8 bits pending|note: no sample| doubtful\n|cut byte doubtful|1 long gap\
+        |long gaps|1 cut byte,|cut bytes|no byte in any|\ngap |ok |look |looks like an event list";
     check_reach("decode", &texts.split('|').collect::<Vec<_>>());
 }
 
 #[test]
 fn encode_inputs_reach_every_answer() {
-    let texts = "refused 6: |refused 8: |refused 9: |refused 10: |refused 11: |: expected start N|: expected gap N\
-        |: an even address|: more than 4096 events|: expected START|: longer than|: a byte that is no|ok 1 sample\
-        |ok 23 samples";
+    let texts = "refused 6: |refused 8: |refused 9: |refused 10: |refused 11: |: expected start N\
+        |: expected gap N|: an even address|: more than 4096 events|: expected START|: longer than\
+        |: a byte that is no|ok 1 sample|ok 23 samples|looks like a trace|looks like a file of loads";
     check_reach("encode", &texts.split('|').collect::<Vec<_>>());
 }
 
 #[test]
 fn session_inputs_reach_every_answer() {
-    let texts = "\nrefused 1: the|\nrefused 2: a|\nrefused 3: the|\nrefused 4: a|expected power or|expected read A\
-        |expected write A|expected readw|expected writew|expected sample|expected tick|expected lines|expected help\
-        |unknown command|longer than|a byte that is no|commands refused, the|not understood, the|ok 0 commands\
-        |ok 1 command\n|scl=low|sda=low|stretch=1|pull=3|ok power [";
+    let texts = "\nrefused 1: the|\nrefused 2: a|\nrefused 3: the|\nrefused 4: a|expected power or\
+        |expected read A|expected write A|expected readw|expected writew|expected sample|expected tick\
+        |expected lines|expected help|unknown command|longer than|a byte that is no\
+        |commands refused, the|not understood, the|ok 0 commands|ok 1 command\n|scl=low|sda=low\
+        |stretch=1|pull=3|ok power [";
     check_reach("session", &texts.split('|').collect::<Vec<_>>());
 }
 
 #[test]
 fn command_lines_reach_every_answer() {
-    let texts = "ok help|expected a command|expected a file|expected a number|unexpected argument --brief\
-        |longer than 4096|no such file|it is a directory|the name is too long|unexpected argument odd";
+    let texts =
+        "expected a command|unknown command '|expected a file|number after --room\n|number after --room, not\
+        |unknown option '--brief'|unknown option '--odd|longer than 4096|no such file|it is a directory\
+        |the name is too long|a second file '|--table goes with|aaaa..'";
     check_reach("arguments", &texts.split('|').collect::<Vec<_>>());
 }

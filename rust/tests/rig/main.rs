@@ -2,6 +2,8 @@
 
 mod arguments;
 mod clash;
+mod clash_files;
+mod clash_table;
 mod decode;
 mod differ;
 mod encode;
@@ -14,7 +16,7 @@ use rehearsal_model::rig::answer;
 /// What the mirror prints for these arguments, split at blanks, with this standard input.
 fn rig(arguments: &str, input: impl AsRef<[u8]>) -> String {
     let arguments: Vec<Vec<u8>> = arguments.split_whitespace().map(|word| word.into()).collect();
-    String::from_utf8(answer(&arguments, &mut input.as_ref())).unwrap()
+    String::from_utf8(answer(&arguments, &mut input.as_ref()).output).unwrap()
 }
 
 /// The last line.

@@ -40,10 +40,10 @@ fn of_the_module() {
 fn of_the_reader() {
     let samples: String = (0..4097).map(|stamp| format!("{stamp} 3\n")).collect();
     let cases = [
-        ("decode -", "5 3\n6 4", "4 place 1 (line 2): a level is above 3"),
+        ("decode -", "5 3\n6 4", "4 sample 1 (line 2): a level is above 3"),
         ("decode -", "5 9\n\n6", "5: stamps and levels differ in number; line 3 has no level"),
         ("decode -", &samples, "6: more than 4096 samples"),
-        ("decode -", "5 3\n5 3", "7 place 1 (line 2): a stamp is not above the one before it"),
+        ("decode -", "5 3\n5 3", "7 sample 1 (line 2): a stamp is not above the one before it"),
         ("decode - --room 0", "5 3\n6 1", "8: the reply needs more room than was lent"),
     ];
     for (arguments, input, words) in cases {
@@ -71,28 +71,29 @@ fn of_the_writer() {
 fn of_arbitration() {
     let nine = "board 90\n".repeat(9);
     let long = format!("board 90\nboard {}", "90 ".repeat(33));
-    let acks = "15: there is not one acknowledge, 0 or 1, for each byte of the longest board";
     let cases = [
-        ("clash -", "", "12: no board, or more than eight"),
-        ("clash -", &nine, "12: no board, or more than eight"),
-        ("clash -", "board", "13 place 0 (line 2): a board has no bytes or more than 32"),
-        ("clash -", &long, "13 place 1 (line 3): a board has no bytes or more than 32"),
-        ("clash -", "board 90\n\nboard 91", "14 place 1 (line 4): a board's first byte is odd, a read"),
-        ("clash -", "ack\nboard 90", acks),
-        ("clash -", "board 90\nack 2", acks),
+        ("clash -", "", "12: no board"),
+        ("clash -", &nine, "12: 9 boards, and at most 8 may start together"),
+        ("clash -", "board", "13: board 0 (line 2) has no bytes"),
+        ("clash -", &long, "13: board 1 (line 3) has 33 bytes, and at most 32 may be sent"),
+        ("clash -", "board 90\n\nboard 91", "14: board 1 (line 4) begins with 91, which is odd, a read"),
+        (
+            "clash -",
+            "ack\nboard 90",
+            "15: 0 acknowledges (line 2) for the 1 byte of board 0 (line 3), the longest",
+        ),
+        ("clash -", "board 90\nack 2", "15: acknowledge 0 (line 3) is 2, neither 0 nor 1"),
         (
             "clash -",
             "board 90\nboard 90 0",
-            "16: the least message is acknowledged to its end and begins another",
+            "16: board 0 (line 2) ends with 90, acknowledged, where board 1 (line 3) goes on with 00",
         ),
         ("clash - --room 22", "board 90", "8: the reply needs more room than was lent"),
     ];
     for (arguments, boards, words) in cases {
         let number: String = words.chars().take_while(char::is_ascii_digit).collect();
-        let count = format!("refused {number}: 1 of 1 loads refused, the first on line 1");
-        let (load, input) = ("load a, line 1", format!("load a\n{boards}"));
-        assert_eq!(run(arguments, &input), format!("{load}\n  refused {words}\n{count}\n"));
-        let brief = run(&format!("{arguments} --brief"), &input);
-        assert_eq!(brief, format!("{load}: refused {words}\n{count}\n"));
+        let count = format!("see a\nrefused {number}: 1 load: 1 refused");
+        let output = run(arguments, &format!("load a\n{boards}"));
+        assert_eq!(output, format!("load a\n  refused {words}\n{count}\n"));
     }
 }

@@ -75,7 +75,7 @@ fn lines_not_understood() {
         }
     }
     for line in ["Tick", "ok", "USICTL0", "-", "tick,"] {
-        assert_eq!(answers(line), ["error unknown command; try help"], "{line}");
+        assert_eq!(answers(line), [format!("error unknown command '{line}'; try help")], "{line}");
     }
 }
 

@@ -12,8 +12,11 @@ pub fn proper(random: &mut Random, command: &str, source: Source, file: &[u8]) -
         _ if may_be_left_out && random.once_in(2) => {}
         _ => parts.push(vec![b"-".to_vec()]),
     }
-    if command == "clash" && random.once_in(2) {
-        parts.push(vec![b"--brief".to_vec()]);
+    if command == "clash" {
+        parts.extend(shown(random));
+        if random.once_in(8) {
+            parts.push(vec![another(random, file)]);
+        }
     }
     if command != "session" && random.once_in(4) {
         parts.push(vec![b"--room".to_vec(), room(random, command).into_bytes()]);
@@ -23,6 +26,28 @@ pub fn proper(random: &mut Random, command: &str, source: Source, file: &[u8]) -
     let mut arguments = vec![command.as_bytes().to_vec()];
     arguments.extend(parts.concat());
     arguments
+}
+
+/// The table, or what a block may show beyond the boards.
+fn shown(random: &mut Random) -> Vec<Vec<Vec<u8>>> {
+    let options: &[&str] = match random.below(8) {
+        0..=2 => &["--table"],
+        3 => &["--registers"],
+        4 => &["--wave"],
+        5 => &["--wave", "--registers"],
+        _ => &[],
+    };
+    options.iter().map(|option| vec![option.as_bytes().to_vec()]).collect()
+}
+
+/// A second file: the same again, standard input, or one that cannot be read.
+fn another(random: &mut Random, file: &[u8]) -> Vec<u8> {
+    match random.below(4) {
+        0 => file.to_vec(),
+        1 => b"-".to_vec(),
+        2 => b"/".to_vec(),
+        _ => [file, b".missing"].concat(),
+    }
 }
 
 /// Rooms about what is needed, and about the most that is lent.
@@ -37,8 +62,15 @@ fn room(random: &mut Random, command: &str) -> String {
 
 /// A short file that three of the commands take.
 pub fn text(random: &mut Random) -> Vec<u8> {
-    let texts =
-        ["", "# nothing\n", "load a\nboard 90\n", "0 3\n5 1\n", "START\nA0 ACK\nSTOP\n", "tick\nlines\n"];
+    let texts = [
+        "",
+        "# nothing\n",
+        "load a\nboard 90\n",
+        "boards q\nload x\nboard q 90\nack all\nend 1\n",
+        "0 3\n5 1\n",
+        "START\nA0 ACK\nSTOP\n",
+        "tick\nlines\n",
+    ];
     random.pick(&texts).as_bytes().to_vec()
 }
 
@@ -51,7 +83,7 @@ pub fn any(random: &mut Random, file: &[u8]) -> Vec<Vec<u8>> {
     for _ in 0..random.below(5) {
         arguments.push(match random.below(24) {
             0..=4 => file.to_vec(),
-            5..=7 => b"--brief".to_vec(),
+            5..=7 => random.pick(&["--table", "--table", "--wave", "--registers"]).into(),
             8..=11 => b"--room".to_vec(),
             12..=14 => random.pick(&["0", "23", "4096", "x", "99999999999999999999", "5x"]).into(),
             15 => b"-".to_vec(),
@@ -59,8 +91,8 @@ pub fn any(random: &mut Random, file: &[u8]) -> Vec<Vec<u8>> {
             17 => [file, b"/below"].concat(),
             18 => [file, b".missing"].concat(),
             19 => random.pick(&["/", ".", "..", ""]).into(),
-            20 => random.pick(&["--verbose", "--", "-x", "--brie", "--briefs", "--room=5", "--ROOM"]).into(),
-            21 => vec![random.pick(b"aZ/"); random.pick(&[255, 256, 4095, 4096, 4097, 9000])],
+            20 => random.pick(&["--brief", "--", "-x", "--tabl", "--tables", "--room=5", "--ROOM"]).into(),
+            21 => [random.pick(&["", "--"]).into(), long(random)].concat(),
             _ => odd_word(random),
         });
     }
@@ -69,20 +101,23 @@ pub fn any(random: &mut Random, file: &[u8]) -> Vec<Vec<u8>> {
 
 fn first(random: &mut Random) -> Vec<u8> {
     match random.below(24) {
-        0 => vec![b'c'; random.pick(&[4096, 4097])],
+        0 => vec![b'c'; random.pick(&[32, 33, 4096, 4097])],
         1 => odd_word(random),
-        2 => random.pick(&["", "Clash", "CLASH", "clashes", "cl", "--help", "-h", "-", "--brief"]).into(),
-        3..=5 => b"help".to_vec(),
-        6..=10 => b"decode".to_vec(),
-        11..=14 => b"encode".to_vec(),
-        15..=18 => b"session".to_vec(),
+        2 => random.pick(&["", "Clash", "CLASH", "clashes", "cl", "--help", "-h", "-", "help"]).into(),
+        3..=7 => b"decode".to_vec(),
+        8..=11 => b"encode".to_vec(),
+        12..=15 => b"session".to_vec(),
         _ => b"clash".to_vec(),
     }
 }
 
+fn long(random: &mut Random) -> Vec<u8> {
+    vec![random.pick(b"aZ/"); random.pick(&[30, 31, 32, 33, 255, 256, 4095, 4096, 4097, 9000])]
+}
+
 /// A word with control bytes and bytes above 7F in it; never the name of a file.
 fn odd_word(random: &mut Random) -> Vec<u8> {
-    let mut word = b"odd".to_vec();
+    let mut word = random.pick(&["odd", "--odd"]).as_bytes().to_vec();
     word.extend((0..random.below(6)).map(|_| random.byte().max(1)));
     word
 }

@@ -1,11 +1,20 @@
-//! Files for `rig clash`.
+//! Files for `rig clash`, with named boards mostly; `numbered` has the old form.
 
 use super::page::Page;
+use crate::arbitration::MASTERS;
 use crate::compare::arbitration::draw_request;
 use crate::random::Random;
 
+mod lines;
+mod numbered;
+
 /// One to four loads; now and then none, or many.
 pub fn text(random: &mut Random) -> Vec<u8> {
+    match random.below(256) {
+        0 if random.once_in(16) => return far_too_many(random),
+        1..=63 => return numbered::text(random),
+        _ => {}
+    }
     let mut page = Page::new(random);
     let loads = match page.random.below(24) {
         0 => 0,
@@ -13,99 +22,122 @@ pub fn text(random: &mut Random) -> Vec<u8> {
         _ => page.random.between(1, 4),
     };
     let spoiling = page.random.pick(&[3, 10, 1000]);
-    for _ in 0..loads {
-        load(&mut page, spoiling);
+    let names = lines::draw_names(page.random);
+    lines::boards(&mut page, &names, spoiling);
+    for index in 0..loads {
+        if page.random.once_in(40 * spoiling) {
+            page.one_of("bord x; board q 90; ack all; boards q; end; expect q 1/1");
+        }
+        load(&mut page, &names, spoiling, index);
     }
+    lines::end(&mut page, loads, spoiling);
     page.finish()
 }
 
-/// A load, spoilt once in `spoiling`.
-fn load(page: &mut Page, spoiling: usize) {
-    let name = name(page.random);
-    page.line(&["load", &name]);
-    let asked = draw_request(page.random);
+/// About 4,096 loads of one board.
+fn far_too_many(random: &mut Random) -> Vec<u8> {
+    let loads = random.between(4095, 4098);
+    let same = random.below(loads);
+    let mut text = b"boards q\n".to_vec();
+    for load in 0..loads {
+        let name = if load == same { 0 } else { load };
+        text.extend(format!("load n{name}\nboard q 90\nack all\n").into_bytes());
+    }
+    text.extend(format!("end {loads}\n").into_bytes());
+    text
+}
+
+/// A load as it is before it is spoilt: a message for each board, none where it is silent, and acknowledges.
+struct Load {
+    messages: Vec<Option<Vec<u8>>>,
+    acks: Vec<u8>,
+}
+
+fn load(page: &mut Page, names: &[String], spoiling: usize, index: usize) {
+    lines::load(page, spoiling, index);
+    let mut load = draw(page.random, names.len());
+    if page.random.once_in(spoiling) {
+        spoil_messages(page.random, &mut load.messages);
+    }
+    let mut left: Vec<usize> = (0..names.len()).collect();
+    let acks = lines::acks(page.random, &load.acks, spoiling);
+    let acks_before = page.random.below(names.len() + 1);
+    while !left.is_empty() {
+        if left.len() == acks_before {
+            lines::put(page, &acks);
+        }
+        let place = if page.random.once_in(3) { page.random.below(left.len()) } else { 0 };
+        let board = left.remove(place);
+        lines::board(page, names, board, &load.messages[board], spoiling);
+    }
+    if acks_before == 0 {
+        lines::put(page, &acks);
+    }
+    if page.random.once_in(3) {
+        expect(page, names, &load, spoiling);
+    }
+    if page.random.once_in(4 * spoiling) {
+        lines::wrong(page);
+    }
+}
+
+/// Messages that share beginnings, for some of the boards.
+fn draw(random: &mut Random, boards: usize) -> Load {
+    let asked = draw_request(random);
+    let mut messages: Vec<Option<Vec<u8>>> = Vec::new();
     let mut rest = &asked.bytes[..];
-    let mut boards = Vec::new();
-    for &length in &asked.lengths {
-        let (board, after) = rest.split_at(length as usize);
-        boards.push(board.to_vec());
+    for &length in asked.lengths.iter().take(boards) {
+        let (message, after) = rest.split_at(length as usize);
+        messages.push(Some(message.to_vec()));
         rest = after;
     }
-    let mut acks = (!page.random.once_in(3)).then(|| asked.acks.iter().map(|ack| ack.to_string()).collect());
-    if page.random.once_in(spoiling) {
-        spoil_boards(page.random, &mut boards);
+    while messages.len() < boards {
+        messages.insert(random.below(messages.len() + 1), None);
     }
-    if page.random.once_in(2 * spoiling) {
-        acks = Some(spoilt_acks(page.random, asked.acks.len()));
-    }
-    write(page, &boards, acks);
-    if page.random.once_in(20 * spoiling) {
-        page.line(&["ack", "0"]);
+    let longest = messages.iter().flatten().map(Vec::len).max().unwrap_or(0);
+    Load { messages, acks: asked.acks[..longest].to_vec() }
+}
+
+/// All silent, or an empty or too long message, a read, or one board's message for another.
+fn spoil_messages(random: &mut Random, messages: &mut [Option<Vec<u8>>]) {
+    let board = random.below(messages.len());
+    match random.below(6) {
+        0 => messages.fill(None),
+        1 => messages[board] = Some(Vec::new()),
+        2 => messages[board] = Some(vec![0x5A; random.pick(&[32, 33, 40, 300, 1000])]),
+        3 => messages[board] = Some(vec![random.byte() | 1]),
+        4 => messages[board] = messages[random.below(messages.len())].clone(),
+        _ => {
+            let first = messages[board].as_ref().map(|message| message[..1].to_vec());
+            messages[random.below(messages.len())] = first;
+        }
     }
 }
 
-/// The boards in order, and the acknowledges somewhere among them.
-fn write(page: &mut Page, boards: &[Vec<u8>], mut acks: Option<Vec<String>>) {
-    let place = page.random.below(2 * boards.len() + 1);
-    for (index, board) in boards.iter().enumerate() {
-        if index == place {
-            write_acks(page, acks.take());
-        }
-        let mut words = vec!["board".to_string()];
-        words.extend(board.iter().map(|&byte| page.hex(byte)));
+/// What the least message and the acknowledges make likely, or something else.
+fn expect(page: &mut Page, names: &[String], load: &Load, spoiling: usize) {
+    let least = load.messages.iter().flatten().min();
+    let winner = load.messages.iter().position(|message| message.as_ref() == least && least.is_some());
+    let length = least.map_or(0, Vec::len);
+    let carried = load.acks.iter().position(|&ack| ack == 1).map_or(length, |place| (place + 1).min(length));
+    let (mut board, mut fraction) = (winner.unwrap_or(0), format!("{carried}/{length}"));
+    if page.random.once_in(spoiling) {
+        board = page.random.below(MASTERS);
+        fraction = page
+            .random
+            .pick(&["0/0", "1/2", "04/4", "4/99999999999999999999", "4", "/", "4/", "4/4/4"])
+            .into();
+    }
+    let name = names.get(board).map_or("nobody", String::as_str).to_string();
+    let mut words = vec!["expect".to_string(), name, fraction];
+    if page.random.once_in(20 * spoiling) {
+        words.truncate(page.random.between(1, 2));
+    }
+    if page.random.once_in(20 * spoiling) {
+        words.push("4/4".to_string());
+    }
+    page.line(&words);
+    if page.random.once_in(10 * spoiling) {
         page.line(&words);
     }
-    write_acks(page, acks);
-}
-
-fn write_acks(page: &mut Page, acks: Option<Vec<String>>) {
-    if let Some(acks) = acks {
-        page.line(&[vec!["ack".to_string()], acks].concat());
-    }
-}
-
-/// Up to 32 bytes; rarely none, or one too many.
-fn name(random: &mut Random) -> String {
-    match random.below(64) {
-        0 => String::new(),
-        1 => "n".repeat(33),
-        2 => "two words".to_string(),
-        3..=6 => "x".repeat(32),
-        7..=10 => "caf\u{e9}:\u{20ac},".to_string(),
-        11..=14 => random.pick(&["load", "board", "ack", "ok", "refused", "error", "-", "0"]).to_string(),
-        _ => format!("p{}", random.below(1000)),
-    }
-}
-
-/// No board, too many, an empty or too long one, or a read.
-fn spoil_boards(random: &mut Random, boards: &mut Vec<Vec<u8>>) {
-    for _ in 0..random.between(1, 2) {
-        if boards.is_empty() {
-            return;
-        }
-        let board = random.below(boards.len());
-        match random.below(6) {
-            0 => boards.clear(),
-            1 => boards.resize(random.pick(&[8, 9, 10, 100]), vec![0x90]),
-            2 => boards[board].clear(),
-            3 => boards[board].resize(random.pick(&[32, 33, 40, 300, 1000]), 0x5A),
-            4 => boards[board] = vec![random.byte() | 1],
-            _ => boards.push(boards[board].clone()),
-        }
-    }
-}
-
-/// Too many, too few, or with one that is neither 0 nor 1.
-fn spoilt_acks(random: &mut Random, count: usize) -> Vec<String> {
-    let mut acks = vec!["0".to_string(); count];
-    match random.below(5) {
-        0 => drop(acks.pop()),
-        1 => acks.push("0".to_string()),
-        2 => acks.resize(random.pick(&[0, 33, 1000, 2040]), "1".to_string()),
-        _ => {
-            let wrong = random.pick(&["2", "255", "00", "01", "256", "18446744073709551616", "x", "-1", "A"]);
-            acks[random.below(count)] = wrong.to_string();
-        }
-    }
-    acks
 }

@@ -41,8 +41,9 @@ fn insert(bytes: &mut Vec<u8>, place: usize, inserted: &[u8]) {
 
 /// A word becomes another, a huge number among them.
 fn replace_word(random: &mut Random, bytes: &mut Vec<u8>) {
-    const WORDS: &str = "load board ack ok START STOP repeated cut ACK NACK start gap tick 0 1 256 65536 \
-        4294967295 4294967296 18446744073709551616 0x10 -1 +1 1.5";
+    const WORDS: &str =
+        "load board boards ack expect end all - / ok look note: START STOP repeated cut ACK NACK \
+        start gap tick 0 1 40 256 65536 4294967295 4294967296 18446744073709551616 0x10 -1 +1 1.5 4/4";
     let is_blank = |byte: &u8| b" \t\r\n".contains(byte);
     let from = random.below(bytes.len() + 1);
     let Some(skipped) = bytes[from..].iter().position(|byte| !is_blank(byte)) else { return };
@@ -106,7 +107,7 @@ pub fn bytes(random: &mut Random) -> Vec<u8> {
         0 => b"0123456789 \n",
         1 => b"0123 \t\r\n#abcdefABCDEF:lodk",
         2 => b" \n",
-        3 => b"START OPACKNtickloadboardack 0123\n\n\n",
+        3 => b"START OPACKNtickloadboardsackendexpect- 0123\n\n\n",
         _ => &[],
     };
     (0..length).map(|_| if letters.is_empty() { random.byte() } else { random.pick(letters) }).collect()

@@ -7,6 +7,9 @@ use crate::random::Random;
 
 /// A record: the drawing of a list, whole or spoilt, or any levels.
 pub fn text(random: &mut Random) -> Vec<u8> {
+    if random.once_in(40) {
+        return super::encode::words(random);
+    }
     let levels = draw_levels(random);
     let stamps = draw_stamps(random, levels.len());
     let mut page = Page::new(random);
@@ -75,11 +78,23 @@ fn draw_stamps(random: &mut Random, count: usize) -> Vec<u64> {
         stamps.push(stamp);
         stamp += if even { widest } else { random.between(1, widest as usize) as u64 };
     }
+    if count > 1 && random.once_in(3) {
+        lose_packets(random, &mut stamps, widest);
+    }
     if count > 1 && random.once_in(8) {
         let place = random.between(1, count - 1);
         stamps[place] = random.pick(&[stamps[place - 1], 0, stamps[place] - 1, 4_294_967_295]);
     }
     stamps
+}
+
+/// The stamps go up by more than usual in a few places, by little or by far.
+fn lose_packets(random: &mut Random, stamps: &mut [u64], widest: u64) {
+    for _ in 0..random.between(1, 3) {
+        let place = random.between(1, stamps.len() - 1);
+        let lost = widest * random.pick(&[1, 2, 3, 4, 5, 16, 1000]) + random.below(3) as u64;
+        stamps[place..].iter_mut().for_each(|stamp| *stamp += lost);
+    }
 }
 
 fn spoilt_line(page: &mut Page, stamp: u64, level: u64) {

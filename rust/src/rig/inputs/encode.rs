@@ -4,13 +4,21 @@ use super::page::Page;
 use crate::bus::{complete, sample_count, CUT, REPEATED_START, SAMPLES, START, STOP};
 use crate::compare::lists::{draw_gap, draw_list, draw_start};
 use crate::random::Random;
-use crate::rig::arguments::{Command, Options};
+use crate::rig::answer;
 
-/// A list in words or numbers, or what `decode` prints of a record.
+/// A list in words or numbers, what `decode` prints of a record, or a file of another kind.
 pub fn text(random: &mut Random) -> Vec<u8> {
-    if random.once_in(6) {
-        return decoded(random);
+    match random.below(36) {
+        0..=5 => return decoded(random),
+        6 => return super::decode::text(random),
+        7 => return super::clash::text(random),
+        _ => {}
     }
+    words(random)
+}
+
+/// A list in words or numbers.
+pub fn words(random: &mut Random) -> Vec<u8> {
     let events = match random.below(32) {
         0 => many(random),
         _ => draw_list(random).1,
@@ -39,12 +47,12 @@ pub fn text(random: &mut Random) -> Vec<u8> {
 /// What `decode` prints of a record, after a start and a gap.
 fn decoded(random: &mut Random) -> Vec<u8> {
     let record = super::decode::text(random);
-    let options = Options { command: Command::Decode, file: Vec::new(), brief: false, room: None };
-    let events = crate::rig::run(&options, &record);
+    let events = answer(&[b"decode".to_vec(), b"-".to_vec()], &mut &record[..]).output;
     let mut page = Page::new(random);
-    page.line(&["gap", "20"]);
+    if page.random.once_in(2) {
+        page.line(&["gap", "20"]);
+    }
     page.copy(&events);
-    page.copy(b"\n");
     page.finish()
 }
 
@@ -99,6 +107,7 @@ fn spoilt_line(page: &mut Page) {
         G0 ACK; A1 write foo; a0 Ack; start; start 4294967296; start 99999999999999999999; start -1; \
         start 5 5; start x; gap; gap 0; gap 4294967296; gap 99999999999999999999; gap x; gap 1 2; 50:; \
         :; 50: start 5; 50: gap 5; 50: 60: START; 50: ok; 50: 512 160 514; 50: foo; START STOP; \
-        repeated; repeated STOP; cut; cut bytes; 512 x; 65536 99999999999999999999; ok 23 samples";
+        repeated; repeated STOP; cut; cut bytes; 512 x; 65536 99999999999999999999; ok 23 samples; \
+        look 3 events; note: no sample; A0 ACK doubtful; cut byte doubtful; load x; board 90; refused 9";
     page.one_of(LINES);
 }

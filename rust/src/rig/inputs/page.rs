@@ -76,6 +76,15 @@ impl Page<'_> {
         }
     }
 
+    /// A byte in two digits, in either case.
+    pub fn two_digits(&mut self, byte: u8) -> String {
+        if !self.tidy && self.random.once_in(4) {
+            format!("{byte:02x}")
+        } else {
+            format!("{byte:02X}")
+        }
+    }
+
     /// A number, now and then with zeros before it.
     pub fn decimal(&mut self, number: u64) -> String {
         match if self.tidy { 3 } else { self.random.below(20) } {

@@ -46,17 +46,11 @@ slice-aggregate-open-read c = search needs
 open-read-requires : tie.Need-open-read-requires
 open-read-requires c κs = search needs
 
-slice-aggregate-complain : tie.Need-slice-aggregate-complain
-slice-aggregate-complain c = search needs
-
 error-number-requires : tie.Need-error-number-requires
 error-number-requires c κs = search needs
 
-complain-requires : tie.Need-complain-requires
-complain-requires c κs = search needs
-
 returns-3 : tie.Need-returns-3
-returns-3 c = failed (search needs)
+returns-3 c = failed _ (search needs)
 
 begin-requires-3 : tie.Need-begin-requires-3
 begin-requires-3 c κs = search needs
@@ -82,9 +76,7 @@ open-spec =
     array-share-prefix-name-2
     slice-aggregate-open-read
     open-read-requires
-    slice-aggregate-complain
     error-number-requires
-    complain-requires
     returns-3
     begin-requires-3
     returns-4)

@@ -22,8 +22,11 @@ shared-slice-read-if1 : tie.Need-shared-slice-read-if1 Inv-loop μ-loop
 shared-slice-read-if1 c = search needs
 
 returns : tie.Need-returns Inv-loop μ-loop
-returns c =
-    (run-end _ _ _ (search needs) (rw (eq-eqb _ _ (c .if1 .taken))) (c .before .before .before .loop .inv), search needs)
+returns c = (
+  run-end _ _ _ (search needs) (rw (eq-eqb _ _ (c .if1 .taken))) (c .before .before .before .loop .inv),
+  search
+      needs,
+)
 
 add-i : tie.Need-add-i Inv-loop μ-loop
 add-i c = search needs

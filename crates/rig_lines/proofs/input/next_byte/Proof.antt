@@ -17,7 +17,9 @@ same-length : tie.Need-same-length
 same-length c = search needs
 
 returns : tie.Need-returns
-returns c = byte (c .before .before .before .before .before .before .refilled .ensures .fed) (c .before .before .if1 .taken) (c .before .if2 .taken)
+returns c =
+    byte (c .before .before .before .before .before .before .refilled .ensures .fed) (c .before .before .if1 .taken)
+    (c .before .if2 .taken)
 
 same-length-2 : tie.Need-same-length-2
 same-length-2 c = search needs

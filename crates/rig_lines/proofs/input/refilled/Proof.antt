@@ -30,7 +30,8 @@ same-length c = search needs
 returns-3 : tie.Need-returns-3
 returns-3 c =
     let left = c .before .before .before .before .before .before .before .before .before in
-    read-once _ _ _ _ _ _ (c .after-read .ensures) (left .before .if1 .left) (left .if2 .left) (c .before .count .ensures .0 .0)
+    read-once _ _ _ _ _ _ (c .after-read .ensures) (left .before .if1 .left) (left .if2 .left)
+    (c .before .count .ensures .0 .0)
     (search needs)
 
 pub refilled-spec : {M : Type 1} → statement M

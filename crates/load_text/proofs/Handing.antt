@@ -1,0 +1,225 @@
+-- What is handed to the library: the messages of the boards that are not silent, each to the master that its board is.
+use mathlib.Core.Path.{_≡_, refl, sym, ap, ap₂, _∙_}
+use mathlib.Core.Bool.{Bool, true, false}
+use mathlib.Core.List.{List, [], _∷_, _++_, map, append-assoc, append-nil}
+use Prim.Native.Nat.{ℕ, zero, suc, _+_, _-_, _*_, _≤_, _<_, min}
+use native.Mathlib.Nat.{not-suc-le-zero, le-of-suc-le-suc, min-eq-left, min-eq-right}
+use native.Mathlib.Numerals.{add-one}
+use native.Mathlib.Omega.{arith}
+use lib.Dec.{leb}
+use lib.ListN.{length, getD, take, drop, length-take, length-drop, drop-of-length-le}
+use lib.Seq.{take-all, length-take-le, drop-at, take-at}
+use borrow.Author.Tests.{leb-true, leb-false}
+use Rattle.text.specs.Output.{Put}
+use Rattle.text.proofs.Runs.{to-end}
+use Rattle.text.proofs.Putting.{put-then, put-as}
+use Rattle.laws.specs.Everyone.{Everyone, nobody, also}
+use Rattle.arbitration_rules.specs.Limits.{maxMasters, maxLength}
+use Rattle.arbitration_rules.specs.Reply.{messagesOf}
+use Rattle.load_text.specs.Boards.{boardOf, masters}
+use Rattle.load_text.specs.Messages.{chosen, messagesIn, joined, unless}
+
+-- no more than there are
+front-min : (n : ℕ) (l : List ℕ) → take (min n (length l)) l ≡ take n l
+front-min n l = by-test (leb n (length l)) refl
+  where
+    by-test : (b : Bool) → leb n (length l) ≡ b → take (min n (length l)) l ≡ take n l
+    by-test true e = ap (λ (k : ℕ). take k l) (min-eq-left (leb-true n (length l) e))
+    by-test false e =
+        let past : length l ≤ n = omega (arith, leb-false n (length l) e) in
+        take-all (min n (length l)) l (omega (arith, min-eq-right past)) ∙ sym (take-all n l past)
+
+back-min : (n : ℕ) (l : List ℕ) → drop (min n (length l)) l ≡ drop n l
+back-min n l = by-test (leb n (length l)) refl
+  where
+    by-test : (b : Bool) → leb n (length l) ≡ b → drop (min n (length l)) l ≡ drop n l
+    by-test true e = ap (λ (k : ℕ). drop k l) (min-eq-left (leb-true n (length l) e))
+    by-test false e =
+        let past : length l ≤ n = omega (arith, leb-false n (length l) e) in
+        let all : length l ≤ min n (length l) = omega (arith, min-eq-right past) in
+        drop-of-length-le l all ∙ sym (drop-of-length-le l past)
+
+-- a board's message, cut out of the rows
+pub messages-length : (counts rows : List ℕ) → length (messagesIn rows counts) ≡ length counts
+messages-length [] rows = refl
+messages-length (count ∷ counts) rows = ap suc (messages-length counts (drop maxLength rows))
+
+drop-twice : (a b : ℕ) (l : List ℕ) → drop a (drop b l) ≡ drop (b + a) l
+drop-twice a zero l =
+    let none : a ≡ zero + a = omega arith in
+    ap (λ (k : ℕ). drop k l) none
+drop-twice a (suc b) [] = none a ∙ ap (λ (k : ℕ). drop {A = ℕ} k []) (one a)
+  where
+    none : (a : ℕ) → drop {A = ℕ} a [] ≡ []
+    none zero = refl
+    none (suc a) = refl
+
+    one : (a : ℕ) → suc (b + a) ≡ suc b + a
+    one a = omega arith
+drop-twice a (suc b) (x ∷ l) =
+    let one : suc (b + a) ≡ suc b + a = omega arith in
+    drop-twice a b l ∙ ap (λ (k : ℕ). drop k (x ∷ l)) one
+
+messages-at : (counts rows : List ℕ) (board : ℕ) → board < length counts
+    → getD (messagesIn rows counts) board [] ≡ take (getD counts board 0) (drop (board * maxLength) rows)
+messages-at [] rows board less = absurd (not-suc-le-zero less)
+messages-at (count ∷ counts) rows zero less = refl
+messages-at (count ∷ counts) rows (suc board) less =
+    let next : maxLength + board * maxLength ≡ suc board * maxLength = omega arith in
+    messages-at counts (drop maxLength rows) board (le-of-suc-le-suc less)
+    ∙ ap (take (getD counts board 0)) (drop-twice (board * maxLength) maxLength rows ∙ ap (λ (k : ℕ). drop k rows) next)
+
+module _ (counts rows : List ℕ) (board : ℕ) where
+  pub message-none : length counts ≤ board → [] ≡ getD (messagesIn rows counts) board []
+  message-none past = sym (getD-out (messagesIn rows counts) board (omega (arith, messages-length counts rows)))
+    where
+      getD-out : (l : List (List ℕ)) (i : ℕ) → length l ≤ i → getD l i [] ≡ []
+      getD-out [] i h = refl
+      getD-out (a ∷ l) zero h = absurd (not-suc-le-zero h)
+      getD-out (a ∷ l) (suc i) h = getD-out l i (le-of-suc-le-suc h)
+
+  pub message-cut : (start end : ℕ) → board < length counts → start ≡ min (board * maxLength) (length rows)
+      → end ≡ min (getD counts board 0) (length (take (length rows - start) (drop start rows)))
+      → take end (take (length rows - start) (drop start rows)) ≡ getD (messagesIn rows counts) board []
+  message-cut start end less from to =
+      ap (λ (k : ℕ). take k row) to
+      ∙ front-min (getD counts board 0) row
+      ∙ ap (take (getD counts board 0))
+      (to-end start rows ∙ ap (λ (k : ℕ). drop k rows) from ∙ back-min (board * maxLength) rows)
+      ∙ sym (messages-at counts rows board less)
+    where
+      row : List ℕ
+      row = take (length rows - start) (drop start rows)
+
+pub unless-silent : {A : Type 0} (silent : Bool) (said : List A) → silent ≡ true → unless silent said ≡ []
+unless-silent silent said is = rw is
+
+pub unless-not : {A : Type 0} (silent : Bool) (said : List A) → silent ≡ false → unless silent said ≡ said
+unless-not silent said is = rw is
+
+-- the boards from the front: one board more
+module _ {A : Type 0} where
+  chosen-suc : (silent : List Bool) (all : List A) (board : ℕ) (empty : A) → board < length silent → board < length all
+      → chosen (take (suc board) silent) (take (suc board) all)
+      ≡ chosen (take board silent) (take board all) ++ unless (getD silent board false) (getD all board empty ∷ [])
+  chosen-suc [] all board empty less less-all = absurd (not-suc-le-zero less)
+  chosen-suc (one ∷ silent) [] board empty less less-all = absurd (not-suc-le-zero less-all)
+  chosen-suc (true ∷ silent) (a ∷ all) zero empty less less-all = refl
+  chosen-suc (false ∷ silent) (a ∷ all) zero empty less less-all = refl
+  chosen-suc (true ∷ silent) (a ∷ all) (suc board) empty less less-all =
+      chosen-suc silent all board empty (le-of-suc-le-suc less) (le-of-suc-le-suc less-all)
+  chosen-suc (false ∷ silent) (a ∷ all) (suc board) empty less less-all =
+      ap (λ (l : List A). a ∷ l)
+      (chosen-suc silent all board empty (le-of-suc-le-suc less) (le-of-suc-le-suc less-all))
+
+  chosen-all : (silent : List Bool) (all : List A) (board : ℕ) → length silent ≤ board → length all ≤ board
+      → chosen (take board silent) (take board all) ≡ chosen silent all
+  chosen-all silent all board past past-all = ap₂ chosen (take-all board silent past) (take-all board all past-all)
+
+joined-one : (some : List (List ℕ)) (silent : Bool) (message : List ℕ)
+    → joined (some ++ unless silent (message ∷ [])) ≡ joined some ++ unless silent message
+joined-one [] true message = refl
+joined-one [] false message = append-nil message
+joined-one (a ∷ some) silent message =
+    ap (λ (l : List ℕ). a ++ l) (joined-one some silent message)
+    ∙ sym (append-assoc a (joined some) (unless silent message))
+
+module _ (silent : List Bool) where
+  -- the lengths of the first boards have been put
+  pub record Lengths (counts old : List ℕ) (board : ℕ) (new : List ℕ) (next : ℕ) : Type 0 where
+    pub within : board ≤ maxMasters
+    pub put : Put old 0 (chosen (take board silent) (take board counts)) new next
+
+  -- the messages of the first boards have been put
+  pub record Messages (messages : List (List ℕ)) (old : List ℕ) (board : ℕ) (new : List ℕ) (next : ℕ) : Type 0 where
+    pub within : board ≤ maxMasters
+    pub put : Put old 0 (joined (chosen (take board silent) (take board messages))) new next
+
+  module _ (counts old : List ℕ) (board : ℕ) {mid new : List ℕ} {next end : ℕ} where
+    pub lengths-more : board < maxMasters → board < length silent → board < length counts
+        → Lengths counts old board mid next
+        → Put mid next (unless (getD silent board false) (getD counts board 0 ∷ [])) new end
+        → Lengths counts old (board + 1) new end
+    lengths-more few less less-counts before one =
+        let more : chosen (take (board + 1) silent) (take (board + 1) counts)
+        ≡ chosen (take board silent) (take board counts)
+        ++ unless (getD silent board false) (getD counts board 0 ∷ []) =
+        rw add-one (chosen-suc silent counts board 0 less less-counts) in
+        record { within = omega arith; put = put-then old 0 _ _ _ more (before .put) one }
+
+  module _ (messages : List (List ℕ)) (old : List ℕ) (board : ℕ) {mid new : List ℕ} {next end : ℕ} where
+    pub messages-more : board < maxMasters → board < length silent → board < length messages
+        → Messages messages old board mid next
+        → Put mid next (unless (getD silent board false) (getD messages board [])) new end
+        → Messages messages old (board + 1) new end
+    messages-more few less less-messages before one =
+        let one-more = ap joined (chosen-suc silent messages board [] less less-messages)
+        ∙ joined-one (chosen (take board silent) (take board messages)) (getD silent board false)
+        (getD messages board []) in
+        let more : joined (chosen (take (board + 1) silent) (take (board + 1) messages))
+        ≡ joined (chosen (take board silent) (take board messages))
+        ++ unless (getD silent board false) (getD messages board []) =
+        rw add-one one-more in
+        record { within = omega arith; put = put-then old 0 _ _ _ more (before .put) one }
+
+  pub lengths-all : (counts old : List ℕ) (board : ℕ) {new : List ℕ} {next : ℕ} → length silent ≤ board
+      → length counts ≤ board → Lengths counts old board new next → Put old 0 (chosen silent counts) new next
+  lengths-all counts old board past past-counts done =
+      put-as old 0 (sym (chosen-all silent counts board past past-counts)) (done .put)
+
+  pub messages-all : (messages : List (List ℕ)) (old : List ℕ) (board : ℕ) {new : List ℕ} {next : ℕ}
+      → length silent ≤ board → length messages ≤ board → Messages messages old board new next
+      → Put old 0 (joined (chosen silent messages)) new next
+  messages-all messages old board past past-messages done =
+      put-as old 0 (ap joined (sym (chosen-all silent messages board past past-messages))) (done .put)
+
+-- a master's part of what is chosen is its board's
+pub chosen-at : {A : Type 0} (silent : List Bool) (all : List A) (master : ℕ) (empty : A) → master < masters silent
+    → length silent ≤ length all → getD (chosen silent all) master empty ≡ getD all (boardOf silent master) empty
+unfolding boardOf masters
+chosen-at [] all master empty less enough = absurd (not-suc-le-zero less)
+chosen-at (one ∷ silent) [] master empty less enough = absurd (not-suc-le-zero enough)
+chosen-at (true ∷ silent) (a ∷ all) master empty less enough =
+    chosen-at silent all master empty (omega arith) (le-of-suc-le-suc enough)
+chosen-at (false ∷ silent) (a ∷ all) zero empty less enough = refl
+chosen-at (false ∷ silent) (a ∷ all) (suc master) empty less enough =
+    chosen-at silent all master empty (omega arith) (le-of-suc-le-suc enough)
+
+-- messages put one after the other are told apart again by their lengths
+told-apart : (messages : List (List ℕ)) → messagesOf (map length messages) (joined messages) ≡ messages
+told-apart [] = refl
+told-apart (message ∷ messages) =
+    ap₂ _∷_ (take-at message (joined messages) (length message) refl)
+    (ap (messagesOf (map length messages)) (drop-at message (joined messages) (length message) refl)
+    ∙ told-apart messages)
+
+chosen-map : {A B : Type 0} (f : A → B) (silent : List Bool) (all : List A)
+    → chosen silent (map f all) ≡ map f (chosen silent all)
+chosen-map f [] all = refl
+chosen-map f (one ∷ silent) [] = refl
+chosen-map f (true ∷ silent) (a ∷ all) = chosen-map f silent all
+chosen-map {B} f (false ∷ silent) (a ∷ all) = ap (λ (l : List B). f a ∷ l) (chosen-map f silent all)
+
+-- rows that are long enough hold the messages whole
+whole : (counts rows : List ℕ) → Everyone (λ count. count ≤ maxLength) counts → length counts * maxLength ≤ length rows
+    → map length (messagesIn rows counts) ≡ counts
+whole [] rows few enough = refl
+whole (count ∷ counts) rows (also small few) enough =
+    let long : count ≤ length rows = omega (arith, small) in
+    let rest : length counts * maxLength ≤ length (drop maxLength rows) = omega (arith, length-drop maxLength rows) in
+    ap₂ _∷_ (length-take-le count rows long) (whole counts (drop maxLength rows) few rest)
+
+-- what the library is handed for a master is the message of the master's board
+pub handed : (silent : List Bool) (counts rows : List ℕ) (master : ℕ)
+    → Everyone (λ count. count ≤ maxLength) counts → length counts * maxLength ≤ length rows
+    → length silent ≡ length counts → master < masters silent
+    → getD (messagesOf (chosen silent counts) (joined (chosen silent (messagesIn rows counts)))) master []
+    ≡ getD (messagesIn rows counts) (boardOf silent master) []
+handed silent counts rows master few enough same less =
+    let messages = messagesIn rows counts in
+    let lengths : chosen silent counts ≡ map length (chosen silent messages) =
+    ap (chosen silent) (sym (whole counts rows few enough)) ∙ chosen-map length silent messages in
+    let all : length silent ≤ length messages = omega (arith, messages-length counts rows) in
+    ap (λ (l : List ℕ). getD (messagesOf l (joined (chosen silent messages))) master []) lengths
+    ∙ ap (λ (l : List (List ℕ)). getD l master []) (told-apart (chosen silent messages))
+    ∙ chosen-at silent messages master [] less all

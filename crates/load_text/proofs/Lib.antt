@@ -1,0 +1,4 @@
+pub mod Masters
+pub mod OneToOne
+pub mod Fractions
+pub mod Handing

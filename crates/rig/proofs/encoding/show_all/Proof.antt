@@ -1,0 +1,48 @@
+-- `rig::encoding::show_all` is safe and ends: fewer samples are left.
+use mathlib.Core.Path.{_≡_}
+use Prim.Native.Nat.{_-_}
+use lib.ListN.{length}
+use borrow.Author.Needs.{needs}
+use Rattle.rig.proofs.encoding.show_all.Statement.{statement}
+use Rattle.rig.proofs.encoding.show_all.Tie as tie
+
+abbrev Inv-loop : tie.InvT-loop
+Inv-loop page₀ at stamps levels count next₀ i₀ page next i = length page ≡ length page₀
+
+abbrev μ-loop : tie.MeasureT-loop
+μ-loop page₀ at stamps levels count next₀ i₀ page next i = count - i
+
+loop-holds : tie.Need-loop-holds Inv-loop μ-loop
+loop-holds c = search needs
+
+show-at-requires : tie.Need-show-at-requires Inv-loop μ-loop
+show-at-requires c κs = search needs
+
+add-i : tie.Need-add-i Inv-loop μ-loop
+add-i c = search needs
+
+loop-less : tie.Need-loop-less Inv-loop μ-loop
+loop-less c = search needs
+
+loop-again : tie.Need-loop-again Inv-loop μ-loop
+loop-again c = search needs
+
+same-length : tie.Need-same-length Inv-loop μ-loop
+same-length c = search needs
+
+returns : tie.Need-returns Inv-loop μ-loop
+returns c = search needs
+
+pub show-all-spec : {M : Type 1} → statement M
+show-all-spec =
+    tie.close
+    (tie.spec
+    Inv-loop
+    μ-loop
+    loop-holds
+    show-at-requires
+    add-i
+    loop-less
+    loop-again
+    same-length
+    returns)

@@ -1,0 +1,104 @@
+// What is kept of a file and of the load that is being read, in one lent slice of bytes: texts in cells that are
+// filled up with zeros, which no text has, and the messages, a row of bytes for each board.
+use arbitration_rules::MAX_LENGTH;
+use arbitration_rules::MAX_MASTERS;
+use load_text::BOARD_NAME;
+use load_text::LOAD_NAME;
+use rig_lines::parts;
+use text::put_bytes;
+
+// The longest title, and as many bytes as the names of loads to see may take.
+pub(crate) const TITLE: usize = 64;
+
+pub(crate) const SEEN: usize = 60;
+
+// Room for one acknowledge more than there may be, so that the library sees that they are too many.
+pub(crate) const ACKS: usize = MAX_LENGTH + 1;
+
+// Where each begins.
+pub(crate) const NAME_AT: usize = 0;
+
+pub(crate) const TITLE_AT: usize = NAME_AT + LOAD_NAME;
+
+pub(crate) const SEEN_AT: usize = TITLE_AT + TITLE;
+
+pub(crate) const ACKS_AT: usize = SEEN_AT + SEEN;
+
+const BOARDS_AT: usize = ACKS_AT + ACKS;
+
+pub(crate) const MESSAGES_AT: usize = BOARDS_AT + MAX_MASTERS * BOARD_NAME;
+
+pub(crate) const ROOM: usize = MESSAGES_AT + MAX_MASTERS * MAX_LENGTH;
+
+// Zeros for the longest cell.
+const ZEROS: [u8; TITLE] = [0; TITLE];
+
+// So many bytes from a place on, as far as there are.
+pub(crate) fn part(bytes: &[u8], from: usize, count: usize) -> &[u8] {
+    let start = parts::bytes(from, bytes);
+    let rest = &bytes[start..];
+    let end = parts::bytes(count, rest);
+    &rest[..end]
+}
+
+// How many bytes stand before the first zero.
+fn length(cell: &[u8]) -> usize {
+    let mut i = 0;
+    while i < cell.len() {
+        if cell[i] == 0 {
+            return i;
+        }
+        i += 1;
+    }
+    i
+}
+
+// The text in a cell.
+pub(crate) fn text_in(kept: &[u8], from: usize, width: usize) -> &[u8] {
+    let cell = part(kept, from, width);
+    part(cell, 0, length(cell))
+}
+
+// A text put into a cell, as much of it as there is room for.
+pub(crate) fn keep(kept: &mut [u8], from: usize, width: usize, text: &[u8]) {
+    put_bytes(kept, from, part(&ZEROS, 0, width));
+    put_bytes(kept, from, part(text, 0, width));
+}
+
+pub(crate) fn name(kept: &[u8]) -> &[u8] {
+    text_in(kept, NAME_AT, LOAD_NAME)
+}
+
+pub(crate) fn title(kept: &[u8]) -> &[u8] {
+    text_in(kept, TITLE_AT, TITLE)
+}
+
+// Where a board's cell begins, and its row.
+fn cell_of(board: usize) -> usize {
+    if board < MAX_MASTERS {
+        BOARDS_AT + board * BOARD_NAME
+    } else {
+        BOARDS_AT
+    }
+}
+
+pub(crate) fn row_of(board: usize) -> usize {
+    if board < MAX_MASTERS {
+        MESSAGES_AT + board * MAX_LENGTH
+    } else {
+        MESSAGES_AT
+    }
+}
+
+pub(crate) fn board_name(kept: &[u8], board: usize) -> &[u8] {
+    text_in(kept, cell_of(board), BOARD_NAME)
+}
+
+pub(crate) fn keep_board_name(kept: &mut [u8], board: usize, name: &[u8]) {
+    keep(kept, cell_of(board), BOARD_NAME, name);
+}
+
+// A board's message of so many bytes.
+pub(crate) fn message(kept: &[u8], board: usize, length: u32) -> &[u8] {
+    part(part(kept, row_of(board), MAX_LENGTH), 0, length as usize)
+}

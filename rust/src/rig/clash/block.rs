@@ -1,0 +1,119 @@
+//! The block of a load: who won, what became of its message, what each loser still has to send.
+
+use super::boards::Boards;
+use super::load::Load;
+use super::refused;
+use super::registers::{flags, spelt, waveform};
+use super::rehearsal::{Rehearsal, Result, Verdict};
+use crate::rig::arguments::Options;
+use crate::rig::text::{counted, hex};
+
+pub fn block(load: &Load, boards: &Boards, result: &Result, options: &Options) -> String {
+    let mut lines = vec![format!("load {}", load.heading())];
+    match result {
+        Result::InError => lines.push("  ERROR: not rehearsed".to_string()),
+        Result::Refused(refusal) => {
+            let words = refused::words(load, boards, *refusal).block;
+            lines.push(format!("  refused {}: {words}", refusal.number()));
+        }
+        Result::Rehearsed(rehearsal) => {
+            lines.extend(in_and_out(load, boards, rehearsal));
+            lines.extend(remarks(load, boards, rehearsal));
+            if options.registers {
+                lines.extend(registers(boards, rehearsal));
+            }
+            if options.wave {
+                lines.extend(bus(rehearsal));
+            }
+        }
+    }
+    lines.join("\n") + "\n"
+}
+
+fn board_line(word: &str, label: &str, message: &[u8], fate: &str) -> String {
+    format!("  {word:<6} {label}  {:<23}  {fate}", hex(message))
+}
+
+/// The boards still in, the losers and the silent.
+fn in_and_out(load: &Load, boards: &Boards, rehearsal: &Rehearsal) -> Vec<String> {
+    let mut lines = Vec::new();
+    let undecided = rehearsal.verdict == Verdict::Undecided;
+    lines.extend(undecided.then(|| between(rehearsal)));
+    for (board, message) in rehearsal.winners() {
+        let word = if undecided { "in" } else { "WON" };
+        lines.push(board_line(word, &boards.label(board.number), message, &fate(rehearsal, message)));
+    }
+    for (board, message, place) in rehearsal.losers() {
+        let (byte, bit, bytes) = (place / 9, place % 9, counted(message.len(), "byte"));
+        let fate = format!("byte {byte} bit {bit}: sends 1, the bus is 0; {bytes} still to send");
+        lines.push(board_line("lost", &boards.label(board.number), message, &fate));
+    }
+    let mut silent: Vec<usize> =
+        load.boards.iter().filter(|board| board.message.is_none()).map(|board| board.number).collect();
+    silent.sort();
+    lines.extend(silent.iter().map(|number| format!("  silent {number} {}", boards.short(*number))));
+    lines
+}
+
+fn between(rehearsal: &Rehearsal) -> String {
+    let numbers: Vec<String> =
+        rehearsal.winners().iter().map(|(board, _)| board.number.to_string()).collect();
+    let (place, byte) = rehearsal.last_carried();
+    let stopped = format!("the bus stopped after byte {place} ({byte:02X}), before they differ");
+    format!("  UNDECIDED between {}: {stopped}; nothing was sent whole", numbers.join(", "))
+}
+
+/// What became of a message that is still in.
+fn fate(rehearsal: &Rehearsal, message: &[u8]) -> String {
+    let carried = rehearsal.carried().len();
+    let of = format!("{carried} of {}", counted(message.len(), "byte"));
+    let (place, byte) = rehearsal.last_carried();
+    match rehearsal.verdict {
+        Verdict::Sent => format!("sent {of}"),
+        Verdict::Undecided => format!("{of} carried"),
+        Verdict::Cut => {
+            let cut = format!("CUT after {of}: byte {place} ({byte:02X}) not acknowledged");
+            match &message[carried..] {
+                [] => cut,
+                rest => format!("{cut}; {} not sent", hex(rest)),
+            }
+        }
+    }
+}
+
+fn remarks(load: &Load, boards: &Boards, rehearsal: &Rehearsal) -> Vec<String> {
+    let mut lines = Vec::new();
+    if load.acks.is_none() {
+        lines.push("  note: no ack line, rehearsed as all acknowledged".to_string());
+    }
+    if let (false, Some(expected)) = (rehearsal.as_expected, &load.expected) {
+        let (line, name) = (expected.line, boards.short(expected.board));
+        let (carried, length) = (expected.carried, expected.length);
+        lines.push(format!("  NOT AS EXPECTED: line {line} expects {name} {carried}/{length}"));
+    }
+    lines
+}
+
+fn registers(boards: &Boards, rehearsal: &Rehearsal) -> Vec<String> {
+    let masters = rehearsal.senders.iter().zip(&rehearsal.run.modules).zip(rehearsal.run.cleared);
+    let line = |label: String, registers: String, cleared: String| {
+        format!("  {:<6} {label}  {registers}, cleared{cleared}", "regs")
+    };
+    let words = masters.map(|(((board, _), module), cleared)| {
+        line(boards.label(board.number), spelt(module), flags(cleared))
+    });
+    words.collect()
+}
+
+/// The carried bytes with their acknowledges, and the two lines of the bus.
+fn bus(rehearsal: &Rehearsal) -> Vec<String> {
+    let word = |ack: &u8| if *ack == 0 { "ACK" } else { "NACK" };
+    let bytes = rehearsal.carried().iter().zip(&rehearsal.acks);
+    let carried: Vec<String> = bytes.map(|(byte, ack)| format!("{byte:02X} {}", word(ack))).collect();
+    let levels = &rehearsal.run.outcome.levels;
+    vec![
+        format!("  carried {}", carried.join(", ")),
+        format!("  scl:{}", waveform(levels.iter().map(|level| level % 2 == 1))),
+        format!("  sda:{}", waveform(levels.iter().map(|level| level / 2 == 1))),
+    ]
+}

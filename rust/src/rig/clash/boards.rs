@@ -1,0 +1,87 @@
+//! The boards of a file: named by its `boards` line, or numbered by the rows of each load.
+
+use crate::rig::text::{expected, quoted, short_byte};
+
+/// The most boards of a file.
+pub const BOARDS: usize = 8;
+const NAME_BYTES: usize = 16;
+
+#[derive(Clone, PartialEq, Eq, Debug)]
+pub enum Boards {
+    Named { line: usize, names: Vec<String> },
+    Numbered,
+}
+
+impl Boards {
+    /// The names of a `boards` line, or what is wrong with it.
+    pub fn named(line: usize, words: &[&str]) -> Result<Boards, String> {
+        let mut names: Vec<String> = Vec::new();
+        for word in words {
+            if names.len() == BOARDS {
+                return Err(format!("more than {BOARDS} boards"));
+            }
+            if !is_name(word) {
+                let name = "a name of 1 to 16 bytes that begins with a letter and is no byte";
+                return Err(expected(name, Some(word)));
+            }
+            if names.iter().any(|name| name == word) {
+                return Err(format!("board {} is named twice", quoted(word)));
+            }
+            names.push(word.to_string());
+        }
+        if names.is_empty() {
+            return Err(expected("boards and 1 to 8 names", None));
+        }
+        Ok(Boards::Named { line, names })
+    }
+
+    pub fn are_named(&self) -> bool {
+        matches!(self, Boards::Named { .. })
+    }
+
+    /// The names, none where boards are numbered.
+    pub fn names(&self) -> &[String] {
+        match self {
+            Boards::Named { names, .. } => names,
+            Boards::Numbered => &[],
+        }
+    }
+
+    /// The line that names them; 0 where boards are numbered.
+    pub fn line(&self) -> usize {
+        match self {
+            Boards::Named { line, .. } => *line,
+            Boards::Numbered => 0,
+        }
+    }
+
+    /// The number of the board of this name.
+    pub fn number(&self, word: &str) -> Result<usize, String> {
+        let number = self.names().iter().position(|name| name == word);
+        number.ok_or_else(|| format!("no board {} on line {}", quoted(word), self.line()))
+    }
+
+    /// As the columns show a board: its name, else its number.
+    pub fn short(&self, number: usize) -> String {
+        self.names().get(number).cloned().unwrap_or_else(|| number.to_string())
+    }
+
+    /// As a sentence speaks of a board.
+    pub fn called(&self, number: usize) -> String {
+        self.names().get(number).cloned().unwrap_or_else(|| format!("board {number}"))
+    }
+
+    /// As a block shows a board: number and name, padded to the longest name.
+    pub fn label(&self, number: usize) -> String {
+        let longest = self.names().iter().map(|name| name.chars().count()).max().unwrap_or(0);
+        match self.names().get(number) {
+            Some(name) => format!("{number} {name:<longest$}"),
+            None => number.to_string(),
+        }
+    }
+}
+
+fn is_name(word: &str) -> bool {
+    let letter = word.starts_with(|letter: char| letter.is_ascii_alphabetic());
+    letter && word.chars().count() <= NAME_BYTES && short_byte(word).is_none()
+}

@@ -1,0 +1,126 @@
+//! The rehearsal of a load, and its verdict.
+
+use super::load::{Board, Load};
+use crate::arbitration::{arbitrate, Run, MESSAGE_BYTES};
+use crate::refusal::Refusal;
+use crate::rig::arguments::Options;
+
+/// The levels of the longest arbitration.
+const LEVELS: usize = 5 + 18 * MESSAGE_BYTES;
+
+/// What became of the message that won.
+#[derive(Clone, Copy, PartialEq, Eq, Debug)]
+pub enum Verdict {
+    /// All its bytes were carried and acknowledged.
+    Sent,
+    /// The last byte carried was not acknowledged.
+    Cut,
+    /// Boards with different messages are still in.
+    Undecided,
+}
+
+/// A load that was rehearsed.
+pub struct Rehearsal<'a> {
+    /// The boards that send, in order, each with its message; they are the library's masters.
+    pub senders: Vec<(&'a Board, &'a [u8])>,
+    pub acks: Vec<u8>,
+    pub run: Run,
+    pub verdict: Verdict,
+    pub as_expected: bool,
+}
+
+/// What rehearsing a load comes to.
+pub enum Result<'a> {
+    InError,
+    Refused(Refusal),
+    Rehearsed(Rehearsal<'a>),
+}
+
+impl<'a> Result<'a> {
+    pub fn of(load: &'a Load, options: &Options) -> Result<'a> {
+        if load.in_error {
+            return Result::InError;
+        }
+        let senders = load.senders();
+        let acks = acknowledges(load);
+        let bytes: Vec<u8> = senders.iter().flat_map(|(_, message)| message.to_vec()).collect();
+        let lengths: Vec<u32> = senders.iter().map(|(_, message)| message.len() as u32).collect();
+        let mut levels = vec![0; options.room(LEVELS)];
+        match arbitrate(&bytes, &lengths, &acks, &mut [0; MESSAGE_BYTES], &mut levels) {
+            Ok(run) => Result::Rehearsed(Rehearsal::new(load, senders, acks, run)),
+            Err(refusal) => Result::Refused(refusal),
+        }
+    }
+
+    /// Whether the load needs a look.
+    pub fn is_marked(&self) -> bool {
+        match self {
+            Result::Rehearsed(rehearsal) => rehearsal.verdict != Verdict::Sent || !rehearsal.as_expected,
+            _ => true,
+        }
+    }
+}
+
+/// The acknowledges given, or one 0 for each byte of the longest message.
+pub fn acknowledges(load: &Load) -> Vec<u8> {
+    let given = load.acks.as_ref().and_then(|acks| acks.given.clone());
+    let longest = load.senders().iter().map(|(_, message)| message.len()).max().unwrap_or(0);
+    given.unwrap_or_else(|| vec![0; longest])
+}
+
+impl<'a> Rehearsal<'a> {
+    fn new(load: &Load, senders: Vec<(&'a Board, &'a [u8])>, acks: Vec<u8>, run: Run) -> Rehearsal<'a> {
+        let mut rehearsal = Rehearsal { senders, acks, run, verdict: Verdict::Cut, as_expected: true };
+        rehearsal.verdict = rehearsal.judged();
+        rehearsal.as_expected = rehearsal.meets(load);
+        rehearsal
+    }
+
+    fn judged(&self) -> Verdict {
+        let winners = self.winners();
+        let message = winners[0].1;
+        let carried = self.carried();
+        if winners.iter().any(|(_, other)| *other != message) {
+            Verdict::Undecided
+        } else if carried == message && self.acks[carried.len() - 1] == 0 {
+            Verdict::Sent
+        } else {
+            Verdict::Cut
+        }
+    }
+
+    fn meets(&self, load: &Load) -> bool {
+        let Some(expected) = &load.expected else { return true };
+        let winners = self.winners();
+        let winner = winners.iter().find(|(board, _)| board.number == expected.board);
+        let length = winner.map(|(_, message)| message.len() as u64);
+        self.verdict != Verdict::Undecided
+            && length == Some(expected.length)
+            && self.carried().len() as u64 == expected.carried
+    }
+
+    /// The bytes the bus carried.
+    pub fn carried(&self) -> &[u8] {
+        &self.run.outcome.carried
+    }
+
+    /// The last byte carried, with its place.
+    pub fn last_carried(&self) -> (usize, u8) {
+        let place = self.carried().len() - 1;
+        (place, self.carried()[place])
+    }
+
+    /// The boards still in, each with its message.
+    pub fn winners(&self) -> Vec<(&'a Board, &'a [u8])> {
+        let masters = self.senders.iter().zip(self.run.outcome.remaining);
+        masters.filter(|(_, remains)| *remains).map(|(sender, _)| *sender).collect()
+    }
+
+    /// The boards that lost, each with its message and its place.
+    pub fn losers(&self) -> Vec<(&'a Board, &'a [u8], u16)> {
+        let outcome = &self.run.outcome;
+        let masters = self.senders.iter().zip(outcome.remaining).zip(outcome.positions);
+        let lost = masters.filter(|((_, remains), _)| !remains);
+        lost.map(|(((board, message), _), place)| (*board, *message, place)).collect()
+    }
+}
