@@ -4,6 +4,7 @@ use crate::lines::put_not;
 use crate::lines::say;
 use crate::task::Task;
 use check::same;
+use phases::Mode;
 use rig_lines::console::begin;
 use rig_lines::console::put_quoted;
 use rig_lines::numbers::is_number;
@@ -17,6 +18,9 @@ pub(crate) struct Arguments {
     pub(crate) table: bool,
     pub(crate) registers: bool,
     pub(crate) wave: bool,
+    // the phases of a trace are judged as of Standard-mode, or of Fast-mode
+    standard: bool,
+    fast: bool,
     // room to lend to the library; a command lends no more than it has
     pub(crate) room: usize,
     // the next word is the number of --room
@@ -46,6 +50,8 @@ impl Arguments {
             table: false,
             registers: false,
             wave: false,
+            standard: false,
+            fast: false,
             room: usize::MAX,
             wants_room: false,
             broken: false,
@@ -130,6 +136,33 @@ impl Arguments {
                 return self;
             }
         }
+        self.with_mode(page, word)
+    }
+
+    // The mode in which a trace is read.
+    pub(crate) fn mode(self) -> Mode {
+        if self.standard {
+            return Mode::Standard;
+        }
+        if self.fast {
+            return Mode::Fast;
+        }
+        Mode::Unchecked
+    }
+
+    // An option that rig decode alone takes.
+    fn with_mode(mut self, page: &mut [u8], word: &[u8]) -> Arguments {
+        let task = self.task;
+        if task.is_decode() {
+            if same(word, b"--standard") {
+                self.standard = true;
+                return self;
+            }
+            if same(word, b"--fast") {
+                self.fast = true;
+                return self;
+            }
+        }
         self.unknown_option(page, word)
     }
 
@@ -178,6 +211,9 @@ impl Arguments {
                 page,
                 b"error --table goes with neither --registers nor --wave",
             );
+        }
+        if self.standard & self.fast {
+            return self.trouble(page, b"error --standard does not go with --fast");
         }
         self
     }

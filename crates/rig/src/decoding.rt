@@ -5,6 +5,7 @@ mod shown; // shown.rt: the events one a line
 use crate::lines::end;
 use crate::lines::tell;
 use decode::Decoded;
+use phases::Mode;
 use rig_lines::console::begin;
 use rig_lines::console::put_count;
 use rig_lines::console::put_form;
@@ -127,7 +128,7 @@ fn put_refused(
     unpaired: u64,
 ) -> usize {
     match number {
-        4 | 7 => put_sample_refusal(page, at, number, place, store::line_at(lines, place)),
+        4 | 7 | 18 => put_sample_refusal(page, at, number, place, store::line_at(lines, place)),
         5 => put_unpaired(page, at, unpaired),
         _ => put_refusal(page, at, number),
     }
@@ -162,8 +163,9 @@ fn answer(
     levels: &[u8],
     lines: &[u64],
     events: &mut [u16],
+    mode: Mode,
 ) -> usize {
-    match decode::decode(stamps, levels, events) {
+    match phases::decode_in(mode, stamps, levels, events) {
         Decoded::Refused { number, place } => refuse(page, reading, number, place, lines),
         Decoded::Events {
             count,
@@ -189,6 +191,7 @@ fn answer_part(
     levels: &[u8],
     lines: &[u64],
     room: usize,
+    mode: Mode,
 ) -> usize {
     let mut events = [0u16; EVENTS];
     let stamp_count = parts::stamps(reading.stamps, stamps);
@@ -201,10 +204,11 @@ fn answer_part(
         &levels[..level_count],
         lines,
         &mut events[..lent],
+        mode,
     )
 }
 
-pub(crate) fn run(page: &mut [u8], at: usize, source: Source, room: usize) -> usize {
+pub(crate) fn run(page: &mut [u8], at: usize, source: Source, room: usize, mode: Mode) -> usize {
     let mut piece = io::buffer();
     let mut line = [0u8; input::ROOM];
     let mut stamps = [0u32; SAMPLES];
@@ -223,5 +227,5 @@ pub(crate) fn run(page: &mut [u8], at: usize, source: Source, room: usize) -> us
     if reading.broken {
         return reading.at;
     }
-    answer_part(page, reading, &stamps, &levels, &lines, room)
+    answer_part(page, reading, &stamps, &levels, &lines, room, mode)
 }

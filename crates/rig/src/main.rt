@@ -21,7 +21,7 @@ use task::Task;
 fn run_on(page: &mut [u8], given: Arguments, source: Source) -> usize {
     let task = given.task;
     match task {
-        Task::Decode => decoding::run(page, given.at, source, given.room),
+        Task::Decode => decoding::run(page, given.at, source, given.room, given.mode()),
         Task::Encode => encoding::run(page, given.at, source, given.room),
         Task::Session => {
             session::run(page, source);

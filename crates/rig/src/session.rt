@@ -125,9 +125,7 @@ impl Session {
         if written.refusal != 0 {
             return self.refused(page, written.refusal);
         }
-        let ok = put_bytes(page, 0, b"ok ");
-        let device = put_module(page, ok, written.usi);
-        let next = put_form(page, device, b" cleared=%", &[written.cleared as u64]);
+        let next = put_written(page, written.usi, written.cleared);
         answer(page, next);
         self.with_device(written.usi)
     }
@@ -261,6 +259,13 @@ fn put_pull(page: &mut [u8], at: usize, low: bool) -> usize {
         return put_bytes(page, at, b"low");
     }
     put_bytes(page, at, b"released")
+}
+
+// The module after a write, and the flags that the write cleared.
+fn put_written(page: &mut [u8], device: Usi, cleared: u8) -> usize {
+    let ok = put_bytes(page, 0, b"ok ");
+    let next = put_module(page, ok, device);
+    put_form(page, next, b" cleared=%", &[cleared as u64])
 }
 
 fn put_pulls(page: &mut [u8], device: Usi) -> usize {

@@ -42,6 +42,13 @@ impl Task {
         }
     }
 
+    pub(crate) fn is_decode(self) -> bool {
+        match self {
+            Task::Decode => true,
+            _ => false,
+        }
+    }
+
     pub(crate) fn is_session(self) -> bool {
         match self {
             Task::Session => true,

@@ -1,6 +1,7 @@
 //! The command line, read from left to right: the first thing that is wrong is the error.
 
 use super::text::{decimal, quoted};
+use crate::phases::Mode;
 
 /// The longest argument.
 const ARGUMENT_BYTES: usize = 4096;
@@ -9,6 +10,7 @@ const NO_COMMAND: &str = "expected a command: clash, decode, encode or session";
 const NO_FILE: &str = "expected a file, or - for standard input";
 const NO_NUMBER: &str = "expected a number after --room";
 const LONG_ARGUMENT: &str = "an argument is longer than 4096 bytes";
+const ONE_MODE: &str = "--standard does not go with --fast";
 const TABLE_ALONE: &str = "--table goes with neither --registers nor --wave";
 
 #[derive(Clone, Copy, PartialEq, Eq, Debug)]
@@ -28,6 +30,8 @@ pub struct Options {
     pub table: bool,
     pub registers: bool,
     pub wave: bool,
+    pub standard: bool,
+    pub fast: bool,
     pub room: Option<u64>,
 }
 
@@ -49,12 +53,23 @@ impl Command {
 
 impl Options {
     pub fn new(command: Command) -> Options {
-        Options { command, files: Vec::new(), table: false, registers: false, wave: false, room: None }
+        let files = Vec::new();
+        let (table, registers, wave, standard, fast) = (false, false, false, false, false);
+        Options { command, files, table, registers, wave, standard, fast, room: None }
     }
 
     /// The room lent: the lesser of `most` and what `--room` says.
     pub fn room(&self, most: usize) -> usize {
         self.room.map_or(most, |room| room.min(most as u64) as usize)
+    }
+
+    /// The mode in which a record is read.
+    pub fn mode(&self) -> Mode {
+        match (self.standard, self.fast) {
+            (true, _) => Mode::Standard,
+            (_, true) => Mode::Fast,
+            _ => Mode::Unchecked,
+        }
     }
 
     /// One word after the command; `--room` takes the next one too.
@@ -64,6 +79,8 @@ impl Options {
             "--table" if clash => self.table = true,
             "--registers" if clash => self.registers = true,
             "--wave" if clash => self.wave = true,
+            "--standard" if self.command == Command::Decode => self.standard = true,
+            "--fast" if self.command == Command::Decode => self.fast = true,
             "--room" if self.command != Command::Session => self.room = Some(room(rest.next())?),
             word if word.starts_with("--") => {
                 return Err(format!("unknown option {} for {}", quoted(word), self.command.word()));
@@ -86,6 +103,9 @@ impl Options {
         }
         if self.table && (self.registers || self.wave) {
             return Err(TABLE_ALONE.to_string());
+        }
+        if self.standard && self.fast {
+            return Err(ONE_MODE.to_string());
         }
         Ok(self)
     }

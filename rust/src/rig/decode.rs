@@ -6,6 +6,7 @@ use super::refusals;
 use super::text::{counted, decimal, each_statement, expected, quoted, Next};
 use super::{LOOKS_LIKE_LOADS, WORDS_OF_LOADS};
 use crate::bus::{self, Decoded, CUT, GAP, REPEATED_START, SAMPLES, START, STOP};
+use crate::phases::decode_in;
 use crate::refusal::{Reason, Refusal};
 use gaps::Gaps;
 
@@ -29,7 +30,7 @@ pub fn decode(contents: &Contents, options: &Options) -> String {
         return error + "\n";
     }
     let mut events = vec![0; options.room(SAMPLES)];
-    match bus::decode(&record.stamps, &record.levels, &mut events) {
+    match decode_in(options.mode(), &record.stamps, &record.levels, &mut events) {
         Ok(reply) => record.report(&events[..reply.count], &reply),
         Err(refusal) => record.refused(refusal) + "\n",
     }

@@ -17,6 +17,10 @@ fn words(reason: Reason) -> &'static str {
         Reason::Gap => "the gap is 0 or above 1000",
         Reason::LastStamp => "the last stamp is above 4294967295",
         Reason::NoWaiting => "a divider of 1 does not wait, and SCL was last seen low",
+        Reason::ShortPhase => "a phase of SCL is too short for the mode",
+        Reason::BoardsDoNotRise | Reason::BoardLengths | Reason::BoardAbsent => {
+            unreachable!("corrections have their own words")
+        }
         Reason::MasterCount
         | Reason::MessageLength
         | Reason::ReadMessage
@@ -34,7 +38,7 @@ pub fn plain(refusal: Refusal) -> String {
 pub fn at_sample(refusal: Refusal, lines: &[usize]) -> String {
     let (number, sample) = (refusal.number(), refusal.place);
     match refusal.reason {
-        Reason::Level | Reason::StampNotAbove => {
+        Reason::Level | Reason::StampNotAbove | Reason::ShortPhase => {
             format!("refused {number} sample {sample} (line {}): {}", lines[sample], words(refusal.reason))
         }
         _ => plain(refusal),

@@ -57,8 +57,8 @@ fn p8_registers() -> String {
     let lost = "USICTL0=C0 PE7 PE6, USICTL1=4D I2C AL STP IFG, USICKCTL=22 DIV=1 SSEL=0 CKPL, ";
     let won = "USICTL0=C8 PE7 PE6 MST, USICTL1=45 I2C STP IFG, USICKCTL=22 DIV=1 SSEL=0 CKPL, ";
     let (lost, won) = (format!("{lost}USICNT=80 SCLREL CNT=0"), format!("{won}USICNT=00 CNT=0"));
-    let first = format!("  regs   0 first   {lost}, USISRL=0F, USISRH=00\n");
-    format!("{first}  regs   1 second  {won}, USISRL=FF, USISRH=00\n")
+    let first = format!("  regs   0 first   {lost}, USISRL=0F, USISRH=00, cleared STTIFG IFG\n");
+    format!("{first}  regs   1 second  {won}, USISRL=FF, USISRH=00, cleared STTIFG IFG\n")
 }
 
 /// The output for one load with boards p, q, r, without its first and last lines.

@@ -6,6 +6,7 @@ use crate::clash::outcome::Outcome;
 use rig_lines::console::put_form;
 use rig_lines::console::put_line;
 use text::put_byte;
+use text::put_bytes;
 use usi::Usi;
 
 // A byte without its highest bit, which the next one takes the place of.
@@ -57,6 +58,21 @@ fn put_count(page: &mut [u8], at: usize, usi: Usi) -> usize {
     put_form(page, flags, b" CNT=#", &[(byte % 32) as u64])
 }
 
+// The registers of a module, one after another.
+fn put_module(page: &mut [u8], at: usize, usi: Usi) -> usize {
+    let control = put_control(page, at, usi);
+    let clock = put_clock(page, control, usi);
+    let count = put_count(page, clock, usi);
+    let numbers = [usi.usisrl as u64, usi.usisrh as u64];
+    put_form(page, count, b", USISRL=%, USISRH=%", &numbers)
+}
+
+fn put_cleared(page: &mut [u8], at: usize, cleared: u8) -> usize {
+    let word = put_bytes(page, at, b", cleared");
+    let flags = put_flags(page, word, cleared % 16 * 16, b"AL\nSTP\nSTTIFG\nIFG");
+    put_byte(page, flags, b'\n')
+}
+
 fn put_board(
     page: &mut [u8],
     at: usize,
@@ -68,16 +84,10 @@ fn put_board(
     if load.is_silent(board) {
         return at;
     }
-    let usi = outcome.module_of(load, board);
-    let start = put_begin(page, at, kept, load, b"regs", board);
-    let control = put_control(page, start, usi);
-    let clock = put_clock(page, control, usi);
-    let count = put_count(page, clock, usi);
-    let numbers = [usi.usisrl as u64, usi.usisrh as u64];
-    let shift = put_form(page, count, b", USISRL=%, USISRH=%, cleared", &numbers);
     let seat = outcome.seat_of(load, board);
-    let cleared = put_flags(page, shift, seat.cleared % 16 * 16, b"AL\nSTP\nSTTIFG\nIFG");
-    put_byte(page, cleared, b'\n')
+    let start = put_begin(page, at, kept, load, b"regs", board);
+    let registers = put_module(page, start, outcome.module_of(load, board));
+    put_cleared(page, registers, seat.cleared)
 }
 
 // A line for each board that is not silent.

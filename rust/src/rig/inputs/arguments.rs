@@ -18,6 +18,14 @@ pub fn proper(random: &mut Random, command: &str, source: Source, file: &[u8]) -
             parts.push(vec![another(random, file)]);
         }
     }
+    if command == "decode" && random.once_in(3) {
+        let modes: &[&str] = match random.below(8) {
+            0 => &["--standard", "--fast"],
+            1..=3 => &["--standard"],
+            _ => &["--fast"],
+        };
+        parts.extend(modes.iter().map(|mode| vec![mode.as_bytes().to_vec()]));
+    }
     if command != "session" && random.once_in(4) {
         parts.push(vec![b"--room".to_vec(), room(random, command).into_bytes()]);
     }
@@ -83,7 +91,7 @@ pub fn any(random: &mut Random, file: &[u8]) -> Vec<Vec<u8>> {
     for _ in 0..random.below(5) {
         arguments.push(match random.below(24) {
             0..=4 => file.to_vec(),
-            5..=7 => random.pick(&["--table", "--table", "--wave", "--registers"]).into(),
+            5..=7 => random.pick(&["--table", "--table", "--wave", "--registers", "--standard", "--fast"]).into(),
             8..=11 => b"--room".to_vec(),
             12..=14 => random.pick(&["0", "23", "4096", "x", "99999999999999999999", "5x"]).into(),
             15 => b"-".to_vec(),

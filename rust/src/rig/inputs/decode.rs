@@ -70,7 +70,7 @@ fn spoil(random: &mut Random, levels: &mut Vec<u8>) {
 
 /// Rising stamps; now and then one that does not rise, or that end close to 2^32.
 fn draw_stamps(random: &mut Random, count: usize) -> Vec<u64> {
-    let widest = random.pick(&[1, 50, 1000, 1_000_000]);
+    let widest = random.pick(&[1, 6, 12, 13, 40, 46, 47, 50, 1000, 1_000_000]);
     let even = random.once_in(2);
     let mut stamp = random.pick(&[0, 0, 0, 7, 4_294_000_000]);
     let mut stamps = Vec::new();
