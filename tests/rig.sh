@@ -72,6 +72,7 @@ commands() {
     expect 2 "error unknown option '--brief' for clash" clash - --brief
     expect 2 "error unknown option '--table' for decode" decode - --table
     expect 2 "error unknown option '--fast' for session" session --fast
+    expect 2 "error --standard does not go with --fast" decode - --standard --fast
     expect 2 "error a second file 'b': decode reads one" decode a b
     expect 2 "error --table goes with neither --registers nor --wave" clash - --table --wave
     expect 2 "error expected a number after --room" encode --room
@@ -279,6 +280,15 @@ traces() {
         expect 1 "refused 7 sample 1 (line 4): a stamp is not above the one before it" decode - && alone
     expect 1 "refused 8: the reply needs more room than was lent" decode "$examples/clean.trace" --room 7 && alone
     : >in && expect 3 "look 0 events in 0 samples, no frame open, 0 bits pending, $no_byte" decode -
+    local short="a phase of SCL is too short for the mode"
+    input "START" "A0 ACK" "STOP" "gap 47" && "$rig" encode - <in 2>err >drawn
+    expect 0 "ok 3 events in 23 samples, no frame open, 0 bits pending" decode drawn --standard
+    sed -i 's/gap 47/gap 46/' in && "$rig" encode - <in 2>err >drawn
+    expect 1 "refused 18 sample 3 (line 4): $short" decode drawn --standard && alone
+    expect 0 "ok 3 events in 23 samples, no frame open, 0 bits pending" decode drawn --fast
+    sed -i 's/gap 46/gap 12/' in && "$rig" encode - <in 2>err >drawn
+    expect 1 "refused 18 sample 3 (line 4): $short" decode --fast drawn && alone
+    expect 0 "ok 3 events in 23 samples, no frame open, 0 bits pending" decode drawn
     input "1 x" && expect 2 "error line 1: expected STAMP LEVEL, two decimal numbers, not 'x'" decode -
     input "1 2 3" && expect 2 "error line 1: expected STAMP LEVEL, two decimal numbers, not '3'" decode -
     input "4294967296 3" && expect 2 "error line 1: the stamp is above 4294967295: '4294967296'" decode -
