@@ -72,6 +72,8 @@ commands() {
     expect 2 "error unknown option '--brief' for clash" clash - --brief
     expect 2 "error unknown option '--table' for decode" decode - --table
     expect 2 "error unknown option '--fast' for session" session --fast
+    expect 2 "error - stands twice: standard input is read once" clash - "$examples/sent.loads" -
+    expect 2 "error - stands twice: standard input is read once" decode - -
     expect 2 "error --standard does not go with --fast" decode - --standard --fast
     expect 2 "error a second file 'b': decode reads one" decode a b
     expect 2 "error --table goes with neither --registers nor --wave" clash - --table --wave

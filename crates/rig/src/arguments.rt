@@ -23,6 +23,8 @@ pub(crate) struct Arguments {
     fast: bool,
     // room to lend to the library; a command lends no more than it has
     pub(crate) room: usize,
+    // standard input is one of the files
+    input: bool,
     // the next word is the number of --room
     wants_room: bool,
     // an error stands on the page
@@ -53,6 +55,7 @@ impl Arguments {
             standard: false,
             fast: false,
             room: usize::MAX,
+            input: false,
             wants_room: false,
             broken: false,
             at: 0,
@@ -119,6 +122,15 @@ impl Arguments {
         self.second_file(page, word)
     }
 
+    // Standard input is read once.
+    fn with_input(mut self, page: &mut [u8], argument: usize) -> Arguments {
+        if self.input {
+            return self.trouble(page, b"error - stands twice: standard input is read once");
+        }
+        self.input = true;
+        self.with_file(page, argument, b"-")
+    }
+
     // An option that rig clash alone takes.
     fn with_display(mut self, page: &mut [u8], word: &[u8]) -> Arguments {
         let task = self.task;
@@ -181,6 +193,9 @@ impl Arguments {
         }
         if is_option(word) {
             return self.with_option(page, word);
+        }
+        if same(word, b"-") {
+            return self.with_input(page, argument);
         }
         self.with_file(page, argument, word)
     }

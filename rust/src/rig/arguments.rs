@@ -8,6 +8,7 @@ const ARGUMENT_BYTES: usize = 4096;
 
 const NO_COMMAND: &str = "expected a command: clash, decode, encode or session";
 const NO_FILE: &str = "expected a file, or - for standard input";
+const INPUT_TWICE: &str = "- stands twice: standard input is read once";
 const NO_NUMBER: &str = "expected a number after --room";
 const LONG_ARGUMENT: &str = "an argument is longer than 4096 bytes";
 const ONE_MODE: &str = "--standard does not go with --fast";
@@ -85,6 +86,7 @@ impl Options {
             word if word.starts_with("--") => {
                 return Err(format!("unknown option {} for {}", quoted(word), self.command.word()));
             }
+            "-" if self.files.iter().any(|file| file == "-") => return Err(INPUT_TWICE.to_string()),
             word if !clash && !self.files.is_empty() => {
                 return Err(format!("a second file {}: {} reads one", quoted(word), self.command.word()));
             }

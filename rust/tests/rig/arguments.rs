@@ -30,7 +30,7 @@ fn files_and_options() {
         ("encode --room -1", "expected a number after --room, not '-1'"),
         ("clash --room --table", "expected a number after --room, not '--table'"),
         ("decode a b", "a second file 'b': decode reads one"),
-        ("session - -", "a second file '-': session reads one"),
+        ("session - -", "- stands twice: standard input is read once"),
         ("decode - --table", "unknown option '--table' for decode"),
         ("encode --wave", "unknown option '--wave' for encode"),
         ("session --room 5", "unknown option '--room' for session"),
