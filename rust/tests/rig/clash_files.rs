@@ -219,13 +219,13 @@ fn the_old_form() {
 #[test]
 fn several_files() {
     let folder = env!("CARGO_MANIFEST_DIR");
-    let output = rig(&format!("clash - {folder} /none -"), "boards q\nload x\nboard q 50\nack 1\nend 1\n");
+    let output = rig(&format!("clash - {folder} /none"), "boards q\nload x\nboard q 50\nack 1\nend 1\n");
     let expected = format!(
         "file -\nload x\n  WON    0 q  50                       CUT after 1 of 1 byte: byte 0 (50) not acknowledged\n\
          file {folder}\n! cannot read {folder}: it is a directory\n\
          file /none\n! cannot open /none: no such file\n\
-         file -\n! no load in the file\nsee x\n\
-         error 1 load: 1 cut, 3 faults outside the loads\n"
+         see x\n\
+         error 1 load: 1 cut, 2 faults outside the loads\n"
     );
     assert_eq!(output, expected);
 }
