@@ -15,6 +15,8 @@ pub(crate) struct Arguments {
     pub(crate) task: Task,
     // which argument names the first file; 0: none does
     pub(crate) file: usize,
+    // which one names the file of corrections; 0: none does
+    pub(crate) corrections: usize,
     pub(crate) table: bool,
     pub(crate) registers: bool,
     pub(crate) wave: bool,
@@ -27,6 +29,8 @@ pub(crate) struct Arguments {
     input: bool,
     // the next word is the number of --room
     wants_room: bool,
+    // the next word is the file of --corrections
+    wants_corrections: bool,
     // an error stands on the page
     pub(crate) broken: bool,
     // where the page goes on
@@ -49,6 +53,7 @@ impl Arguments {
         Arguments {
             task,
             file: 0,
+            corrections: 0,
             table: false,
             registers: false,
             wave: false,
@@ -57,6 +62,7 @@ impl Arguments {
             room: usize::MAX,
             input: false,
             wants_room: false,
+            wants_corrections: false,
             broken: false,
             at: 0,
         }
@@ -123,12 +129,30 @@ impl Arguments {
     }
 
     // Standard input is read once.
-    fn with_input(mut self, page: &mut [u8], argument: usize) -> Arguments {
+    fn with_input(mut self, page: &mut [u8]) -> Arguments {
         if self.input {
             return self.trouble(page, b"error - stands twice: standard input is read once");
         }
         self.input = true;
-        self.with_file(page, argument, b"-")
+        self
+    }
+
+    fn with_input_file(self, page: &mut [u8], argument: usize) -> Arguments {
+        let next = self.with_input(page);
+        if next.broken {
+            return next;
+        }
+        next.with_file(page, argument, b"-")
+    }
+
+    // The file after --corrections.
+    fn with_corrections(mut self, page: &mut [u8], argument: usize, word: &[u8]) -> Arguments {
+        self.corrections = argument;
+        self.wants_corrections = false;
+        if same(word, b"-") {
+            return self.with_input(page);
+        }
+        self
     }
 
     // An option that rig clash alone takes.
@@ -145,6 +169,10 @@ impl Arguments {
             }
             if same(word, b"--wave") {
                 self.wave = true;
+                return self;
+            }
+            if same(word, b"--corrections") {
+                self.wants_corrections = true;
                 return self;
             }
         }
@@ -191,11 +219,14 @@ impl Arguments {
         if self.wants_room {
             return self.with_room(page, word);
         }
+        if self.wants_corrections {
+            return self.with_corrections(page, argument, word);
+        }
         if is_option(word) {
             return self.with_option(page, word);
         }
         if same(word, b"-") {
-            return self.with_input(page, argument);
+            return self.with_input_file(page, argument);
         }
         self.with_file(page, argument, word)
     }
@@ -217,6 +248,9 @@ impl Arguments {
         }
         if self.wants_room {
             return self.trouble(page, b"error expected a number after --room");
+        }
+        if self.wants_corrections {
+            return self.trouble(page, b"error expected a file after --corrections");
         }
         if (self.file == 0) & !task.reads_input() {
             return self.trouble(page, b"error expected a file, or - for standard input");
@@ -252,7 +286,7 @@ pub(crate) fn parse(page: &mut [u8], task: Task) -> Arguments {
 fn passed(argument: usize) -> usize {
     let mut space = io::buffer();
     let n = os::arg(argument, &mut space);
-    if same(&space[..n], b"--room") {
+    if same(&space[..n], b"--room") | same(&space[..n], b"--corrections") {
         return 2;
     }
     if is_option(&space[..n]) {

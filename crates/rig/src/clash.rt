@@ -5,6 +5,8 @@ mod boards; // boards.rt: the boards of a file, by name
 mod columns; // columns.rt: columns of text
 mod complaints; // complaints.rt: lines about what is wrong
 mod contenders; // contenders.rt: the boards that are still in, in a list
+mod corrected; // corrected.rt: tonight's corrections laid over a load
+mod corrections; // corrections.rt: the file of tonight's corrections
 mod ending; // ending.rt: how a file ends
 mod finish; // finish.rt: the end of a load
 mod kept; // kept.rt: what is kept of a file and of a load
@@ -17,6 +19,7 @@ mod outcome; // outcome.rt: what a rehearsal comes to
 mod refusals; // refusals.rt: refusals in words
 mod registers; // registers.rt: the registers of a board
 mod seen; // seen.rt: the names of the loads to see
+mod slots; // slots.rt: the corrections as they are kept
 mod state; // state.rt: what is known while the files are read
 mod statements; // statements.rt: the statements of a file
 mod table; // table.rt: the table
@@ -223,7 +226,24 @@ fn summed(page: &mut [u8], kept: &[u8], state: State) {
     flush(page, last);
 }
 
-pub(crate) fn run(table: bool, registers: bool, wave: bool, room: usize) {
+// No file of loads is read where the corrections are at fault.
+fn run_loads(
+    page: &mut [u8],
+    kept: &mut [u8],
+    names: &mut [u8],
+    lines: &mut [u64],
+    state: State,
+) -> State {
+    let tally = state.tally;
+    if tally.has_fault() {
+        return state;
+    }
+    let done = run_files(page, kept, names, lines, state, next_file(2));
+    corrected::unmet(page, kept, done, done.corrections)
+}
+
+// corrections: the argument that names their file; 0: there are none.
+pub(crate) fn run(table: bool, registers: bool, wave: bool, room: usize, corrections: usize) {
     let mut page = [0u8; PAGE];
     let mut kept = [0u8; kept::ROOM];
     let mut names = [0u8; names::ROOM];
@@ -235,13 +255,7 @@ pub(crate) fn run(table: bool, registers: bool, wave: bool, room: usize) {
         room,
     };
     let begun = headed(&mut page, state::begun(options));
-    let state = run_files(
-        &mut page,
-        &mut kept,
-        &mut names,
-        &mut lines,
-        begun,
-        next_file(2),
-    );
+    let read = corrections::read(&mut page, &mut kept, begun, corrections);
+    let state = run_loads(&mut page, &mut kept, &mut names, &mut lines, read);
     summed(&mut page, &kept, state);
 }

@@ -45,7 +45,13 @@ fn run(page: &mut [u8], task: Task) -> usize {
         return given.at;
     }
     if task.is_clash() {
-        clash::run(given.table, given.registers, given.wave, given.room);
+        clash::run(
+            given.table,
+            given.registers,
+            given.wave,
+            given.room,
+            given.corrections,
+        );
         return given.at;
     }
     run_one(page, given)

@@ -3,6 +3,7 @@ use crate::clash::board;
 use crate::clash::board::Group;
 use crate::clash::contenders;
 use crate::clash::contenders::Style;
+use crate::clash::corrected;
 use crate::clash::kept;
 use crate::clash::load::Load;
 use crate::clash::outcome::Outcome;
@@ -132,7 +133,8 @@ pub(crate) fn put(
     carried: &[u8],
     levels: &[u8],
 ) -> usize {
-    let header = put_header(page, at, kept);
+    let title = put_header(page, at, kept);
+    let header = corrected::put(page, title, kept, load);
     let verdict = outcome.verdict;
     if let Verdict::Refused(number) = verdict {
         return refusals::put_line(page, header, kept, load, number, outcome.place);

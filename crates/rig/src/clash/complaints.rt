@@ -25,7 +25,13 @@ fn put_mark(page: &mut [u8], at: usize, b: u8, word: &[u8], number: u64) -> usiz
 }
 
 // Words with their marks.
-fn put_words(page: &mut [u8], at: usize, form: &[u8], word: &[u8], number: u64) -> usize {
+pub(crate) fn put_words(
+    page: &mut [u8],
+    at: usize,
+    form: &[u8],
+    word: &[u8],
+    number: u64,
+) -> usize {
     let mut next = at;
     let mut i = 0;
     while i < form.len() {

@@ -145,7 +145,7 @@ pub(crate) fn failed(
     state.moved(end).faulted().done()
 }
 
-fn put_failed(page: &mut [u8], at: usize, words: &[u8], argument: usize) -> usize {
+pub(crate) fn put_failed(page: &mut [u8], at: usize, words: &[u8], argument: usize) -> usize {
     let start = begin(page, at);
     let mark = put_bytes(page, start, b"! ");
     let said = put_bytes(page, mark, words);

@@ -1,5 +1,6 @@
 // The end of a load: what is missing, the rehearsal, and what is shown and counted of it.
 use crate::clash::block;
+use crate::clash::corrected;
 use crate::clash::kept;
 use crate::clash::load::Load;
 use crate::clash::outcome;
@@ -89,6 +90,15 @@ fn unrehearsed(page: &mut [u8], kept: &mut [u8], state: State) -> State {
     noted(kept, next.moved(at), true)
 }
 
+// A load with corrections is counted once more.
+fn corrected_counted(state: State, load: Load) -> State {
+    if !load.corrected {
+        return state;
+    }
+    let tally = state.tally;
+    state.with_tally(tally.with_corrected())
+}
+
 fn counted(kept: &mut [u8], state: State, load: Load, outcome: Outcome) -> State {
     let tally = state.tally;
     let verdict = outcome.verdict;
@@ -106,7 +116,7 @@ fn rehearsed(page: &mut [u8], kept: &mut [u8], state: State) -> State {
     let options = state.options;
     let load = state.load;
     let outcome = outcome::of(kept, load, options.room, &mut carried, &mut levels);
-    let next = counted(kept, state, load, outcome);
+    let next = counted(kept, corrected_counted(state, load), load, outcome);
     if options.table {
         return next.moved(table::put_row(page, state.at, kept, load, outcome));
     }
@@ -162,5 +172,6 @@ pub(crate) fn finish(page: &mut [u8], kept: &mut [u8], state: State) -> State {
         return state;
     }
     let checked = missing(page, kept, state);
-    finished(page, kept, checked)
+    let laid = corrected::laid(page, kept, checked);
+    finished(page, kept, laid)
 }

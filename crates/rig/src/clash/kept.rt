@@ -1,5 +1,5 @@
-// What is kept of a file and of the load that is being read, in one lent slice of bytes: texts in cells that are
-// filled up with zeros, which no text has, and the messages, a row of bytes for each board.
+// What is kept of a file, of the load that is being read and of the corrections, in one lent slice of bytes: texts in
+// cells that are filled up with zeros, which no text has, and the messages, a row of bytes for each board.
 use arbitration_rules::MAX_LENGTH;
 use arbitration_rules::MAX_MASTERS;
 use load_text::BOARD_NAME;
@@ -28,7 +28,19 @@ const BOARDS_AT: usize = ACKS_AT + ACKS;
 
 pub(crate) const MESSAGES_AT: usize = BOARDS_AT + MAX_MASTERS * BOARD_NAME;
 
-pub(crate) const ROOM: usize = MESSAGES_AT + MAX_MASTERS * MAX_LENGTH;
+// The messages of one load, and the corrections of its boards, in rows of their own.
+pub(crate) const BYTES: usize = MAX_MASTERS * MAX_LENGTH;
+
+pub(crate) const TONIGHT_AT: usize = MESSAGES_AT + BYTES;
+
+// All corrections, each in a slot.
+pub(crate) const SLOTS_AT: usize = TONIGHT_AT + BYTES;
+
+pub(crate) const SLOTS: usize = 256;
+
+pub(crate) const SLOT: usize = 122;
+
+pub(crate) const ROOM: usize = SLOTS_AT + SLOTS * SLOT;
 
 // Zeros for the longest cell.
 const ZEROS: [u8; TITLE] = [0; TITLE];
@@ -87,6 +99,14 @@ pub(crate) fn row_of(board: usize) -> usize {
         MESSAGES_AT + board * MAX_LENGTH
     } else {
         MESSAGES_AT
+    }
+}
+
+pub(crate) fn tonight_row_of(board: usize) -> usize {
+    if board < MAX_MASTERS {
+        TONIGHT_AT + board * MAX_LENGTH
+    } else {
+        TONIGHT_AT
     }
 }
 

@@ -26,6 +26,12 @@ pub(crate) struct Load {
     pub(crate) winner: usize,
     pub(crate) carried: u64,
     pub(crate) length: u64,
+    // whether it has a correction; which boards have none, and how many bytes the corrections of the others have
+    pub(crate) corrected: bool,
+    pub(crate) standing: [bool; MAX_MASTERS],
+    pub(crate) tonight: [u32; MAX_MASTERS],
+    // the number by which the library refuses the corrections, 0: it does not
+    pub(crate) number: u8,
 }
 
 pub(crate) fn none() -> Load {
@@ -47,6 +53,10 @@ pub(crate) fn none() -> Load {
         winner: 0,
         carried: 0,
         length: 0,
+        corrected: false,
+        standing: [true; MAX_MASTERS],
+        tonight: [0; MAX_MASTERS],
+        number: 0,
     }
 }
 
@@ -89,6 +99,41 @@ impl Load {
             self.silent[board] = false;
         }
         self
+    }
+
+    // A board sends nothing.
+    pub(crate) fn without_message(mut self, board: usize) -> Load {
+        if board < MAX_MASTERS {
+            self.lengths[board] = 0;
+            self.silent[board] = true;
+        }
+        self
+    }
+
+    // A board has a correction of so many bytes.
+    pub(crate) fn with_correction(mut self, board: usize, length: u32) -> Load {
+        if board < MAX_MASTERS {
+            self.tonight[board] = length;
+            self.standing[board] = false;
+            self.corrected = true;
+        }
+        self
+    }
+
+    // The library refuses the corrections.
+    pub(crate) fn refused_by(mut self, number: u8) -> Load {
+        self.number = number;
+        self
+    }
+
+    // A board has no correction.
+    pub(crate) fn stands(self, board: usize) -> bool {
+        let standing = self.standing;
+        if board < MAX_MASTERS {
+            standing[board]
+        } else {
+            true
+        }
     }
 
     // The length of the longest message.

@@ -2,6 +2,7 @@
 use crate::clash::kept;
 use crate::clash::kept::ACKS;
 use crate::clash::kept::ACKS_AT;
+use crate::clash::kept::BYTES;
 use crate::clash::kept::MESSAGES_AT;
 use crate::clash::load::Load;
 use arbitration_rules::Arbitrated;
@@ -23,9 +24,7 @@ const BYTE: usize = 18;
 // Room for the levels of any arbitration.
 pub(crate) const LEVELS: usize = FRAME + BYTE * MAX_LENGTH;
 
-// Room for the messages of the masters, and for one length more than there may be.
-const BYTES: usize = MAX_MASTERS * MAX_LENGTH;
-
+// Room for one length more than there may be.
 const LENGTHS: usize = MAX_MASTERS + 1;
 
 // How many levels are recorded for so many bytes.
@@ -173,6 +172,14 @@ fn masters(load: Load, kept: usize) -> usize {
     }
 }
 
+// Corrections that the library refuses are a refusal of the load.
+fn refused_first(load: Load, verdict: Verdict) -> Verdict {
+    if load.number > 0 {
+        return Verdict::Refused(load.number);
+    }
+    verdict
+}
+
 // The messages of the masters, rehearsed and judged.
 fn rehearsed(
     load: Load,
@@ -184,7 +191,7 @@ fn rehearsed(
 ) -> Outcome {
     let reply = arbitration::arbitrate(bytes, lengths, acks, carried, levels);
     let verdict = verdict::judge(reply, bytes, lengths, acks);
-    told(load, reply, verdict, carried)
+    told(load, reply, refused_first(load, verdict), carried)
 }
 
 // Rehearses a load: the library gets the messages of the boards that are not silent, in the order of their numbers.

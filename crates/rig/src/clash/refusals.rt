@@ -174,6 +174,8 @@ pub(crate) fn put_words(
         14 => put_read(page, at, kept, load, board, brief),
         15 => put_acknowledges(page, at, kept, load, brief),
         16 => put_beginning(page, at, kept, load, brief),
+        40 => put_bytes(page, at, b"the boards do not rise"),
+        41 => put_bytes(page, at, b"the lengths do not fit"),
         _ => put_room(page, at, brief),
     }
 }

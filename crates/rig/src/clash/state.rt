@@ -38,6 +38,8 @@ pub(crate) struct State {
     pub(crate) source: Source,
     pub(crate) file: File,
     pub(crate) load: Load,
+    // how many corrections are kept
+    pub(crate) corrections: usize,
     pub(crate) tally: Tally,
 }
 
@@ -61,6 +63,7 @@ pub(crate) fn begun(options: Options) -> State {
         source: input::begin(0, 0),
         file: unread(),
         load: load::none(),
+        corrections: 0,
         tally: tally::none(),
     }
 }

@@ -19,6 +19,8 @@ pub(crate) struct Tally {
     broken: u64,
     // rehearsed without an ack line
     unacked: u64,
+    // with corrections, and not in error
+    corrected: u64,
     faults: u64,
     // the number of the first refusal
     number: u8,
@@ -36,6 +38,7 @@ pub(crate) fn none() -> Tally {
         refused: 0,
         broken: 0,
         unacked: 0,
+        corrected: 0,
         faults: 0,
         number: 0,
         others: 0,
@@ -97,6 +100,16 @@ impl Tally {
         self
     }
 
+    // Corrections were laid over it.
+    pub(crate) fn with_corrected(mut self) -> Tally {
+        self.corrected = more(self.corrected);
+        self
+    }
+
+    pub(crate) fn has_fault(self) -> bool {
+        self.faults > 0
+    }
+
     // A load to see: its name is kept for the last line but one, as long as there is room.
     pub(crate) fn with_seen(mut self, kept: &mut [u8]) -> Tally {
         if (self.others > 0) | !seen::fits(kept) {
@@ -128,7 +141,7 @@ fn put_word(page: &mut [u8], at: usize, tally: Tally) -> usize {
 }
 
 // What stands between the items of a list that begins at a position: nothing in front of the first.
-fn put_between(page: &mut [u8], from: usize, at: usize) -> usize {
+pub(crate) fn put_between(page: &mut [u8], from: usize, at: usize) -> usize {
     if at > from {
         return put_bytes(page, at, b", ");
     }
@@ -172,7 +185,8 @@ fn put_others(page: &mut [u8], from: usize, at: usize, tally: Tally) -> usize {
     let refused = put_item(page, from, at, tally.refused, b"# refused");
     let broken = put_item(page, from, refused, tally.broken, b"# in error");
     let unacked = put_item(page, from, broken, tally.unacked, b"# without an ack line");
-    put_faults(page, from, unacked, tally.faults)
+    let corrected = put_item(page, from, unacked, tally.corrected, b"# corrected");
+    put_faults(page, from, corrected, tally.faults)
 }
 
 fn put_loads(page: &mut [u8], at: usize, tally: Tally) -> usize {
