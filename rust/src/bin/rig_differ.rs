@@ -120,7 +120,7 @@ fn report(options: &Options, mut found: Vec<Found>) -> Result<(), String> {
     let folder = difference.folder.display();
     println!("DIFFERENCE in {}: {}", kind.word, difference.problem);
     println!("arguments: {} ({:?})", difference.arguments, difference.source);
-    println!("input:     {folder}/input, with expected, output and errors beside it");
+    println!("input:     {folder}/input, with tonight, expected, output and errors beside it");
     println!("again:     rig_differ {} --seed {seed} --count 1 --kind {}", options.program, kind.word);
     Ok(())
 }

@@ -1,5 +1,5 @@
-//! `rig_inputs SEED KIND INDEX [--arguments]`: prints one pseudo-random input file for `rig`, or the arguments
-//! that go with it.
+//! `rig_inputs SEED KIND INDEX [--arguments | --corrections]`: prints one pseudo-random input file for `rig`, or the
+//! arguments or the file of corrections that go with it.
 
 use rehearsal_model::rig::differ::argument_text;
 use rehearsal_model::rig::inputs::{Case, Kind, KINDS};
@@ -9,20 +9,22 @@ use std::process::ExitCode;
 fn main() -> ExitCode {
     let arguments: Vec<String> = std::env::args().skip(1).collect();
     let words: Vec<&str> = arguments.iter().map(String::as_str).collect();
-    let (case, only_arguments) = match words[..] {
-        [seed, kind, index] => (case(seed, kind, index), false),
-        [seed, kind, index, "--arguments"] => (case(seed, kind, index), true),
-        _ => (None, false),
+    let (case, part) = match words[..] {
+        [seed, kind, index] => (case(seed, kind, index), ""),
+        [seed, kind, index, part @ ("--arguments" | "--corrections")] => (case(seed, kind, index), part),
+        _ => (None, ""),
     };
     let Some(case) = case else {
-        eprintln!("usage: rig_inputs SEED KIND INDEX [--arguments]; KIND is one of");
+        eprintln!("usage: rig_inputs SEED KIND INDEX [--arguments | --corrections]; KIND is one of");
         eprintln!("  {}", KINDS.map(|kind| kind.word).join(" "));
         return ExitCode::FAILURE;
     };
-    let text = if only_arguments {
-        format!("{}  (input: {:?})\n", argument_text(&case.arguments), case.source).into_bytes()
-    } else {
-        case.input
+    let text = match part {
+        "--arguments" => {
+            format!("{}  (input: {:?})\n", argument_text(&case.arguments), case.source).into_bytes()
+        }
+        "--corrections" => case.tonight,
+        _ => case.input,
     };
     match stdout().write_all(&text) {
         Ok(()) => ExitCode::SUCCESS,
@@ -33,5 +35,5 @@ fn main() -> ExitCode {
 fn case(seed: &str, kind: &str, index: &str) -> Option<Case> {
     let seed: u64 = seed.parse().ok()?;
     let index: u64 = index.parse().ok()?;
-    Some(Kind::named(kind)?.draw(seed.wrapping_add(index), b"FILE"))
+    Some(Kind::named(kind)?.draw(seed.wrapping_add(index), b"FILE", b"TONIGHT"))
 }

@@ -10,6 +10,7 @@ const NO_COMMAND: &str = "expected a command: clash, decode, encode or session";
 const NO_FILE: &str = "expected a file, or - for standard input";
 const INPUT_TWICE: &str = "- stands twice: standard input is read once";
 const NO_NUMBER: &str = "expected a number after --room";
+const NO_CORRECTIONS: &str = "expected a file after --corrections";
 const LONG_ARGUMENT: &str = "an argument is longer than 4096 bytes";
 const ONE_MODE: &str = "--standard does not go with --fast";
 const TABLE_ALONE: &str = "--table goes with neither --registers nor --wave";
@@ -34,6 +35,10 @@ pub struct Options {
     pub standard: bool,
     pub fast: bool,
     pub room: Option<u64>,
+    /// The file of tonight's corrections; `-` is standard input.
+    pub corrections: Option<String>,
+    /// `-` stands among the words.
+    reads_input: bool,
 }
 
 impl Command {
@@ -56,7 +61,8 @@ impl Options {
     pub fn new(command: Command) -> Options {
         let files = Vec::new();
         let (table, registers, wave, standard, fast) = (false, false, false, false, false);
-        Options { command, files, table, registers, wave, standard, fast, room: None }
+        let (room, corrections, reads_input) = (None, None, false);
+        Options { command, files, table, registers, wave, standard, fast, room, corrections, reads_input }
     }
 
     /// The room lent: the lesser of `most` and what `--room` says.
@@ -73,7 +79,15 @@ impl Options {
         }
     }
 
-    /// One word after the command; `--room` takes the next one too.
+    /// Standard input is read once.
+    fn file(&mut self, word: &str) -> Result<String, String> {
+        if word == "-" && std::mem::replace(&mut self.reads_input, true) {
+            return Err(INPUT_TWICE.to_string());
+        }
+        Ok(word.to_string())
+    }
+
+    /// One word after the command; `--room` and `--corrections` take the next one too.
     fn word<'a>(&mut self, word: &str, rest: &mut impl Iterator<Item = &'a String>) -> Result<(), String> {
         let clash = self.command == Command::Clash;
         match short(word)? {
@@ -83,14 +97,21 @@ impl Options {
             "--standard" if self.command == Command::Decode => self.standard = true,
             "--fast" if self.command == Command::Decode => self.fast = true,
             "--room" if self.command != Command::Session => self.room = Some(room(rest.next())?),
+            "--corrections" if clash => {
+                let file = short(rest.next().ok_or(NO_CORRECTIONS)?)?;
+                self.corrections = Some(self.file(file)?);
+            }
             word if word.starts_with("--") => {
                 return Err(format!("unknown option {} for {}", quoted(word), self.command.word()));
             }
-            "-" if self.files.iter().any(|file| file == "-") => return Err(INPUT_TWICE.to_string()),
+            "-" if self.reads_input => return Err(INPUT_TWICE.to_string()),
             word if !clash && !self.files.is_empty() => {
                 return Err(format!("a second file {}: {} reads one", quoted(word), self.command.word()));
             }
-            word => self.files.push(word.to_string()),
+            word => {
+                let file = self.file(word)?;
+                self.files.push(file);
+            }
         }
         Ok(())
     }

@@ -3,12 +3,14 @@
 use super::arguments::Options;
 use super::files;
 use super::text::printable;
+use corrections::Corrections;
 use reading::Reading;
 use std::io::Read;
 use tally::Tally;
 
 mod block;
 mod boards;
+mod corrections;
 mod load;
 mod reading;
 mod refused;
@@ -23,25 +25,46 @@ struct Night<'a> {
     output: String,
     notes: String,
     tally: Tally,
+    corrections: Corrections,
 }
 
 /// Standard output and the notes.
 pub fn clash(options: &Options, input: &mut dyn Read) -> (String, String) {
-    let mut night = Night { options, output: String::new(), notes: String::new(), tally: Tally::default() };
+    let mut night = Night {
+        options,
+        output: String::new(),
+        notes: String::new(),
+        tally: Tally::default(),
+        corrections: Corrections::default(),
+    };
     if options.table {
         night.line(table::header());
     }
-    for file in &options.files {
-        if options.files.len() > 1 {
-            night.line(format!("file {}", printable(file)));
-        }
-        Reading::new(&mut night, file).whole(&files::read(file, input));
+    let corrections = options.corrections.as_ref().map(|file| Corrections::read(&files::read(file, input)));
+    match corrections.transpose() {
+        Ok(corrections) => night.rehearse(corrections.unwrap_or_default(), input),
+        Err(words) => night.fault(&format!("{words}; nothing is rehearsed")),
     }
     let last = night.tally.last_lines();
     (night.output + &last, night.notes)
 }
 
 impl Night<'_> {
+    /// Every file, with these corrections over its loads.
+    fn rehearse(&mut self, corrections: Corrections, input: &mut dyn Read) {
+        self.corrections = corrections;
+        let files = &self.options.files;
+        for file in files {
+            if files.len() > 1 {
+                self.line(format!("file {}", printable(file)));
+            }
+            Reading::new(self, file).whole(&files::read(file, input));
+        }
+        for words in self.corrections.not_met() {
+            self.fault(&words);
+        }
+    }
+
     fn line(&mut self, line: String) {
         self.output += &line;
         self.output.push('\n');

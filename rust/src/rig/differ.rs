@@ -54,8 +54,10 @@ impl Differ {
     /// One case of a kind; counts how it ended.
     pub fn compare(&self, kind: &Kind, seed: u64, counts: &mut Counts) -> Result<(), Difference> {
         let file = self.folder.join("input");
-        let case = kind.draw(seed, file.as_os_str().as_bytes());
+        let tonight = self.folder.join("tonight");
+        let case = kind.draw(seed, file.as_os_str().as_bytes(), tonight.as_os_str().as_bytes());
         fs::write(&file, &case.input).expect("the folder takes the input");
+        fs::write(&tonight, &case.tonight).expect("the folder takes the corrections");
         let standard = if case.source == Source::File { &[][..] } else { &case.input[..] };
         let expected = super::answer(&case.arguments, &mut &standard[..]).output;
         counts.add(format!("{}: {}", kind.word, ending(&expected)));

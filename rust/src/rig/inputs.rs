@@ -11,6 +11,7 @@ mod decode;
 mod encode;
 mod page;
 mod session;
+mod tonight;
 
 /// A kind of input: the command it is for, and how its file is drawn.
 #[derive(Clone, Copy)]
@@ -49,6 +50,8 @@ pub struct Case {
     pub arguments: Vec<Vec<u8>>,
     pub input: Vec<u8>,
     pub source: Source,
+    /// A second file, of corrections, which the arguments may name.
+    pub tonight: Vec<u8>,
 }
 
 impl Kind {
@@ -56,18 +59,23 @@ impl Kind {
         KINDS.into_iter().find(|kind| kind.word == word)
     }
 
-    /// The case of this seed; `file` is the name under which the program finds the input.
-    pub fn draw(&self, seed: u64, file: &[u8]) -> Case {
+    /// The case of this seed; `file` and `tonight` are the names under which the program finds the two files.
+    pub fn draw(&self, seed: u64, file: &[u8], tonight: &[u8]) -> Case {
         let salt = self.word.bytes().fold(0, |salt: u64, byte| salt.wrapping_mul(257) + u64::from(byte));
         let mut random = Random::new(Random::new(seed).bits() ^ salt);
         let input = (self.text)(&mut random);
         let source = draw_source(&mut random);
-        let arguments = if self.command.is_empty() {
-            arguments::any(&mut random, file)
+        let mut arguments = if self.command.is_empty() {
+            arguments::any(&mut random, file, tonight)
         } else {
             arguments::proper(&mut random, self.command, source, file)
         };
-        Case { arguments, input, source }
+        let corrected = self.command == "clash" && random.once_in(3);
+        if corrected {
+            arguments::correct(&mut random, &mut arguments, file, tonight);
+        }
+        let tonight = if corrected { tonight::some(&mut random, &input) } else { b"end 0\n".to_vec() };
+        Case { arguments, input, source, tonight }
     }
 }
 

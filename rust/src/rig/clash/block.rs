@@ -10,6 +10,11 @@ use crate::rig::text::{counted, hex};
 
 pub fn block(load: &Load, boards: &Boards, result: &Result, options: &Options) -> String {
     let mut lines = vec![format!("load {}", load.heading())];
+    if !load.corrected.is_empty() {
+        let corrected: Vec<String> =
+            load.corrected.iter().map(|&number| format!("{number} {}", boards.short(number))).collect();
+        lines.push(format!("  corrected {}", corrected.join(", ")));
+    }
     match result {
         Result::InError => lines.push("  ERROR: not rehearsed".to_string()),
         Result::Refused(refusal) => {

@@ -20,10 +20,7 @@ impl Boards {
             if names.len() == BOARDS {
                 return Err(format!("more than {BOARDS} boards"));
             }
-            if !is_name(word) {
-                let name = "a name of 1 to 16 bytes that begins with a letter and is no byte";
-                return Err(expected(name, Some(word)));
-            }
+            check_name(word)?;
             if names.iter().any(|name| name == word) {
                 return Err(format!("board {} is named twice", quoted(word)));
             }
@@ -81,7 +78,11 @@ impl Boards {
     }
 }
 
-fn is_name(word: &str) -> bool {
+/// The error if a word is no board's name.
+pub fn check_name(word: &str) -> Result<(), String> {
     let letter = word.starts_with(|letter: char| letter.is_ascii_alphabetic());
-    letter && word.chars().count() <= NAME_BYTES && short_byte(word).is_none()
+    if letter && word.chars().count() <= NAME_BYTES && short_byte(word).is_none() {
+        return Ok(());
+    }
+    Err(expected("a name of 1 to 16 bytes that begins with a letter and is no byte", Some(word)))
 }

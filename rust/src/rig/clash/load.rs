@@ -1,9 +1,10 @@
 //! A load as the lines of the file give it.
 
 use super::boards::Boards;
+use crate::refusal::Refusal;
 use crate::rig::text::{beginning, byte, decimal, expected, short_byte};
 
-const NAME_BYTES: usize = 32;
+pub const NAME_BYTES: usize = 32;
 const TITLE_BYTES: usize = 64;
 
 /// A board of a load: its number, the line it stands on and its message; none: it is silent.
@@ -36,6 +37,10 @@ pub struct Load {
     pub acks: Option<Acks>,
     pub expected: Option<Expected>,
     pub in_error: bool,
+    /// The numbers of its corrected boards, in rising order.
+    pub corrected: Vec<usize>,
+    /// Why the corrections cannot be laid over it.
+    pub not_laid: Option<Refusal>,
 }
 
 impl Load {
@@ -55,7 +60,8 @@ impl Load {
         };
         let (name, title) = (beginning(name, NAME_BYTES), beginning(&title, TITLE_BYTES));
         let boards = Vec::new();
-        let load = Load { name, title, line, boards, acks: None, expected: None, in_error: false };
+        let (acks, expected, corrected, not_laid) = (None, None, Vec::new(), None);
+        let load = Load { name, title, line, boards, acks, expected, in_error: false, corrected, not_laid };
         (load, wrong)
     }
 
@@ -134,7 +140,7 @@ impl Load {
 }
 
 /// What a board sends: bytes, or nothing at all after `-`.
-fn message(words: &[&str]) -> Result<Option<Vec<u8>>, String> {
+pub fn message(words: &[&str]) -> Result<Option<Vec<u8>>, String> {
     match words {
         ["-"] => Ok(None),
         ["-", extra, ..] => Err(expected("nothing after -", Some(extra))),

@@ -177,17 +177,9 @@ impl<'a, 'b> Reading<'a, 'b> {
     }
 
     fn end(&mut self, line: usize, words: &[&str]) -> Next {
-        const FORM: &str = "end N, the number of loads";
         self.finish(false);
         self.end = Some(line);
-        let number = match words {
-            [] => Err(expected(FORM, None)),
-            [word] => decimal(word).ok_or_else(|| expected(FORM, Some(word))),
-            [word, extra, ..] => {
-                Err(expected(FORM, Some(if decimal(word).is_some() { extra } else { word })))
-            }
-        };
-        match number {
+        match said_by_end(words) {
             Ok(number) if number == self.loads as u64 => Next::Line,
             Ok(number) => self.wrong(line, self.wrong_count(number)),
             Err(words) => self.wrong(line, words),
@@ -217,6 +209,9 @@ impl<'a, 'b> Reading<'a, 'b> {
             let words = "the file ends without an end line; this load may be cut short";
             self.night.line(format!("! load {}: {words}", load.name));
         }
+        for words in self.night.corrections.lay_over(&mut load, boards) {
+            self.night.line(format!("! {words}"));
+        }
         self.night.show(&load, boards);
         cut_short
     }
@@ -243,6 +238,16 @@ impl<'a, 'b> Reading<'a, 'b> {
             load.in_error = true;
         }
         self.finish(false);
+    }
+}
+
+/// The number after `end`.
+pub fn said_by_end(words: &[&str]) -> Result<u64, String> {
+    const FORM: &str = "end N, the number of loads";
+    match words {
+        [] => Err(expected(FORM, None)),
+        [word] => decimal(word).ok_or_else(|| expected(FORM, Some(word))),
+        [word, extra, ..] => Err(expected(FORM, Some(if decimal(word).is_some() { extra } else { word }))),
     }
 }
 

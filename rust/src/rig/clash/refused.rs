@@ -20,6 +20,8 @@ pub fn words(load: &Load, boards: &Boards, refusal: Refusal) -> Words {
         Reason::ReadMessage => read(boards, senders[refusal.place]),
         Reason::Acknowledges => acks(load, boards, &senders),
         Reason::Undecided => begins(boards, &senders),
+        Reason::BoardsDoNotRise => pair("the boards do not rise", "the boards do not rise"),
+        Reason::BoardLengths => pair("the lengths do not fit", "the lengths do not fit"),
         _ => pair("the reply needs more room than was lent", "too little room"),
     }
 }

@@ -41,6 +41,9 @@ impl<'a> Result<'a> {
         if load.in_error {
             return Result::InError;
         }
+        if let Some(refusal) = load.not_laid {
+            return Result::Refused(refusal);
+        }
         let senders = load.senders();
         let acks = acknowledges(load);
         let bytes: Vec<u8> = senders.iter().flat_map(|(_, message)| message.to_vec()).collect();

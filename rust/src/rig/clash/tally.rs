@@ -17,6 +17,7 @@ pub struct Tally {
     refused: usize,
     in_error: usize,
     without_acks: usize,
+    corrected: usize,
     /// What was wrong outside the loads.
     pub faults: usize,
     first_refusal: u8,
@@ -28,6 +29,7 @@ pub struct Tally {
 impl Tally {
     pub fn count(&mut self, load: &Load, result: &Result) {
         self.loads += 1;
+        self.corrected += usize::from(!load.corrected.is_empty());
         match result {
             Result::InError => self.in_error += 1,
             Result::Refused(refusal) => {
@@ -89,6 +91,7 @@ impl Tally {
             (self.refused, "refused"),
             (self.in_error, "in error"),
             (self.without_acks, "without an ack line"),
+            (self.corrected, "corrected"),
         ];
         let mut words: Vec<String> = counts
             .iter()

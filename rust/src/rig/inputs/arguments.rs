@@ -58,6 +58,20 @@ fn another(random: &mut Random, file: &[u8]) -> Vec<u8> {
     }
 }
 
+/// A file of corrections before the files or after them; now and then none, or one that cannot be read.
+pub fn correct(random: &mut Random, arguments: &mut Vec<Vec<u8>>, file: &[u8], tonight: &[u8]) {
+    let name = match random.below(48) {
+        0 => another(random, file),
+        1 => random.pick(&["", "--table", "/", "--room"]).into(),
+        _ => tonight.to_vec(),
+    };
+    let place = random.pick(&[1, arguments.len()]);
+    arguments.splice(place..place, [b"--corrections".to_vec(), name]);
+    if random.once_in(48) {
+        arguments.push(b"--corrections".to_vec());
+    }
+}
+
 /// Rooms about what is needed, and about the most that is lent.
 fn room(random: &mut Random, command: &str) -> String {
     let rooms: &[&str] = match command {
@@ -83,7 +97,7 @@ pub fn text(random: &mut Random) -> Vec<u8> {
 }
 
 /// Up to five arguments: commands, options, files that are there or not, and words that are neither.
-pub fn any(random: &mut Random, file: &[u8]) -> Vec<Vec<u8>> {
+pub fn any(random: &mut Random, file: &[u8], tonight: &[u8]) -> Vec<Vec<u8>> {
     let mut arguments = Vec::new();
     if !random.once_in(24) {
         arguments.push(first(random));
@@ -92,7 +106,9 @@ pub fn any(random: &mut Random, file: &[u8]) -> Vec<Vec<u8>> {
         arguments.push(match random.below(24) {
             0..=4 => file.to_vec(),
             5..=7 => random.pick(&["--table", "--table", "--wave", "--registers", "--standard", "--fast"]).into(),
-            8..=11 => b"--room".to_vec(),
+            8..=9 => b"--room".to_vec(),
+            10 => b"--corrections".to_vec(),
+            11 => tonight.to_vec(),
             12..=14 => random.pick(&["0", "23", "4096", "x", "99999999999999999999", "5x"]).into(),
             15 => b"-".to_vec(),
             16 => random.pick(&["clash", "decode", "encode", "session", "help"]).into(),

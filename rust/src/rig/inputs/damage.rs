@@ -14,7 +14,7 @@ pub fn some(random: &mut Random, text: fn(&mut Random) -> Vec<u8>) -> Vec<u8> {
     bytes
 }
 
-fn one(random: &mut Random, bytes: &mut Vec<u8>) {
+pub fn one(random: &mut Random, bytes: &mut Vec<u8>) {
     let place = random.below(bytes.len() + 1);
     match random.below(16) {
         0..=2 => bytes.truncate(place),
