@@ -74,6 +74,9 @@ commands() {
     expect 2 "error unknown option '--fast' for session" session --fast
     expect 2 "error - stands twice: standard input is read once" clash - "$examples/sent.loads" -
     expect 2 "error - stands twice: standard input is read once" decode - -
+    expect 2 "error - stands twice: standard input is read once" clash - --corrections -
+    expect 2 "error expected a file after --corrections" clash - --corrections
+    expect 2 "error unknown option '--corrections' for decode" decode - --corrections x
     expect 2 "error --standard does not go with --fast" decode - --standard --fast
     expect 2 "error a second file 'b': decode reads one" decode a b
     expect 2 "error --table goes with neither --registers nor --wave" clash - --table --wave
@@ -133,6 +136,47 @@ slips() {
     input "boards p" "load x" "board p 50" "ack all" "load x" "board p 52" "ack all" "end 2"
     expect 2 "error 2 loads: 1 sent, 1 in error" clash -
     has "! line 5: load x: this name was taken on line 2"
+}
+
+# Tonight's corrections: which boards, what cannot be corrected, and a file of them that is wrong stops everything.
+corrections() {
+    local night=$examples/night.loads tonight=$examples/night.corrections nothing="error 0 loads: 1 fault outside the loads"
+    input
+    expect 3 "look 40 loads: 34 sent, 6 cut, 1 corrected" clash "$night" --corrections "$tonight"
+    has "  corrected 1 thermal, 2 attitude" "  WON    5 payload   50 18 C4 02 7E           sent 5 of 5 bytes" "  silent 1 thermal"
+    expect 3 "look 80 loads: 68 sent, 12 cut, 2 corrected" clash "$night" --corrections "$tonight" "$night" --table
+    expect 2 "error 3 loads: 3 sent, 1 without an ack line, 1 fault outside the loads" \
+        clash "$examples/sent.loads" --corrections "$tonight"
+    has "! corrections line 6: load upload-40 is in none of the files"
+    input "load upload-40" "board attitude 50 18 C4 03" "board camera -" "end 1"
+    expect 2 "error 40 loads: 33 sent, 6 cut, 1 in error" clash "$night" --corrections -
+    has "! corrections line 3: load upload-40: no board 'camera' on line 4"
+    input "load alone" "board power 50 26" "board radio 62" "end 1"
+    expect 3 "look 3 loads: 2 sent, 1 not as expected, 1 without an ack line, 1 corrected" \
+        clash "$examples/sent.loads" --corrections -
+    input "load equal" "board thermal 50 18" "board radio 50 17" "end 1"
+    expect 1 "refused 15: 3 loads: 2 sent, 1 refused, 1 without an ack line, 1 corrected" \
+        clash "$examples/sent.loads" --corrections -
+    has "  refused 15: 3 acknowledges (line 15) for the 2 bytes of power (line 12), the longest"
+    input "load alone" "board power 50 2" "end 1"
+    expect 2 "$nothing" clash "$night" --corrections -
+    has "! corrections line 2: expected bytes of two hexadecimal digits, not '2'; nothing is rehearsed"
+    expect 2 "$nothing" clash "$night" --corrections none
+    has "! cannot open none: no such file; nothing is rehearsed"
+    expect 2 "$nothing" clash none "$night" --corrections .
+    has "! cannot read .: it is a directory; nothing is rehearsed"
+}
+
+# Corrections that are cut short anywhere stop everything.
+cut_corrections() {
+    local size n
+    size=$(wc -c <"$examples/night.corrections")
+    for ((n = 0; n < size - 2; n += 7)); do
+        head -c $n "$examples/night.corrections" >in
+        "$rig" clash "$examples/night.loads" --corrections - <in >out 2>err
+        holds "[ $? = 2 ]" "the first $n bytes of night.corrections: $(tail -n 1 out)"
+        holds '[ "$(wc -l <out)" = 2 ] && head -n 1 out | grep -q "; nothing is rehearsed$"' "it is rehearsed: $(cat out)"
+    done
 }
 
 # A night that is cut short anywhere never ends with ok, and its last load is not rehearsed.
@@ -488,6 +532,7 @@ stored() {
         case $command in
             table) "$rig" clash "$file" --table ;;
             whole) "$rig" clash "$file" --registers --wave ;;
+            corrected) "$rig" clash "${file%.corrections}.loads" --corrections "$file" ;;
             *) "$rig" "$command" "$file" ;;
         esac >out 2>>err
         holds "cmp -s out '$stored'" "$name: not the stored output: $(diff out "$stored" | head -n 3)"
@@ -534,6 +579,7 @@ truncated() {
         for ((n = 1; n < size && n < 3000; n += 10)); do head -c $n "$file" >"cut/$n.${file##*/}"; done
     done
     run_on "clash --table" cut/*.loads >all
+    run_on "clash $examples/sent.loads --corrections" cut/*.corrections >>all
     run_on decode cut/*.trace >>all
     run_on encode cut/*.events >>all
     run_on session cut/*.session >>all
@@ -563,7 +609,8 @@ random() {
             printf '%s' "$text" >random/$i
         fi
     done
-    run_on clash random/*0 random/*4 random/*8 >all
+    run_on clash random/*0 random/*4 >all
+    run_on "clash $examples/sent.loads --corrections" random/*8 >>all
     run_on decode random/*1 random/*5 random/*9 >>all
     run_on encode random/*2 random/*6 >>all
     run_on session random/*3 random/*7 >>all
@@ -589,7 +636,7 @@ fi
 if [ -z "${RIG_PROGRAM:-}" ]; then "$rig" build >out || { cat out && exit 1; }; fi
 program=$(readlink -f "${RIG_PROGRAM:-$root/target/bin/rig}")
 [ -z "${RIG_PROGRAM:-}" ] || export RIG_PROGRAM=$program
-for part in commands help slips cut_short refusals wrong_lines night many_loads sessions traces captures lists \
+for part in commands help slips corrections cut_corrections cut_short refusals wrong_lines night many_loads sessions traces captures lists \
     round_trips streams terminal $builds stored truncated random answers; do
     $part
 done

@@ -63,6 +63,7 @@ fn examples() -> Vec<(String, Vec<u8>)> {
             "loads" => {
                 &[("clash", "clash"), ("table", "clash --table"), ("whole", "clash --registers --wave")]
             }
+            "corrections" => &[("corrected", "clash --corrections")],
             "trace" => &[("decode", "decode")],
             "events" => &[("encode", "encode")],
             "session" => &[("session", "session")],
@@ -70,7 +71,13 @@ fn examples() -> Vec<(String, Vec<u8>)> {
         };
         for (name, words) in words {
             let mut arguments: Vec<Vec<u8>> = words.split(' ').map(Into::into).collect();
-            arguments.insert(1, format!("{}/examples/{file}", top()).into_bytes());
+            let path = format!("{}/examples/{file}", top());
+            if kind == "corrections" {
+                arguments.push(path.replace(".corrections", ".loads").into_bytes());
+                arguments.insert(2, path.into_bytes());
+            } else {
+                arguments.insert(1, path.into_bytes());
+            }
             answers.push((format!("{name}.{file}"), answer(&arguments, &mut std::io::empty()).output));
         }
     }

@@ -3,21 +3,28 @@
 use rehearsal_model::rig::answer;
 use rehearsal_model::rig::differ::verdict;
 use rehearsal_model::rig::inputs::{Kind, Source, KINDS};
+use std::fs::write;
+use std::thread::current;
 
-/// A file that is not there: the input stands in for it.
+/// A file that is not there: the input stands in for it. The corrections are in a file of the test's own.
 fn output(kind: &Kind, seed: u64) -> Vec<u8> {
-    let case = kind.draw(seed, b"-");
+    let thread = format!("{:?}", current().id()).replace(['(', ')'], "");
+    let tonight = format!("{}/tonight.{thread}", env!("CARGO_TARGET_TMPDIR"));
+    let case = kind.draw(seed, b"-", tonight.as_bytes());
+    write(&tonight, &case.tonight).unwrap();
     answer(&case.arguments, &mut &case.input[..]).output
 }
 
 #[test]
 fn the_same_again() {
     for kind in KINDS {
-        let (first, second) = (kind.draw(5, b"FILE"), kind.draw(5, b"FILE"));
+        let draw = |seed| kind.draw(seed, b"FILE", b"TONIGHT");
+        let (first, second) = (draw(5), draw(5));
         assert_eq!((&first.input, &first.arguments), (&second.input, &second.arguments), "{}", kind.word);
-        assert!((0..50).any(|seed| kind.draw(seed, b"FILE").input != first.input), "{}", kind.word);
-        let named = |seed| kind.draw(seed, b"FILE").arguments.contains(&b"FILE".to_vec());
-        assert!((0..50).any(named) && (0..50).any(|seed| kind.draw(seed, b"F").source != Source::File));
+        assert_eq!(first.tonight, second.tonight, "{}", kind.word);
+        assert!((0..50).any(|seed| draw(seed).input != first.input), "{}", kind.word);
+        let named = |seed| draw(seed).arguments.contains(&b"FILE".to_vec());
+        assert!((0..50).any(named) && (0..50).any(|seed| draw(seed).source != Source::File));
     }
 }
 
@@ -82,6 +89,19 @@ fn clash_files_reach_every_error() {
 }
 
 #[test]
+fn corrections_reach_every_answer() {
+    let texts = "  corrected 0 |, 1 |\n  refused 1| corrected\n| corrected, 1 fault|is in none of the files\
+        |: no board '|; nothing is rehearsed|! cannot open|! cannot read|corrections: the file ends without\
+        |expected load or end, not|expected load, board or end|has no board line\
+        |expected a name of 1 to 32 bytes;|expected a name of 1 to 32 bytes, not|expected load NAME, one word\
+        |this name was taken on line|more than 256 corrections|expected board NAME and its bytes, or - for none;\
+        |expected a name of 1 to 16 bytes|a second line for board|expected nothing after -|two hexadecimal digits\
+        |bytes, and at most 32 may be sent;|expected end N, the number of loads;|number of loads, not\
+        |: end says|: after end (line|: longer than 4096 bytes;|: a byte that is no text;";
+    check_reach("clash", &texts.split('|').collect::<Vec<_>>());
+}
+
+#[test]
 fn decode_inputs_reach_every_answer() {
     let texts = "refused 4 sample |refused 5: |refused 6: |refused 7 sample |refused 8: |: expected STAMP\
         |: the stamp is|: the level is|: longer than|: a byte that is no|cut byte|repeated START\
@@ -114,6 +134,7 @@ fn command_lines_reach_every_answer() {
     let texts =
         "expected a command|unknown command '|expected a file|number after --room\n|number after --room, not\
         |unknown option '--brief'|unknown option '--odd|longer than 4096|no such file|it is a directory\
-        |the name is too long|a second file '|--table goes with|aaaa..'";
+        |the name is too long|a second file '|--table goes with|aaaa..'\
+        |expected a file after --corrections|unknown option '--corrections'";
     check_reach("arguments", &texts.split('|').collect::<Vec<_>>());
 }

@@ -4,6 +4,7 @@ mod arguments;
 mod clash;
 mod clash_files;
 mod clash_table;
+mod corrections;
 mod decode;
 mod differ;
 mod encode;
