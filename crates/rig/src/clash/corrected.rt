@@ -36,14 +36,17 @@ fn cut(length: u32) -> u32 {
     least(length as usize, MAX_LENGTH) as u32
 }
 
-fn cut_lengths(lengths: [u32; MAX_MASTERS]) -> [u32; MAX_MASTERS] {
-    let mut rows = [0u32; MAX_MASTERS];
-    let mut i: usize = 0;
-    while i < MAX_MASTERS {
-        rows[i] = cut(lengths[i]);
-        i += 1;
-    }
-    rows
+fn cut_all(lengths: [u32; MAX_MASTERS]) -> [u32; MAX_MASTERS] {
+    [
+        cut(lengths[0]),
+        cut(lengths[1]),
+        cut(lengths[2]),
+        cut(lengths[3]),
+        cut(lengths[4]),
+        cut(lengths[5]),
+        cut(lengths[6]),
+        cut(lengths[7]),
+    ]
 }
 
 // A correction for the load that is being read marks that it was met.
@@ -185,7 +188,8 @@ fn over_standing(
     let mut standing_boards = [0u32; MAX_MASTERS];
     let mut standing_lengths = [0u32; MAX_MASTERS];
     let silent = load.silent;
-    let rows = cut_lengths(load.lengths);
+    let lengths_said = load.lengths;
+    let rows = cut_all(lengths_said);
     let size = gather(
         kept::part(kept, MESSAGES_AT, BYTES),
         rows,
