@@ -441,6 +441,8 @@ terminal() {
         printf '\004' | script -qec "$rig $words" /dev/null >out 2>&1
         holds 'grep -q "^rig: waiting for .*Ctrl-D" out' "rig $words at a terminal: $(cat out)"
     done
+    printf '\004' | script -qec "$rig clash $examples/p8.loads --corrections -" /dev/null >out 2>&1
+    holds 'grep -q "^rig: waiting for corrections; Ctrl-D" out' "corrections at a terminal: $(cat out)"
     printf '\004' | script -qec "$rig clash $examples/p8.loads" /dev/null >out 2>&1
     holds '! grep -q waiting out' "a file is read, and it says that it waits"
 }

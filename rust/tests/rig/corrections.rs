@@ -81,7 +81,10 @@ fn a_message_that_is_too_long_or_empty() {
     let night = |message: &str| format!("boards p q\nload x\nboard p{message}\nboard q 62\nack all\nend 1\n");
     let long = " 50".repeat(40);
     let output = corrected("", &night(&long), "load x\nboard q 50\nend 1\n");
-    assert!(output.contains("  refused 13: p (line 3) has 40 bytes, and at most 32 may be sent\n"), "{output}");
+    assert!(
+        output.contains("  refused 13: p (line 3) has 40 bytes, and at most 32 may be sent\n"),
+        "{output}"
+    );
     assert_eq!(last(&night(&long), "load x\nboard p 50\nend 1\n"), "ok 1 load: 1 sent, 1 corrected");
     let output = corrected("", &night(""), "load x\nboard q 50\nend 1\n");
     assert!(output.contains("  silent 0 p\n"), "{output}");
@@ -91,7 +94,8 @@ fn a_message_that_is_too_long_or_empty() {
 fn a_load_in_error_is_not_corrected() {
     let night = NIGHT.replace("board r -\nack all", "ack all");
     let output = corrected("", &night, "load x\nboard p 50\nboard none 50\nend 1\n");
-    let expected = "! line 2: load x: no line for board r (boards: line 1)\nload x first\n  ERROR: not rehearsed\n";
+    let expected =
+        "! line 2: load x: no line for board r (boards: line 1)\nload x first\n  ERROR: not rehearsed\n";
     assert!(output.starts_with(expected), "{output}");
     assert!(output.ends_with("\nerror 2 loads: 1 sent, 1 in error\n"), "{output}");
 }
@@ -157,7 +161,10 @@ fn whatever_is_wrong_stops_everything() {
         ("load x\nboard p", "corrections line 2: expected board NAME and its bytes, or - for none"),
         ("load x\nboard p - -", "corrections line 2: expected nothing after -, not '-'"),
         ("load x\nboard p 5", "corrections line 2: expected bytes of two hexadecimal digits, not '5'"),
-        ("load x\nboard p -\nboard p x", "corrections line 3: a second line for board p, the first is line 2"),
+        (
+            "load x\nboard p -\nboard p x",
+            "corrections line 3: a second line for board p, the first is line 2",
+        ),
         ("load x\nboard p -\nend", "corrections line 3: expected end N, the number of loads"),
         ("load x\nboard p -\nend 1 2", "corrections line 3: expected end N, the number of loads, not '2'"),
         ("load x\nboard p -\nend 2", "corrections line 3: end says 2, and the file has 1 load"),
@@ -190,7 +197,8 @@ fn the_most_bytes_and_corrections() {
 #[test]
 fn files_that_cannot_be_read() {
     for (file, words) in [("/none", "open /none: no such file"), ("/", "read /: it is a directory")] {
-        let expected = format!("! cannot {words}; nothing is rehearsed\nerror 0 loads: 1 fault outside the loads\n");
+        let expected =
+            format!("! cannot {words}; nothing is rehearsed\nerror 0 loads: 1 fault outside the loads\n");
         assert_eq!(rig(&format!("clash - --corrections {file}"), NIGHT), expected);
     }
     let table = rig("clash x y --table --corrections -", "end 1");

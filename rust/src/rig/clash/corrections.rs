@@ -128,7 +128,9 @@ impl Corrections {
             Some(bytes) if bytes.is_empty() => return Err(nothing()),
             Some(bytes) if bytes.len() > MESSAGE_BYTES => {
                 let count = bytes.len();
-                return Err(format!("board {board} has {count} bytes, and at most {MESSAGE_BYTES} may be sent"));
+                return Err(format!(
+                    "board {board} has {count} bytes, and at most {MESSAGE_BYTES} may be sent"
+                ));
             }
             Some(bytes) => bytes,
         };
