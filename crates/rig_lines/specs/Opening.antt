@@ -18,7 +18,7 @@ pub data Opening (argument : ℕ) (name : List ℕ) : Opened → Type 0 where
   standard : argument ≡ 0 → Opening argument name (Source (begun (pos 0) 0))
   dash : name ≡ ascii "-" → Opening argument name (Source (begun (pos 0) 0))
   file :
-    (fd : ℤ) → (argument ≡ 0 → ⊥) → (name ≡ ascii "-" → ⊥) → Opening argument name (Source (begun fd argument))
+      (fd : ℤ) → (argument ≡ 0 → ⊥) → (name ≡ ascii "-" → ⊥) → Opening argument name (Source (begun fd argument))
   failed : (errno : ℕ) → (argument ≡ 0 → ⊥) → (name ≡ ascii "-" → ⊥) → Opening argument name (Failed errno)
 
 -- why the system refuses a file, by the error's number
