@@ -168,7 +168,7 @@ class Definitions:
     def write(self, crate, texts):
         source, target = self.tree.root / "crates" / crate, self.root / crate
         (target / "src").mkdir(parents=True)
-        (target / "src" / "lib.rt").write_text(types((source / "src" / "lib.rt").read_text()))
+        self.write_types(source / "src", target / "src")
         if (source / "specs").is_dir():
             shutil.copytree(source / "specs", target / "specs")
         modules = {module: text for (owner, module), text in texts.items() if owner == crate}
@@ -177,6 +177,19 @@ class Definitions:
             (target / "proofs" / "Lib.antt").write_text("".join(f"pub mod {module}\n" for module in sorted(modules)))
         for module, text in modules.items():
             (target / "proofs" / f"{module}.antt").write_text(text)
+
+    def write_types(self, source, target):
+        """The types of the root file, and of each module that declares one, which the root file shows as before."""
+        root, parts = (source / "lib.rt").read_text(), []
+        for path in sorted(source.glob("*.rt")):
+            kept = types(path.read_text())
+            if path.name == "lib.rt" or not re.search(r"^(pub(\(crate\))? )?(struct|enum) ", kept, re.M):
+                continue
+            (target / path.name).write_text(kept)
+            parts.append(f"mod {path.stem};")
+            shown = re.findall(rf"^pub use {path.stem}::(\w+);", root, re.M)
+            parts += [f"pub use {path.stem}::{item};" for item in shown if re.search(rf"\b(struct|enum) {item}\b", kept)]
+        (target / "lib.rt").write_text("\n".join([*parts, types(root)]))
 
     def named(self, crate):
         """The crates that what is written of one names, and those that they name, lowest first."""

@@ -28,6 +28,7 @@ mod wave; // wave.rt: what the bus carried
 mod words; // words.rt: the bytes and the acknowledges of a line
 
 use crate::arguments::next_file;
+use crate::sources;
 use libc::STDIN_FILENO;
 use rig_lines::console::PAGE;
 use rig_lines::console::begin;
@@ -158,7 +159,7 @@ fn run_file(
     argument: usize,
 ) -> State {
     names::clear(lines);
-    match files::open(argument) {
+    match sources::open(argument) {
         Opened::Source(source) => run_source(page, kept, names, lines, state, source),
         Opened::Failed(errno) => ending::failed(page, state, b"cannot open ", argument, errno),
     }

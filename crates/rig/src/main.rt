@@ -7,12 +7,12 @@ mod encoding; // encoding.rt: an event list drawn as a trace
 mod hints; // hints.rt: what a file is, by its words
 mod lines; // lines.rt: whole lines of output
 mod session; // session.rt: a module driven by commands
+mod sources; // sources.rt: the file of an argument
 mod task; // task.rt: the commands by name
 mod trouble; // trouble.rt: what was not understood or could not be read
 
 use arguments::Arguments;
 use rig_lines::console;
-use rig_lines::files;
 use rig_lines::files::Opened;
 use rig_lines::input::Source;
 use task::Named;
@@ -33,7 +33,7 @@ fn run_on(page: &mut [u8], given: Arguments, source: Source) -> usize {
 
 // Runs a command that reads one file.
 fn run_one(page: &mut [u8], given: Arguments) -> usize {
-    match files::open(given.file) {
+    match sources::open(given.file) {
         Opened::Source(source) => run_on(page, given, source),
         Opened::Failed(errno) => trouble::file(page, given.at, b"cannot open ", given.file, errno),
     }

@@ -13,11 +13,13 @@ use Rattle.rig_lines.specs.Input.{begun}
 use Rattle.rig_lines.specs.declared.files.Opened.{Opened}
 use Rattle.rig_lines.specs.declared.files.Opened.the-variants.{Source, Failed}
 
--- the file that an argument names, from its start; standard input, which argument 0 always is; or none
-pub data Opening (argument : ℕ) : Opened → Type 0 where
-  file : (fd : ℤ) → (argument ≡ 0 → ⊥) → Opening argument (Source (begun fd argument))
-  standard : Opening argument (Source (begun (pos 0) 0))
-  failed : (errno : ℕ) → (argument ≡ 0 → ⊥) → Opening argument (Failed errno)
+-- standard input, which argument 0 and the name `-` are; else the file of that name, from its start, or none
+pub data Opening (argument : ℕ) (name : List ℕ) : Opened → Type 0 where
+  standard : argument ≡ 0 → Opening argument name (Source (begun (pos 0) 0))
+  dash : name ≡ ascii "-" → Opening argument name (Source (begun (pos 0) 0))
+  file :
+      (fd : ℤ) → (argument ≡ 0 → ⊥) → (name ≡ ascii "-" → ⊥) → Opening argument name (Source (begun fd argument))
+  failed : (errno : ℕ) → (argument ≡ 0 → ⊥) → (name ≡ ascii "-" → ⊥) → Opening argument name (Failed errno)
 
 -- why the system refuses a file, by the error's number
 unfoldable pub reasonText : ℕ → List ℕ

@@ -60,19 +60,17 @@ pub enum Opened {
     Failed(u64),
 }
 
-// Opens the file that an argument names; argument 0 and the name `-` are standard input.
-pub fn open(argument: usize) -> Opened
-    ensures { λ r. ⌜ Opening argument r ⌝ }
+// Opens the file of a name, that of an argument; argument 0 and the name `-` are standard input.
+pub fn open(argument: usize, name: &[u8]) -> Opened
+    ensures { λ r. ⌜ Opening argument (now (name .entry)) r ⌝ }
 {
     if argument == 0 {
         return Opened::Source(input::begin(STDIN_FILENO, 0));
     }
-    let mut name = io::buffer();
-    let n = os::arg(argument, &mut name);
-    if same(&name[..n], b"-") {
+    if same(name, b"-") {
         return Opened::Source(input::begin(STDIN_FILENO, 0));
     }
-    let fd = os::open_read(&name[..n]);
+    let fd = os::open_read(name);
     if fd < 0 {
         return Opened::Failed(error_number(true));
     }
