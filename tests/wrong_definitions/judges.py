@@ -196,6 +196,7 @@ class Definitions:
         text = "".join(path.read_text() for path in (self.root / crate).rglob("*.antt"))
         found = {name for name in re.findall(r"Rattle·(\w+?)[·.]", text)}
         found |= {used for used, _ in USE.findall((self.root / crate / "src" / "lib.rt").read_text())}
+        found &= set(self.tree.uses)
         for name in found - {crate}:
             found = found | set(self.named(name))
         return [name for name in self.tree.reached(crate) if name in found]
