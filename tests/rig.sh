@@ -2,7 +2,7 @@
 # Drives ./rig as a person at the desk would: what was once taken for good and is not, every refusal and error from the
 # command line, what can go wrong with files, disks and pipes, building, truncated files, ten thousand files of random
 # bytes and words. Each run must end in a last line of the right kind, with its status; none may crash.
-# RIG_PROGRAM=PATH tries another program in the place of the proved one.
+# RIG_PROGRAM=PATH tries another program in the place of the proved ones.
 # shellcheck disable=SC2016,SC2129  # conditions are expanded where they are tried
 set -u
 root=$(dirname "$(dirname "$(readlink -f "$0")")")
@@ -272,7 +272,7 @@ many_loads() {
     : >in
     for count in 1 2 3 4 5; do
         begun=${EPOCHREALTIME/./}
-        "$program" clash "$examples/night.loads" >out
+        "$rehearsal" clash "$examples/night.loads" >out
         took=$((${EPOCHREALTIME/./} - begun))
         [ $took -ge $best ] || best=$took
     done
@@ -450,10 +450,10 @@ terminal() {
 # A copy of the script with small crates of its own, and an rt that only pretends. No other rt can be reached.
 scratch() {
     rm -rf scratch
-    mkdir -p scratch/{bin,empty,crates/{rig,text,other}/src}
+    mkdir -p scratch/{bin,empty,crates/{rig,rig_clash,text,other}/src}
     cp -r "$rig" "$root/help" "$root/VERSION" "$root/RATTLE-VERSION" "$examples" scratch
-    printf 'text:\nother:\nrig: text io # the program\n' >scratch/crates.txt
-    touch scratch/crates/{rig,text,other}/src/lib.rt
+    printf 'text:\nother:\nrig: text io # the program\nrig_clash: text\n' >scratch/crates.txt
+    touch scratch/crates/{rig,rig_clash,text,other}/src/lib.rt
     cat >scratch/bin/rt <<'RT'
 #!/bin/sh
 if [ "$1" = version ]; then cat RATTLE-VERSION 2>/dev/null; exit; fi
@@ -464,7 +464,9 @@ sleep "${RT_SLOW:-0}"
 echo "rt: text proved (1 s)"
 if [ -n "${RT_BAD:-}" ]; then echo "rt: rig NOT PROVED (exit 1, 1 s)"; exit 1; fi
 cp "$RT_PROGRAM" target/bin/rig
+cp "$RT_CLASH" target/bin/rig_clash
 echo "rt: rig proved (1 s)"
+echo "rt: rig_clash proved (1 s)"
 echo "rt: rig proved, and its run FAILED (0 s)"
 exit 1
 RT
@@ -473,7 +475,7 @@ RT
 
 # pretend WORDS..: the copy, with the pretended rt
 pretend() {
-    env -u RIG_PROGRAM -u RATTLE_HOME RT_PROGRAM="$program" PATH="${rt_at:-$work/scratch/bin}:/usr/bin:/bin" \
+    env -u RIG_PROGRAM -u RATTLE_HOME RT_PROGRAM="$program" RT_CLASH="$rehearsal" PATH="${rt_at:-$work/scratch/bin}:/usr/bin:/bin" \
         scratch/rig "$@" >out 2>err
 }
 
@@ -484,8 +486,8 @@ building() {
     # shellcheck disable=SC2086
     RT_SLOW=3 RIG_PATIENCE=1 pretend $calls
     holds "[ $? = 0 ]" "the first use: $(tail -n 1 out)"
-    holds 'grep -qx "rig: crate 1 of 2: text proved (1 s)" err' "no count of crates: $(cat err)"
-    holds 'grep -q "^rig: crate 1 of 2: still at text (" err' "a silent build: $(cat err)"
+    holds 'grep -qx "rig: crate 1 of 3: text proved (1 s)" err' "no count of crates: $(cat err)"
+    holds 'grep -q "^rig: crate 1 of 3: still at text (" err' "a silent build: $(cat err)"
     echo "# an edit" >>scratch/examples/night.loads
     touch scratch/crates/other/src/lib.rt
     # shellcheck disable=SC2086
@@ -541,6 +543,9 @@ stored() {
     done
 }
 
+# The program of a command, with its words perhaps.
+program_of() { case $1 in clash*) echo "$rehearsal" ;; *) echo "$program" ;; esac; }
+
 # A run of the program on each file, all in one output, with a line between runs that no run prints.
 run_on() {
     local command=$1 file
@@ -548,7 +553,7 @@ run_on() {
     for file in "$@"; do
         printf '== %s %s\n' "$command" "$file"
         # shellcheck disable=SC2086
-        "$program" $command "$file" 2>>err
+        "$(program_of "$command")" $command "$file" 2>>err
         printf '== status %s\n' $?
     done
 }
@@ -637,6 +642,8 @@ if PATH=/usr/bin:/bin command -v rt >/dev/null; then
 fi
 if [ -z "${RIG_PROGRAM:-}" ]; then "$rig" build >out || { cat out && exit 1; }; fi
 program=$(readlink -f "${RIG_PROGRAM:-$root/target/bin/rig}")
+rehearsal=${RIG_PROGRAM:+$program}
+rehearsal=${rehearsal:-$root/target/bin/rig_clash}
 [ -z "${RIG_PROGRAM:-}" ] || export RIG_PROGRAM=$program
 for part in commands help slips corrections cut_corrections cut_short refusals wrong_lines night many_loads sessions traces captures lists \
     round_trips streams terminal $builds stored truncated random answers; do

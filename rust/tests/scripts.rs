@@ -33,9 +33,14 @@ fn arbitration_answers_are_stored() {
 
 /// The program's own stored answer under the gate: its arguments, with its files by their whole names.
 #[test]
-fn the_programs_own_answer_is_stored() {
-    let file = |name: &str| format!("{}/../crates/rig/{name}", env!("CARGO_MANIFEST_DIR"));
-    let words = read_to_string(file("args")).expect("crates/rig/args");
+fn the_programs_own_answers_are_stored() {
+    own_answer_is_stored("rig");
+    own_answer_is_stored("rig_clash");
+}
+
+fn own_answer_is_stored(program: &str) {
+    let file = |name: &str| format!("{}/../crates/{program}/{name}", env!("CARGO_MANIFEST_DIR"));
+    let words = read_to_string(file("args")).expect("args");
     let whole = |word: &str| {
         let data = file(&format!("data/{word}"));
         if std::path::Path::new(&data).exists() {
@@ -45,8 +50,8 @@ fn the_programs_own_answer_is_stored() {
         }
     };
     let arguments: Vec<Vec<u8>> = words.split_whitespace().map(|word| whole(word).into_bytes()).collect();
-    let stored = std::fs::read(file("stdout")).expect("crates/rig/stdout");
-    assert!(answer(&arguments, &mut std::io::empty()).output == stored, "answers of rig");
+    let stored = std::fs::read(file("stdout")).expect("stdout");
+    assert!(answer(&arguments, &mut std::io::empty()).output == stored, "answers of {program}");
 }
 
 fn top() -> String {

@@ -111,7 +111,8 @@ def types(text):
             kept.append(line)
         inside = inside and line != "}"
     named = words("\n".join(kept))
-    return "\n".join([f"use {crate}::{item};" for crate, item in USE.findall(text) if item in named] + kept)
+    uses = [(crate, item) for crate, item in USE.findall(text) if item in named and crate != "crate"]
+    return "\n".join([f"use {crate}::{item};" for crate, item in uses] + kept)
 
 
 def words(text):

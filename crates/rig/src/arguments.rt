@@ -1,6 +1,4 @@
 // The words of the command line after the command.
-use crate::lines::end;
-use crate::lines::put_not;
 use crate::lines::say;
 use crate::task::Task;
 use check::same;
@@ -9,17 +7,14 @@ use rig_lines::console::begin;
 use rig_lines::console::put_quoted;
 use rig_lines::numbers::is_number;
 use rig_lines::numbers::value;
+use rig_lines::options::is_option;
+use rig_lines::options::put_no_number;
 use text::put_bytes;
 
 pub(crate) struct Arguments {
     pub(crate) task: Task,
-    // which argument names the first file; 0: none does
+    // which argument names the file; 0: none does
     pub(crate) file: usize,
-    // which one names the file of corrections; 0: none does
-    pub(crate) corrections: usize,
-    pub(crate) table: bool,
-    pub(crate) registers: bool,
-    pub(crate) wave: bool,
     // the phases of a trace are judged as of Standard-mode, or of Fast-mode
     standard: bool,
     fast: bool,
@@ -29,19 +24,10 @@ pub(crate) struct Arguments {
     input: bool,
     // the next word is the number of --room
     wants_room: bool,
-    // the next word is the file of --corrections
-    wants_corrections: bool,
     // an error stands on the page
     pub(crate) broken: bool,
     // where the page goes on
     pub(crate) at: usize,
-}
-
-fn is_option(word: &[u8]) -> bool {
-    if word.len() < 2 {
-        return false;
-    }
-    (word[0] == b'-') & (word[1] == b'-')
 }
 
 pub(crate) fn too_long(page: &mut [u8], at: usize) -> usize {
@@ -53,16 +39,11 @@ impl Arguments {
         Arguments {
             task,
             file: 0,
-            corrections: 0,
-            table: false,
-            registers: false,
-            wave: false,
             standard: false,
             fast: false,
             room: usize::MAX,
             input: false,
             wants_room: false,
-            wants_corrections: false,
             broken: false,
             at: 0,
         }
@@ -79,21 +60,10 @@ impl Arguments {
         self.failed(say(page, self.at, words))
     }
 
-    fn no_number(self, page: &mut [u8], word: &[u8]) -> Arguments {
-        let from = begin(page, self.at);
-        let error = put_bytes(page, from, b"error expected a number after --room");
-        let met = put_not(page, error, word);
-        self.failed(end(page, met))
-    }
-
     fn unknown_option(self, page: &mut [u8], word: &[u8]) -> Arguments {
         let from = begin(page, self.at);
-        let error = put_bytes(page, from, b"error unknown option ");
-        let quoted = put_quoted(page, error, word);
-        let of = put_bytes(page, quoted, b" for ");
         let task = self.task;
-        let named = task.put_name(page, of);
-        self.failed(end(page, named))
+        self.failed(task.put_unknown(page, from, word))
     }
 
     fn second_file(self, page: &mut [u8], word: &[u8]) -> Arguments {
@@ -109,7 +79,8 @@ impl Arguments {
     fn with_room(mut self, page: &mut [u8], word: &[u8]) -> Arguments {
         let number = text::decimal(word);
         if !is_number(number) {
-            return self.no_number(page, word);
+            let from = begin(page, self.at);
+            return self.failed(put_no_number(page, from, word));
         }
         self.room = value(number) as usize;
         self.wants_room = false;
@@ -117,12 +88,8 @@ impl Arguments {
     }
 
     fn with_file(mut self, page: &mut [u8], argument: usize, word: &[u8]) -> Arguments {
-        let task = self.task;
         if self.file == 0 {
             self.file = argument;
-            return self;
-        }
-        if task.is_clash() {
             return self;
         }
         self.second_file(page, word)
@@ -143,40 +110,6 @@ impl Arguments {
             return next;
         }
         next.with_file(page, argument, b"-")
-    }
-
-    // The file after --corrections.
-    fn with_corrections(mut self, page: &mut [u8], argument: usize, word: &[u8]) -> Arguments {
-        self.corrections = argument;
-        self.wants_corrections = false;
-        if same(word, b"-") {
-            return self.with_input(page);
-        }
-        self
-    }
-
-    // An option that rig clash alone takes.
-    fn with_display(mut self, page: &mut [u8], word: &[u8]) -> Arguments {
-        let task = self.task;
-        if task.is_clash() {
-            if same(word, b"--table") {
-                self.table = true;
-                return self;
-            }
-            if same(word, b"--registers") {
-                self.registers = true;
-                return self;
-            }
-            if same(word, b"--wave") {
-                self.wave = true;
-                return self;
-            }
-            if same(word, b"--corrections") {
-                self.wants_corrections = true;
-                return self;
-            }
-        }
-        self.with_mode(page, word)
     }
 
     // The mode in which a trace is read.
@@ -212,15 +145,12 @@ impl Arguments {
             self.wants_room = true;
             return self;
         }
-        self.with_display(page, word)
+        self.with_mode(page, word)
     }
 
     fn with_word(self, page: &mut [u8], argument: usize, word: &[u8]) -> Arguments {
         if self.wants_room {
             return self.with_room(page, word);
-        }
-        if self.wants_corrections {
-            return self.with_corrections(page, argument, word);
         }
         if is_option(word) {
             return self.with_option(page, word);
@@ -249,17 +179,8 @@ impl Arguments {
         if self.wants_room {
             return self.trouble(page, b"error expected a number after --room");
         }
-        if self.wants_corrections {
-            return self.trouble(page, b"error expected a file after --corrections");
-        }
         if (self.file == 0) & !task.reads_input() {
             return self.trouble(page, b"error expected a file, or - for standard input");
-        }
-        if self.table & (self.registers | self.wave) {
-            return self.trouble(
-                page,
-                b"error --table goes with neither --registers nor --wave",
-            );
         }
         if self.standard & self.fast {
             return self.trouble(page, b"error --standard does not go with --fast");
@@ -280,34 +201,4 @@ pub(crate) fn parse(page: &mut [u8], task: Task) -> Arguments {
         i += 1;
     }
     given.finished(page)
-}
-
-// How many arguments it takes to pass one that is no file; 0 where it is a file.
-fn passed(argument: usize) -> usize {
-    let mut space = io::buffer();
-    let n = os::arg(argument, &mut space);
-    if same(&space[..n], b"--room") | same(&space[..n], b"--corrections") {
-        return 2;
-    }
-    if is_option(&space[..n]) {
-        return 1;
-    }
-    0
-}
-
-// The argument at or after one that names a file; 0 where none does.
-pub(crate) fn next_file(from: usize) -> usize {
-    let count = os::arg_count();
-    let mut i = from;
-    while i < count {
-        let past = passed(i);
-        if past == 0 {
-            return i;
-        }
-        if past > count - i {
-            return 0;
-        }
-        i += past;
-    }
-    0
 }

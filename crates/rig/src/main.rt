@@ -1,7 +1,6 @@
-// rig: rehearses loads of I2C boards, reads and draws bus traces, and steps a USI module.
+// rig: reads and draws bus traces, and steps a USI module (rig_clash rehearses loads).
 // The last line of output says how it went: `ok`, `look`, `refused` with a number, or `error`.
 mod arguments; // arguments.rt: the words of the command line
-mod clash; // clash.rt: rehearses the loads of files
 mod decoding; // decoding.rt: the events of a trace
 mod encoding; // encoding.rt: an event list drawn as a trace
 mod hints; // hints.rt: what a file is, by its words
@@ -27,7 +26,6 @@ fn run_on(page: &mut [u8], given: Arguments, source: Source) -> usize {
             session::run(page, source);
             given.at
         }
-        Task::Clash => given.at,
     }
 }
 
@@ -42,16 +40,6 @@ fn run_one(page: &mut [u8], given: Arguments) -> usize {
 fn run(page: &mut [u8], task: Task) -> usize {
     let given = arguments::parse(page, task);
     if given.broken {
-        return given.at;
-    }
-    if task.is_clash() {
-        clash::run(
-            given.table,
-            given.registers,
-            given.wave,
-            given.room,
-            given.corrections,
-        );
         return given.at;
     }
     run_one(page, given)

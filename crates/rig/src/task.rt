@@ -3,10 +3,10 @@ use crate::lines::say;
 use check::same;
 use rig_lines::console::begin;
 use rig_lines::console::put_quoted;
+use rig_lines::options::put_unknown_option;
 use text::put_bytes;
 
 pub(crate) enum Task {
-    Clash,
     Decode,
     Encode,
     Session,
@@ -19,9 +19,6 @@ pub(crate) enum Named {
 }
 
 pub(crate) fn find(word: &[u8]) -> Named {
-    if same(word, b"clash") {
-        return Named::Task(Task::Clash);
-    }
     if same(word, b"decode") {
         return Named::Task(Task::Decode);
     }
@@ -35,13 +32,6 @@ pub(crate) fn find(word: &[u8]) -> Named {
 }
 
 impl Task {
-    pub(crate) fn is_clash(self) -> bool {
-        match self {
-            Task::Clash => true,
-            _ => false,
-        }
-    }
-
     pub(crate) fn is_decode(self) -> bool {
         match self {
             Task::Decode => true,
@@ -67,10 +57,18 @@ impl Task {
 
     pub(crate) fn put_name(self, page: &mut [u8], at: usize) -> usize {
         match self {
-            Task::Clash => put_bytes(page, at, b"clash"),
             Task::Decode => put_bytes(page, at, b"decode"),
             Task::Encode => put_bytes(page, at, b"encode"),
             Task::Session => put_bytes(page, at, b"session"),
+        }
+    }
+
+    // There is no such option.
+    pub(crate) fn put_unknown(self, page: &mut [u8], at: usize, word: &[u8]) -> usize {
+        match self {
+            Task::Decode => put_unknown_option(page, at, word, b"decode"),
+            Task::Encode => put_unknown_option(page, at, word, b"encode"),
+            Task::Session => put_unknown_option(page, at, word, b"session"),
         }
     }
 }

@@ -4,4 +4,5 @@ pub mod Numbers
 pub mod Store
 pub mod Input
 pub mod Opening
+pub mod Options
 pub mod Refusals

@@ -113,12 +113,19 @@ impl Differ {
             Source::Standard => File::open(file)?.into(),
             Source::Pipe(_) => Stdio::piped(),
         };
-        Command::new(&self.program)
+        Command::new(self.program_for(case))
             .args(case.arguments.iter().map(|argument| OsStr::from_bytes(argument)))
             .stdin(input)
             .stdout(Stdio::piped())
             .stderr(File::create(self.folder.join("errors"))?)
             .spawn()
+    }
+
+    /// The program of a command: `rig_clash` beside `rig` is that of clash.
+    fn program_for(&self, case: &Case) -> PathBuf {
+        let clash = self.program.with_file_name("rig_clash");
+        let is_clash = case.arguments.first().is_some_and(|word| word == b"clash");
+        if is_clash && clash.exists() { clash } else { self.program.clone() }
     }
 
     /// What is wrong with a run, if anything is.

@@ -1,0 +1,48 @@
+-- `rig_clash::board::put_group` is safe and ends.
+use Prim.Native.Nat.{_-_}
+use borrow.Author.Needs.{needs}
+use lib.ListN.{length}
+use mathlib.Core.Path.{_≡_}
+use Rattle.rig_clash.proofs.board.put_group.Statement.{statement}
+use Rattle.rig_clash.proofs.board.put_group.Tie as tie
+
+abbrev Inv-loop : tie.InvT-loop
+Inv-loop page₀ at kept load outcome group next₀ board₀ page next board = length page ≡ length page₀
+
+abbrev μ-loop : tie.MeasureT-loop
+μ-loop page₀ at kept load outcome group next₀ board₀ page next board = load .boards - board
+
+loop-holds : tie.Need-loop-holds Inv-loop μ-loop
+loop-holds c = search needs
+
+put-member-requires : tie.Need-put-member-requires Inv-loop μ-loop
+put-member-requires c κs = search needs
+
+add-board : tie.Need-add-board Inv-loop μ-loop
+add-board c = search needs
+
+loop-less : tie.Need-loop-less Inv-loop μ-loop
+loop-less c = search needs
+
+loop-again : tie.Need-loop-again Inv-loop μ-loop
+loop-again c = search needs
+
+same-length : tie.Need-same-length Inv-loop μ-loop
+same-length c = search needs
+
+returns : tie.Need-returns Inv-loop μ-loop
+returns c = search needs
+
+pub put-group-spec : {M : Type 1} → statement M
+put-group-spec =
+    tie.close
+    (tie.spec
+    Inv-loop
+    μ-loop
+    loop-holds
+    put-member-requires
+    add-board
+    loop-less
+    loop-again
+    same-length
+    returns)

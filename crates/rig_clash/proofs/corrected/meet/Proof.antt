@@ -1,0 +1,48 @@
+-- `rig_clash::corrected::meet` is safe and ends.
+use Prim.Native.Nat.{_-_}
+use borrow.Author.Needs.{needs}
+use lib.ListN.{length}
+use mathlib.Core.Path.{_≡_}
+use Rattle.rig_clash.proofs.corrected.meet.Statement.{statement}
+use Rattle.rig_clash.proofs.corrected.meet.Tie as tie
+
+abbrev Inv-loop : tie.InvT-loop
+Inv-loop kept₀ count correction₀ kept correction = length kept ≡ length kept₀
+
+abbrev μ-loop : tie.MeasureT-loop
+μ-loop kept₀ count correction₀ kept correction = count - correction
+
+loop-holds : tie.Need-loop-holds Inv-loop μ-loop
+loop-holds c = search needs
+
+met-by-requires : tie.Need-met-by-requires Inv-loop μ-loop
+met-by-requires c κs = search needs
+
+add-correction : tie.Need-add-correction Inv-loop μ-loop
+add-correction c = search needs
+
+loop-less : tie.Need-loop-less Inv-loop μ-loop
+loop-less c = search needs
+
+loop-again : tie.Need-loop-again Inv-loop μ-loop
+loop-again c = search needs
+
+same-length : tie.Need-same-length Inv-loop μ-loop
+same-length c = search needs
+
+returns : tie.Need-returns Inv-loop μ-loop
+returns c = search needs
+
+pub meet-spec : {M : Type 1} → statement M
+meet-spec =
+    tie.close
+    (tie.spec
+    Inv-loop
+    μ-loop
+    loop-holds
+    met-by-requires
+    add-correction
+    loop-less
+    loop-again
+    same-length
+    returns)

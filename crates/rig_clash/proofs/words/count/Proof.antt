@@ -1,0 +1,51 @@
+-- `rig_clash::words::count` is safe and ends: each turn leaves fewer words.
+use Rattle.rig_lines.proofs.Words.{past-word}
+use borrow.Author.Needs.{needs}
+use lib.ListN.{length}
+use Rattle.rig_clash.proofs.words.count.Statement.{statement}
+use Rattle.rig_clash.proofs.words.count.Tie as tie
+
+-- `rig_clash::words::count` is safe and ends: each turn leaves fewer words.
+
+abbrev Inv-loop : tie.InvT-loop
+Inv-loop words n₀ rest₀ n rest = Unit {0}
+
+abbrev μ-loop : tie.MeasureT-loop
+μ-loop words n₀ rest₀ n rest = length rest
+
+loop-holds : tie.Need-loop-holds Inv-loop μ-loop
+loop-holds c = search needs
+
+first-word-requires : tie.Need-first-word-requires Inv-loop μ-loop
+first-word-requires c κs = search needs
+
+more-requires : tie.Need-more-requires Inv-loop μ-loop
+more-requires c κs = search needs
+
+after-word-requires : tie.Need-after-word-requires Inv-loop μ-loop
+after-word-requires c κs = search needs
+
+loop-less : tie.Need-loop-less Inv-loop μ-loop
+loop-less c =
+    let head = c .before .before in
+    past-word _ _ _ (head .before .first-word .ensures) (c .after-word .ensures) (head .if1 .taken)
+
+loop-again : tie.Need-loop-again Inv-loop μ-loop
+loop-again c = search needs
+
+returns : tie.Need-returns Inv-loop μ-loop
+returns c = search needs
+
+pub count-spec : {M : Type 1} → statement M
+count-spec =
+    tie.close
+    (tie.spec
+    Inv-loop
+    μ-loop
+    loop-holds
+    first-word-requires
+    more-requires
+    after-word-requires
+    loop-less
+    loop-again
+    returns)

@@ -1,0 +1,227 @@
+// What the rehearsal of a load comes to.
+use crate::kept;
+use crate::kept::ACKS;
+use crate::kept::ACKS_AT;
+use crate::kept::BYTES;
+use crate::kept::MESSAGES_AT;
+use crate::load::Load;
+use arbitration_rules::Arbitrated;
+use arbitration_rules::MAX_LENGTH;
+use arbitration_rules::MAX_MASTERS;
+use arbitration_rules::Seat;
+use load_text::gather;
+use load_text::gather_lengths;
+use load_text::master_of;
+use rig_lines::parts;
+use usi::Usi;
+use verdict::Verdict;
+
+// The levels recorded for START and STOP, and those for each byte.
+const FRAME: usize = 5;
+
+const BYTE: usize = 18;
+
+// Room for the levels of any arbitration.
+pub(crate) const LEVELS: usize = FRAME + BYTE * MAX_LENGTH;
+
+// Room for one length more than there may be.
+const LENGTHS: usize = MAX_MASTERS + 1;
+
+// How many levels are recorded for so many bytes.
+pub(crate) fn recorded(bytes: usize) -> usize {
+    if bytes > MAX_LENGTH {
+        return 0;
+    }
+    FRAME + BYTE * bytes
+}
+
+pub(crate) struct Outcome {
+    pub(crate) verdict: Verdict,
+    // the load has no `expect`, or went as it says
+    pub(crate) expected: bool,
+    // the master that a refusal is about
+    pub(crate) place: usize,
+    // how many bytes were carried, and the last of them; the length of the winner's message
+    pub(crate) count: usize,
+    pub(crate) last: u8,
+    pub(crate) length: usize,
+    // of each master
+    pub(crate) seats: [Seat; MAX_MASTERS],
+    pub(crate) modules: [Usi; MAX_MASTERS],
+}
+
+impl Outcome {
+    pub(crate) fn is_refused(self) -> bool {
+        let verdict = self.verdict;
+        if let Verdict::Refused(_) = verdict {
+            true
+        } else {
+            false
+        }
+    }
+
+    // The load is one to see: all but a message that was sent as expected.
+    pub(crate) fn is_marked(self) -> bool {
+        let verdict = self.verdict;
+        match verdict {
+            Verdict::Sent(_) => !self.expected,
+            _ => true,
+        }
+    }
+
+    // What became of a board that is not silent.
+    pub(crate) fn seat_of(self, load: Load, board: usize) -> Seat {
+        let seats = self.seats;
+        let silent = load.silent;
+        seat_at(seats, master_of(silent, board))
+    }
+
+    pub(crate) fn module_of(self, load: Load, board: usize) -> Usi {
+        let modules = self.modules;
+        let silent = load.silent;
+        let master = master_of(silent, board);
+        if master < MAX_MASTERS {
+            modules[master]
+        } else {
+            modules[0]
+        }
+    }
+
+    // A board is still in.
+    pub(crate) fn contends(self, load: Load, board: usize) -> bool {
+        let seat = self.seat_of(load, board);
+        seat.contending & !load.is_silent(board)
+    }
+}
+
+fn seat_at(seats: [Seat; MAX_MASTERS], master: usize) -> Seat {
+    if master < MAX_MASTERS {
+        seats[master]
+    } else {
+        seats[0]
+    }
+}
+
+// The load went as its `expect` says, or has none.
+fn as_expected(load: Load, outcome: Outcome) -> bool {
+    let verdict = outcome.verdict;
+    if load.expect_line == 0 {
+        return true;
+    }
+    let whole = (load.length_of(load.winner) as u64 == load.length)
+        & (outcome.count as u64 == load.carried);
+    match verdict {
+        Verdict::Sent(_) => whole & outcome.contends(load, load.winner),
+        Verdict::Cut(_) => whole & outcome.contends(load, load.winner),
+        _ => false,
+    }
+}
+
+// The first board that is still in.
+fn winner(load: Load, outcome: Outcome) -> usize {
+    let mut board: usize = 0;
+    while board < load.boards {
+        if outcome.contends(load, board) {
+            return board;
+        }
+        board += 1;
+    }
+    board
+}
+
+fn last(carried: &[u8], count: usize) -> u8 {
+    if count == 0 {
+        return 0;
+    }
+    let before = count - 1;
+    if before < carried.len() {
+        carried[before]
+    } else {
+        0
+    }
+}
+
+// The outcome of a reply.
+fn told(load: Load, reply: Arbitrated, verdict: Verdict, carried: &[u8]) -> Outcome {
+    let refusal = reply.refusal;
+    let seats = reply.seats;
+    let modules = reply.modules;
+    let mut outcome = Outcome {
+        verdict,
+        expected: true,
+        place: refusal.place,
+        count: reply.count,
+        last: last(carried, reply.count),
+        length: 0,
+        seats,
+        modules,
+    };
+    let length = load.length_of(winner(load, outcome));
+    outcome.length = length as usize;
+    let expected = as_expected(load, outcome);
+    outcome.expected = expected;
+    outcome
+}
+
+// How many masters there are: in the old form more rows than are kept count as one too many.
+fn masters(load: Load, kept: usize) -> usize {
+    if load.rows > load.boards as u64 {
+        LENGTHS
+    } else {
+        kept
+    }
+}
+
+// Corrections that the library refuses are a refusal of the load.
+fn refused_first(load: Load, verdict: Verdict) -> Verdict {
+    if load.number > 0 {
+        return Verdict::Refused(load.number);
+    }
+    verdict
+}
+
+// The messages of the masters, rehearsed and judged.
+fn rehearsed(
+    load: Load,
+    bytes: &[u8],
+    lengths: &[u32],
+    acks: &[u8],
+    carried: &mut [u8],
+    levels: &mut [u8],
+) -> Outcome {
+    let reply = arbitration::arbitrate(bytes, lengths, acks, carried, levels);
+    let verdict = verdict::judge(reply, bytes, lengths, acks);
+    told(load, reply, refused_first(load, verdict), carried)
+}
+
+// Rehearses a load: the library gets the messages of the boards that are not silent, in the order of their numbers.
+pub(crate) fn of(
+    kept: &[u8],
+    load: Load,
+    room: usize,
+    carried: &mut [u8],
+    levels: &mut [u8],
+) -> Outcome {
+    let mut bytes = [0u8; BYTES];
+    let mut lengths = [0u32; LENGTHS];
+    let silent = load.silent;
+    let rows = load.lengths;
+    let size = gather(
+        kept::part(kept, MESSAGES_AT, BYTES),
+        rows,
+        silent,
+        &mut bytes,
+    );
+    let count = gather_lengths(rows, silent, &mut lengths);
+    let lent = parts::stamps(masters(load, count), &lengths);
+    let acks = kept::part(kept::part(kept, ACKS_AT, ACKS), 0, load.ack_count());
+    let part = parts::bytes(room, levels);
+    rehearsed(
+        load,
+        &bytes[..size],
+        &lengths[..lent],
+        acks,
+        carried,
+        &mut levels[..part],
+    )
+}

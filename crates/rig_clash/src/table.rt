@@ -1,0 +1,197 @@
+// The table: a row for each load.
+use crate::columns::cut;
+use crate::columns::fit;
+use crate::contenders;
+use crate::contenders::Style;
+use crate::kept;
+use crate::load::Load;
+use crate::outcome::Outcome;
+use crate::refusals;
+use rig_lines::console::begin;
+use rig_lines::console::put_form;
+use rig_lines::console::put_padded;
+use rig_lines::console::put_spaces;
+use text::put_byte;
+use text::put_bytes;
+use verdict::Verdict;
+
+// The columns: a load's name, its name and title, the winner, the bytes, the verdict.
+const NAME: usize = 10;
+
+const LOAD: usize = 25;
+
+const WINNER: usize = 9;
+
+const BYTES: usize = 5;
+
+const VERDICT: usize = 36;
+
+pub(crate) fn put_header(page: &mut [u8], at: usize) -> usize {
+    put_bytes(
+        page,
+        at,
+        b"  load       title          winner    bytes verdict\n",
+    )
+}
+
+// The load's name and title, after the mark of a load to see.
+fn put_load(page: &mut [u8], at: usize, kept: &[u8], marked: bool) -> usize {
+    let start = put_mark(page, at, marked);
+    let name = put_padded(page, start, kept::name(kept), NAME);
+    let title = put_title(page, name, kept::title(kept));
+    let fitted = fit(page, start, title, LOAD);
+    put_byte(page, fitted, b' ')
+}
+
+fn put_mark(page: &mut [u8], at: usize, marked: bool) -> usize {
+    if marked {
+        return put_bytes(page, at, b"! ");
+    }
+    put_bytes(page, at, b"  ")
+}
+
+fn put_title(page: &mut [u8], at: usize, title: &[u8]) -> usize {
+    if title.len() == 0 {
+        return at;
+    }
+    let space = put_byte(page, at, b' ');
+    put_bytes(page, space, title)
+}
+
+// No winner and no bytes.
+fn put_none(page: &mut [u8], at: usize) -> usize {
+    put_bytes(page, at, b"-             - ")
+}
+
+fn left(used: usize) -> usize {
+    if used < BYTES { BYTES - used } else { 0 }
+}
+
+// The bytes carried, of how many, to the right.
+fn put_ratio(page: &mut [u8], at: usize, outcome: Outcome) -> usize {
+    let mut room = [0u8; BYTES];
+    let numbers = [outcome.count as u64, outcome.length as u64];
+    let used = put_form(&mut room, 0, b"#/#", &numbers);
+    let start = put_spaces(page, at, left(used));
+    let ratio = put_bytes(page, start, &room[..used]);
+    put_byte(page, ratio, b' ')
+}
+
+// Who is still in, and how much of the message was carried.
+fn put_winner(page: &mut [u8], at: usize, kept: &[u8], load: Load, outcome: Outcome) -> usize {
+    let style = Style {
+        named: load.named,
+        spaced: false,
+    };
+    let who = contenders::put_all(page, at, kept, load, outcome, style);
+    let fitted = fit(page, at, who, WINNER);
+    let space = put_byte(page, fitted, b' ');
+    put_ratio(page, space, outcome)
+}
+
+fn put_middle(page: &mut [u8], at: usize, kept: &[u8], load: Load, outcome: Outcome) -> usize {
+    let verdict = outcome.verdict;
+    match verdict {
+        Verdict::Refused(_) => put_none(page, at),
+        Verdict::Undecided => put_none(page, at),
+        _ => put_winner(page, at, kept, load, outcome),
+    }
+}
+
+fn put_sent(page: &mut [u8], at: usize, load: Load) -> usize {
+    let sent = put_bytes(page, at, b"sent");
+    if load.ack_line > 0 {
+        return sent;
+    }
+    put_bytes(page, sent, b", no ack line")
+}
+
+fn put_cut(page: &mut [u8], at: usize, outcome: Outcome) -> usize {
+    let numbers = [before(outcome.count), outcome.last as u64];
+    let cut = put_form(page, at, b"CUT at byte # (%), ", &numbers);
+    if outcome.count < outcome.length {
+        let rest = outcome.length - outcome.count;
+        return put_form(page, cut, b"# not sent", &[rest as u64]);
+    }
+    put_bytes(page, cut, b"the last")
+}
+
+fn before(count: usize) -> u64 {
+    if count > 0 { (count - 1) as u64 } else { 0 }
+}
+
+fn put_undecided(page: &mut [u8], at: usize, kept: &[u8], load: Load, outcome: Outcome) -> usize {
+    let style = Style {
+        named: load.named,
+        spaced: true,
+    };
+    let byte = put_form(page, at, b"UNDECIDED at byte #: ", &[before(outcome.count)]);
+    contenders::put_all(page, byte, kept, load, outcome, style)
+}
+
+fn put_refused(
+    page: &mut [u8],
+    at: usize,
+    kept: &[u8],
+    load: Load,
+    number: u8,
+    place: usize,
+) -> usize {
+    let word = put_form(page, at, b"REFUSED #: ", &[number as u64]);
+    refusals::put_words(page, word, kept, load, number, place, true)
+}
+
+// The verdict of a load that went as expected.
+fn put_expected(page: &mut [u8], at: usize, kept: &[u8], load: Load, outcome: Outcome) -> usize {
+    let verdict = outcome.verdict;
+    match verdict {
+        Verdict::Refused(number) => put_refused(page, at, kept, load, number, outcome.place),
+        Verdict::Undecided => put_undecided(page, at, kept, load, outcome),
+        Verdict::Cut(_) => put_cut(page, at, outcome),
+        Verdict::Sent(_) => put_sent(page, at, load),
+    }
+}
+
+// What was expected; where it was sent there is no more to say.
+fn put_unexpected(page: &mut [u8], at: usize, kept: &[u8], load: Load, outcome: Outcome) -> usize {
+    let word = put_bytes(page, at, b"EXPECTED ");
+    let name = put_bytes(page, word, kept::board_name(kept, load.winner));
+    let ratio = put_form(page, name, b" #/#", &[load.carried, load.length]);
+    let verdict = outcome.verdict;
+    if let Verdict::Sent(_) = verdict {
+        return ratio;
+    }
+    let next = put_bytes(page, ratio, b", ");
+    put_expected(page, next, kept, load, outcome)
+}
+
+fn put_verdict(page: &mut [u8], at: usize, kept: &[u8], load: Load, outcome: Outcome) -> usize {
+    if outcome.expected | outcome.is_refused() {
+        return put_expected(page, at, kept, load, outcome);
+    }
+    put_unexpected(page, at, kept, load, outcome)
+}
+
+// The row of a load that was rehearsed.
+pub(crate) fn put_row(
+    page: &mut [u8],
+    at: usize,
+    kept: &[u8],
+    load: Load,
+    outcome: Outcome,
+) -> usize {
+    let start = begin(page, at);
+    let front = put_load(page, start, kept, outcome.is_marked());
+    let middle = put_middle(page, front, kept, load, outcome);
+    let words = put_verdict(page, middle, kept, load, outcome);
+    let end = cut(page, middle, words, VERDICT);
+    put_byte(page, end, b'\n')
+}
+
+// The row of a load in error.
+pub(crate) fn put_broken(page: &mut [u8], at: usize, kept: &[u8]) -> usize {
+    let start = begin(page, at);
+    let front = put_load(page, start, kept, true);
+    let middle = put_none(page, front);
+    put_bytes(page, middle, b"ERROR: not rehearsed\n")
+}

@@ -1,0 +1,110 @@
+// The bytes carried with their acknowledges, and the lines of the bus as text, a character a sample, as logic
+// analysers print them.
+use crate::kept;
+use crate::kept::ACKS;
+use crate::kept::ACKS_AT;
+use crate::order::byte_at;
+use crate::outcome::recorded;
+use rig_lines::console::begin;
+use rig_lines::parts;
+use text::put_byte;
+use text::put_bytes;
+use text::put_hex_byte;
+
+fn put_between(page: &mut [u8], at: usize, first: bool) -> usize {
+    if first {
+        return at;
+    }
+    put_bytes(page, at, b", ")
+}
+
+// A byte that was carried, and its acknowledge.
+fn put_byte_at(page: &mut [u8], at: usize, carried: &[u8], acks: &[u8], i: usize) -> usize {
+    let next = put_between(page, at, i == 0);
+    let byte = put_hex_byte(page, next, byte_at(carried, i));
+    if byte_at(acks, i) == 0 {
+        return put_bytes(page, byte, b" ACK");
+    }
+    put_bytes(page, byte, b" NACK")
+}
+
+fn put_carried(page: &mut [u8], at: usize, carried: &[u8], acks: &[u8], count: usize) -> usize {
+    let mut next = at;
+    let mut i: usize = 0;
+    while i < count {
+        next = put_byte_at(page, next, carried, acks, i);
+        i += 1;
+    }
+    next
+}
+
+// One of the two lines at a level.
+fn is_high(level: u8, sda: bool) -> bool {
+    if sda {
+        return levels::sda(level);
+    }
+    levels::scl(level)
+}
+
+fn steady(high: bool) -> u8 {
+    if high { b'"' } else { b'.' }
+}
+
+// The character of a sample: a rise, a fall, or the level that stays.
+fn mark(before: bool, high: bool) -> u8 {
+    if high & !before {
+        return b'/';
+    }
+    if before & !high {
+        return b'\\';
+    }
+    steady(high)
+}
+
+fn mark_at(levels: &[u8], at: usize, sda: bool) -> u8 {
+    if at < levels.len() {
+        let high = is_high(levels[at], sda);
+        if at == 0 {
+            return steady(high);
+        }
+        return mark(is_high(levels[at - 1], sda), high);
+    }
+    b'?'
+}
+
+fn put_marks(page: &mut [u8], at: usize, levels: &[u8], sda: bool) -> usize {
+    let mut next = at;
+    let mut i = 0;
+    while i < levels.len() {
+        next = put_byte(page, next, mark_at(levels, i, sda));
+        i += 1;
+    }
+    next
+}
+
+// A line of the bus.
+fn put_signal(page: &mut [u8], at: usize, name: &[u8], levels: &[u8], sda: bool) -> usize {
+    let start = begin(page, at);
+    let word = put_bytes(page, start, name);
+    let marks = put_marks(page, word, levels, sda);
+    put_byte(page, marks, b'\n')
+}
+
+// What the bus carried in a rehearsal of so many bytes.
+pub(crate) fn put(
+    page: &mut [u8],
+    at: usize,
+    kept: &[u8],
+    count: usize,
+    carried: &[u8],
+    levels: &[u8],
+) -> usize {
+    let acks = kept::part(kept, ACKS_AT, ACKS);
+    let start = begin(page, at);
+    let word = put_bytes(page, start, b"  carried ");
+    let bytes = put_carried(page, word, carried, acks, count);
+    let next = put_byte(page, bytes, b'\n');
+    let size = parts::bytes(recorded(count), levels);
+    let scl = put_signal(page, next, b"  scl:", &levels[..size], false);
+    put_signal(page, scl, b"  sda:", &levels[..size], true)
+}
