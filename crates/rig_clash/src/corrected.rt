@@ -64,16 +64,26 @@ fn meet(kept: &mut [u8], count: usize) {
     }
 }
 
+// A line about a line of the corrections, and a load.
+fn put_place(page: &mut [u8], at: usize, line: u64, name: &[u8]) -> usize {
+    let start = begin(page, at);
+    let place = put_form(page, start, b"! corrections line #: load ", &[line]);
+    put_bytes(page, place, name)
+}
+
+fn put_unknown(page: &mut [u8], at: usize, board: &[u8], line: u64) -> usize {
+    let none = put_bytes(page, at, b": no board ");
+    let quoted = put_quoted(page, none, board);
+    put_form(page, quoted, b" on line #\n", &[line])
+}
+
 // There is no such board: it costs the load.
 fn unknown(page: &mut [u8], kept: &[u8], state: State, correction: usize) -> State {
     let file = state.file;
-    let start = begin(page, state.at);
     let line = slots::line(kept, correction);
-    let place = put_form(page, start, b"! corrections line #: load ", &[line]);
-    let name = put_bytes(page, place, kept::name(kept));
-    let none = put_bytes(page, name, b": no board ");
-    let board = put_quoted(page, none, slots::board(kept, correction));
-    let end = put_form(page, board, b" on line #\n", &[file.boards_line]);
+    let place = put_place(page, state.at, line, kept::name(kept));
+    let board = slots::board(kept, correction);
+    let end = put_unknown(page, place, board, file.boards_line);
     state.moved(end).blamed()
 }
 
@@ -188,8 +198,8 @@ fn over_standing(
     let mut standing_boards = [0u32; MAX_MASTERS];
     let mut standing_lengths = [0u32; MAX_MASTERS];
     let silent = load.silent;
-    let lengths_said = load.lengths;
-    let rows = cut_all(lengths_said);
+    let said = load.lengths;
+    let rows = cut_all(said);
     let size = gather(
         kept::part(kept, MESSAGES_AT, BYTES),
         rows,
@@ -239,6 +249,21 @@ fn overlaid(kept: &mut [u8], load: Load) -> Load {
     )
 }
 
+// What the load comes to with its corrections, where it has some and none is wrong.
+fn over_load(kept: &mut [u8], load: Load) -> Load {
+    if load.broken | !load.corrected {
+        return load;
+    }
+    overlaid(kept, load)
+}
+
+fn over_state(page: &mut [u8], kept: &mut [u8], state: State) -> State {
+    let next = with_corrections(page, kept, state, state.corrections);
+    let load = next.load;
+    let over = over_load(kept, load);
+    next.with_load(over)
+}
+
 // Lays the corrections over the load that ends, unless it is in error.
 pub(crate) fn laid(page: &mut [u8], kept: &mut [u8], state: State) -> State {
     let load = state.load;
@@ -249,12 +274,7 @@ pub(crate) fn laid(page: &mut [u8], kept: &mut [u8], state: State) -> State {
     if load.broken {
         return state;
     }
-    let next = with_corrections(page, kept, state, state.corrections);
-    let found = next.load;
-    if found.broken | !found.corrected {
-        return next;
-    }
-    next.with_load(overlaid(kept, found))
+    over_state(page, kept, state)
 }
 
 // A correction stands first among those of its load.
@@ -266,16 +286,18 @@ fn is_first(kept: &[u8], correction: usize) -> bool {
     slots::load_line(kept, before) != slots::load_line(kept, correction)
 }
 
+fn put_without_load(page: &mut [u8], at: usize, kept: &[u8], correction: usize) -> usize {
+    let line = slots::load_line(kept, correction);
+    let place = put_place(page, at, line, slots::load(kept, correction));
+    put_bytes(page, place, b" is in none of the files\n")
+}
+
 // The fault that a load was in none of the files.
 fn without_load(page: &mut [u8], kept: &[u8], state: State, correction: usize) -> State {
     if slots::is_met(kept, correction) | !is_first(kept, correction) {
         return state;
     }
-    let start = begin(page, state.at);
-    let line = slots::load_line(kept, correction);
-    let place = put_form(page, start, b"! corrections line #: load ", &[line]);
-    let name = put_bytes(page, place, slots::load(kept, correction));
-    let end = put_bytes(page, name, b" is in none of the files\n");
+    let end = put_without_load(page, state.at, kept, correction);
     state.moved(end).faulted()
 }
 

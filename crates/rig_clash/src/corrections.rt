@@ -214,19 +214,29 @@ fn with_board(page: &mut [u8], kept: &mut [u8], state: State, rest: &[u8]) -> St
     with_board_name(page, kept, state, name, after_word(rest))
 }
 
-// The number of loads that `end` says, against those that there are.
-fn counted(page: &mut [u8], mut state: State, said: u64) -> State {
+fn put_counted(page: &mut [u8], at: usize, line: u64, said: u64, loads: u64) -> usize {
+    let place = put_place(page, at, line);
+    let says = put_form(page, place, b"end says #, and the file has ", &[said]);
+    put_count(page, says, loads, b"load")
+}
+
+fn with_end_line(mut state: State) -> State {
     let source = state.source;
     let mut file = state.file;
-    if said != file.loads {
-        let place = put_place(page, state.at, source.line);
-        let says = put_form(page, place, b"end says #, and the file has ", &[said]);
-        let has = put_count(page, says, file.loads, b"load");
-        return failed(page, state, has);
-    }
     file.end_line = source.line;
     state.file = file;
     state
+}
+
+// The number of loads that `end` says, against those that there are.
+fn counted(page: &mut [u8], state: State, said: u64) -> State {
+    let source = state.source;
+    let file = state.file;
+    if said == file.loads {
+        return with_end_line(state);
+    }
+    let has = put_counted(page, state.at, source.line, said, file.loads);
+    failed(page, state, has)
 }
 
 // `end N`
