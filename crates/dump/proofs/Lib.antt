@@ -1,0 +1,4 @@
+pub mod Window
+pub mod Length
+pub mod Samples
+pub mod Reply
