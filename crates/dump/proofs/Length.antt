@@ -2,7 +2,7 @@
 use mathlib.Core.Path.{_≡_, refl}
 use mathlib.Core.Bool.{Bool, true, false, cond, _&&_, Bool·beq}
 use mathlib.Core.List.{List, [], _∷_, _++_}
-use Prim.Native.Nat.{ℕ, zero, suc, _+_, _*_, _/_, _%_, _^_, _≤_, _<_}
+use Prim.Native.Nat.{ℕ, zero, suc, _+_, _-_, _*_, _/_, _%_, _^_, _≤_, _<_}
 use native.Mathlib.Nat.{div-lt-iff-lt-mul, pow-suc}
 use native.Mathlib.Omega.{arith}
 use lib.Dec.{ltb}
@@ -15,6 +15,10 @@ use Rattle.dump.specs.Text.{header, sclWire, sdaWire, stampLine, valueLi
 pub header-length : length header ≡ 127
 unfolding header
 header-length = refl
+
+-- of more bytes than there are, those left out but these
+pub left-whole : (more whole skip : ℕ) → skip ≡ more - whole → whole ≤ more → more - skip ≡ whole
+left-whole more whole skip left fits = omega arith
 
 -- a number below 10 ^ d has at most d digits
 digits : (most n d : ℕ) → n < 10 ^ suc d → length (decimalUpTo most n) ≤ suc d
