@@ -17,7 +17,8 @@ pub enum Dumped {
 // The text from byte `from` on, as much of it as `out` has room for; answers how many bytes those are. The rest of
 // `out` stays.
 pub fn piece(stamps: &[u32], levels: &[u8], from: usize, out: &mut [u8]) -> usize
-    ensures { λ r. ⌜ Put (now (out .entry)) 0 (drop from (dumpText (now (stamps .entry)) (now (levels .entry)))) (now (out .exit)) r ⌝ }
+    ensures { λ r. ⌜ Put (now (out .entry)) 0
+        (drop from (dumpText (now (stamps .entry)) (now (levels .entry)))) (now (out .exit)) r ⌝ }
 {
     let point = writer::write(stamps, levels, from, out);
     point.at
@@ -25,8 +26,10 @@ pub fn piece(stamps: &[u32], levels: &[u8], from: usize, out: &mut [u8]) -> usiz
 
 // The whole text. 19 comes after 5, 6, 4 and 7 and before 8; a refusal leaves the slice as it was.
 pub fn dump(stamps: &[u32], levels: &[u8], out: &mut [u8]) -> Dumped
-    ensures answer { λ r. ⌜ r ≡ dumped (now (stamps .entry)) (now (levels .entry)) (length (now (out .entry))) ⌝ }
-    ensures buffer { λ r. ⌜ now (out .exit) ≡ textAfter r (now (stamps .entry)) (now (levels .entry)) (now (out .entry)) ⌝ }
+    ensures answer { λ r. ⌜ r ≡ dumped
+        (now (stamps .entry)) (now (levels .entry)) (length (now (out .entry))) ⌝ }
+    ensures buffer { λ r. ⌜ now (out .exit) ≡ textAfter r
+        (now (stamps .entry)) (now (levels .entry)) (now (out .entry)) ⌝ }
 {
     let refusal = trace::check(stamps, levels);
     if refusal.number != 0 {

@@ -48,8 +48,8 @@ fn put_header(out: &mut [u8], from: usize) -> Point
 
 // The text from byte `from` on, as far as the slice goes.
 pub(crate) fn write(stamps: &[u32], levels: &[u8], from: usize, out: &mut [u8]) -> Point
-    ensures text { λ r. ⌜ PutPast (now (out .entry)) (begun from) (dumpText (now (stamps .entry)) (now (levels .entry)))
-        (now (out .exit)) r ⌝ }
+    ensures text { λ r. ⌜ PutPast (now (out .entry)) (begun from)
+        (dumpText (now (stamps .entry)) (now (levels .entry))) (now (out .exit)) r ⌝ }
     ensures bound { λ r. ⌜ length (dumpText (now (stamps .entry)) (now (levels .entry)))
         ≤ 127 + 18 * length (now (levels .entry)) ⌝ }
 {

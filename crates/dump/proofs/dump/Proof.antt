@@ -19,18 +19,18 @@ returns : tie.Need-returns
 returns c = (trace-refused _ _ _ (c .before .before .check .result) (c .before .before .check .ensures) (c .if1 .taken), refl)
 
 returns-2 : tie.Need-returns-2
-returns-2 c = 
+returns-2 c =
     let check = c .before .before .before .check in
     (empty-refused _ _ _ (check .result) (check .ensures) (c .before .if1 .left) (c .if2 .taken), refl)
 
 text-length-requires : tie.Need-text-length-requires
-text-length-requires c κs = 
+text-length-requires c κs =
     let args = c .before .before .before .before .before .before .before .args in
     let unrefused = sym (ap (λ (r : Refusal). r .number) (c .before .before .before .check .ensures)) ∙ c .before .if1 .left in
     checked (args .stamps .now) (args .levels .now) unrefused .few
 
 returns-3 : tie.Need-returns-3
-returns-3 c = 
+returns-3 c =
     let found = c .before .before .before in
     let check = found .before .before .check in
     let short = rw (c .before .text-length .ensures) at (c .if3 .taken) in
@@ -43,7 +43,7 @@ same-length : tie.Need-same-length
 same-length c = search needs
 
 returns-4 : tie.Need-returns-4
-returns-4 c = 
+returns-4 c =
     let put = c .before .before .piece .ensures in
     let test = c .before .before .before .before in
     let found = test .before .before .before in

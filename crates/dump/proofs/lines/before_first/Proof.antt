@@ -23,7 +23,7 @@ level-of-requires : tie.Need-level-of-requires
 level-of-requires c κs = search needs
 
 returns-2 : tie.Need-returns-2
-returns-2 c = 
+returns-2 c =
     let test = c .before .before .before .before in
     c .level-of .ensures
     ∙ ap₂ (λ (scl sda : Bool). levelOf (not scl) (not sda)) (c .before .before .scl .ensures) (c .before .sda .ensures)

@@ -20,7 +20,7 @@ sda-requires-2 : tie.Need-sda-requires-2
 sda-requires-2 c κs = search needs
 
 returns : tie.Need-returns
-returns c = 
+returns c =
     let start = c .before .before .before .before .before .before in
     let none =
     unchanged-text (start .args .last) (start .args .stamp) (start .args .level) _ _ _ _ (c .before .before .before .before .scl .ensures)
@@ -40,7 +40,7 @@ same-length : tie.Need-same-length
 same-length c = search needs
 
 returns-2 : tie.Need-returns-2
-returns-2 c = 
+returns-2 c =
     let third = c .before .before in
     let second = third .before .before .before .before in
     let first = second .before .before .before .before in
@@ -48,8 +48,7 @@ returns-2 c =
     let start = test .before .before .before .before .before .before in
     let lines =
     changed-text (start .args .last) (start .args .stamp) (start .args .level) _ _ _ _ (test .before .before .before .before .scl .ensures)
-    (test .before .before .before .sda .ensures) (test .before .before .scl2 .ensures) (test .before .sda2 .ensures) (test .if1 .left) in
-    (
+    (test .before .before .before .sda .ensures) (test .before .before .scl2 .ensures) (test .before .sda2 .ensures) (test .if1 .left) in (
       put-as _ _ lines
           (put-next _ _ (put-next _ _ (first .put-stamp .ensures) (second .put-change .ensures)) (third .put-change2 .ensures)),
       sample-length _ _ _ (omega arith),

@@ -29,7 +29,7 @@ same-length : tie.Need-same-length
 same-length c = search needs
 
 returns : tie.Need-returns
-returns c = 
+returns c =
     let bytes = c .before .before in
     let start = bytes .before .before .before .before .before .before in
     let chunk = start .args .chunk .now in

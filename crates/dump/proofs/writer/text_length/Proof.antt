@@ -14,12 +14,12 @@ write-requires : tie.Need-write-requires
 write-requires c κs = search needs
 
 sub-result : tie.Need-sub-result
-sub-result c = 
+sub-result c =
     let text = c .before .before .write .ensures in
     omega (arith, text .0 .left)
 
 returns : tie.Need-returns
-returns c = 
+returns c =
     let text = c .before .before .write .ensures in
     let start = c .before .before .before .before .before .before in
     let whole = length (dumpText (start .args .stamps .now) (start .args .levels .now)) in

@@ -61,12 +61,12 @@ add-i : tie.Need-add-i Inv-loop μ-loop
 add-i c = search needs
 
 loop-less : tie.Need-loop-less Inv-loop μ-loop
-loop-less c = 
+loop-less c =
     let turn = c .before .before .before .before .before .before .before .before .before .before in
     omega (arith, turn .loop-test .taken)
 
 loop-again : tie.Need-loop-again Inv-loop μ-loop
-loop-again c = 
+loop-again c =
     let sample = c .before .before .before .before .before .before .put-sample in
     let test = c .before .before .before .before .before .before .before .before .before .before in
     let head = test .before in
@@ -88,7 +88,7 @@ same-length : tie.Need-same-length Inv-loop μ-loop
 same-length c = past-length (c .before .loop .inv .2 .past) ∙ past-length (c .before .before .before .before .put-header .ensures)
 
 returns : tie.Need-returns Inv-loop μ-loop
-returns c = 
+returns c =
     let head = c .before in
     let header = head .before .before .before in
     let first = header .before .before in
