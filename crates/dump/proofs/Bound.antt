@@ -2,12 +2,12 @@
 use mathlib.Core.Path.{_≡_, refl, sym, ap}
 use mathlib.Core.Bool.{Bool, true, false, cond}
 use mathlib.Core.List.{List, [], _∷_, _++_}
-use Prim.Native.Nat.{ℕ, _+_, _*_, _^_, _≤_, _<_}
+use Prim.Native.Nat.{ℕ, suc, _+_, _*_, _^_, _≤_, _<_}
 use native.Mathlib.Omega.{arith}
 use lib.Dec.{eqb, ltb}
-use lib.ListN.{length, length-append}
+use lib.ListN.{length, getD, length-append}
 use borrow.Author.Tests.{eqb-true}
-use Rattle.laws.specs.Everyone.{Everyone, also}
+use Rattle.laws.specs.Everyone.{Everyone, nobody, also}
 use Rattle.laws.specs.declared.Refusal.{Refusal}
 use Rattle.laws.specs.Refusals.{Check, check, given}
 use Rattle.laws.proofs.Refusals.{Numbered, passed, passed-first, numbered-both, unrefused}
@@ -24,6 +24,10 @@ use Rattle.dump.proofs.Reply.{all-written}
 -- stamps of 32 bits
 abbrev pub Stamps : List ℕ → Type 0
 Stamps stamps = Everyone (λ (stamp : ℕ). stamp < 2 ^ 32) stamps
+
+pub each-stamp : (stamps : List ℕ) → ((i : ℕ) → getD stamps i 0 < 2 ^ 32) → Stamps stamps
+each-stamp [] known = nobody
+each-stamp (stamp ∷ stamps) known = also (known 0) (each-stamp stamps (λ i. known (suc i)))
 
 -- each sample takes at most 18 bytes
 after-length : (last : ℕ) (stamps levels : List ℕ) → Stamps stamps → length (samplesAfter last stamps levels) ≤ 18 * length levels

@@ -25,6 +25,16 @@ dumped stamps levels room =
     let refusal = given (dumpChecks stamps levels room) in
     cond (eqb (refusal .number) 0) (Written (length (dumpText stamps levels))) (Refused (refusal .number) (refusal .place))
 
+-- the numbers of an answer: the refusal (0: none) and its place, and how many bytes; in a refused answer none
+pub record DumpedNumbers : Type 0 where
+  pub refusal : ℕ
+  pub place : ℕ
+  pub count : ℕ
+
+abbrev pub dumpedNumbers : Dumped → DumpedNumbers
+dumpedNumbers (Written count) = record { refusal = 0; place = 0; count = count }
+dumpedNumbers (Refused number place) = record { refusal = number; place = place; count = 0 }
+
 -- the lent slice after it: the text, and its rest as it was; after a refusal all as it was
 abbrev pub textAfter : Dumped → List ℕ → List ℕ → List ℕ → List ℕ
 textAfter (Written count) stamps levels buffer = filled (dumpText stamps levels) buffer
