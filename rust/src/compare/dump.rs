@@ -11,6 +11,9 @@ use crate::random::Random;
 pub fn case(other: &dyn Interface, random: &mut Random, counts: &mut Counts) -> Result<(), Difference> {
     let (kind, mut levels) = draw_record_levels(random);
     let mut stamps = draw_stamps(random, levels.len());
+    if levels.is_empty() && random.once_in(4) {
+        stamps.push(random.bits() as u32);
+    }
     if random.once_in(2) {
         spoil(random, &mut stamps, &mut levels);
     }
