@@ -45,6 +45,17 @@ uint64_t bus_decode_fast(const uint32_t *stamps, size_t stamps_length, const uin
 uint64_t bus_encode(const uint16_t *events, size_t events_length, uint32_t start, uint32_t gap, uint32_t *stamps,
                     size_t stamps_length, uint8_t *levels, size_t levels_length);
 
+/* A trace as a Value Change Dump (IEEE 1364) of one text with lines closed by 0Ah. The answer: byte 0 the refusal's
+ * number (19: no sample; 8: the slice is shorter than the text), bytes 1 and 2 its place, from byte 3 on how many bytes
+ * the text has: never more than 73,855. */
+uint64_t bus_dump(const uint32_t *stamps, size_t stamps_length, const uint8_t *levels, size_t levels_length,
+                  uint8_t *out, size_t out_length);
+
+/* The same text from byte `from` on, as much of it as there is room for, of as many samples as there are both stamps and
+ * levels; nothing is refused. The answer: how many bytes were put, 0 at the text's end or past it. */
+size_t bus_dump_piece(const uint32_t *stamps, size_t stamps_length, const uint8_t *levels, size_t levels_length,
+                      size_t from, uint8_t *out, size_t out_length);
+
 /* Masters that start together, with messages that lie in bytes one after the other. The answer: the refusal's number in
  * byte 0, the place in bytes 1 and 2, the count of bytes carried from byte 3 on. Each table has an entry for each of the
  * most masters: a module, and a seat, 1 where the master is still in, plus 2 * the flags that its writes cleared, plus

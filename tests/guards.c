@@ -204,6 +204,38 @@ static void traces(void)
     check(kept_past(&stamps, 0) && kept_past(&levels, 0), "9, 10, 11: all kept");
 }
 
+/* document 02, request 2: stamps 5 6 9, levels 3 3 1 */
+static const char dumped[] =
+    "$timescale 100 ns $end\n$scope module bus $end\n$var wire 1 ! scl $end\n$var wire 1 \" sda $end\n$upscope $end\n"
+    "$enddefinitions $end\n#5\n1!\n1\"\n#9\n0\"\n";
+
+static void dumps(void)
+{
+    static struct guarded text;
+    const uint32_t stamps[] = {5, 6, 9}, level[] = {9, 9, 9};
+    const uint8_t levels[] = {3, 3, 1}, high[] = {3, 4, 1};
+    for (size_t room = 0; room < 150; room++) {
+        uint8_t *t = lend(&text, room);
+        uint64_t answer = bus_dump(stamps, 3, levels, 3, t, room);
+        check(answer == (room < 142 ? 8 : (uint64_t)142 << 24), "the case's reply");
+        check(kept_past(&text, room < 142 ? 0 : 142), "the case's rest");
+        check(room < 142 || memcmp(t, dumped, 142) == 0, "the case");
+    }
+    for (size_t from = 0; from < 150; from++)
+        for (size_t room = 0; room < 20; room++) {
+            size_t left = from < 142 ? 142 - from : 0, count = left < room ? left : room;
+            uint8_t *t = lend(&text, room);
+            check(bus_dump_piece(stamps, 3, levels, 3, from, t, room) == count, "a piece's count");
+            check(memcmp(t, dumped + 142 - left, count) == 0 && kept_past(&text, count), "a piece");
+        }
+    uint8_t *t = lend(&text, 200);
+    check(bus_dump_piece(stamps, 3, levels, 3, SIZE_MAX, t, 200) == 0 && kept_past(&text, 0), "a piece past all");
+    check(bus_dump(stamps, 1, levels, 0, t, 200) == 5 && kept_past(&text, 0), "5 before 19");
+    check(bus_dump(level, 3, high, 3, t, 200) == 4 + 256 && kept_past(&text, 0), "4 at sample 1 before 7");
+    check(bus_dump(level, 3, levels, 3, t, 0) == 7 + 256 && kept_past(&text, 0), "7 at sample 1 before 8");
+    check(bus_dump(NULL, 0, NULL, 0, NULL, 0) == 19, "19 before 8");
+}
+
 static void modules(void)
 {
     uint64_t u = usi_power_up(0, 0);
@@ -268,6 +300,7 @@ int main(void)
 {
     modules();
     traces();
+    dumps();
     arbitrations();
     catalogues();
     printf("guards: %d checks, %d failed\n", checks, failures);

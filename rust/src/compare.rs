@@ -8,6 +8,7 @@ use std::collections::BTreeMap;
 
 pub mod arbitration;
 pub mod catalogue;
+pub mod dump;
 pub mod lists;
 pub mod phases;
 pub mod traces;
@@ -37,10 +38,11 @@ pub struct Comparison {
     pub case: Case,
 }
 
-pub const COMPARISONS: [Comparison; 6] = [
+pub const COMPARISONS: [Comparison; 7] = [
     Comparison { word: "usi", cases: "step sequences", count: 200_000, case: usi::case },
     Comparison { word: "bus", cases: "traces", count: 100_000, case: traces::case },
     Comparison { word: "bus", cases: "timed traces", count: 100_000, case: phases::case },
+    Comparison { word: "bus", cases: "dumps", count: 50_000, case: dump::case },
     Comparison { word: "bus", cases: "lists", count: 100_000, case: lists::case },
     Comparison { word: "arbitration", cases: "arbitrations", count: 50_000, case: arbitration::case },
     Comparison { word: "catalogue", cases: "catalogues", count: 100_000, case: catalogue::case },

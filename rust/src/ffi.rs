@@ -48,6 +48,23 @@ extern "C" {
         levels: *mut u8,
         levels_len: usize,
     ) -> u64;
+    fn bus_dump(
+        stamps: *const u32,
+        stamps_len: usize,
+        levels: *const u8,
+        levels_len: usize,
+        out: *mut u8,
+        out_len: usize,
+    ) -> u64;
+    fn bus_dump_piece(
+        stamps: *const u32,
+        stamps_len: usize,
+        levels: *const u8,
+        levels_len: usize,
+        from: usize,
+        out: *mut u8,
+        out_len: usize,
+    ) -> usize;
     fn arbitrate(
         bytes: *const u8,
         bytes_len: usize,
@@ -168,6 +185,33 @@ impl Interface for Archive {
                 stamps.len(),
                 levels.as_mut_ptr(),
                 levels.len(),
+            )
+        }
+    }
+
+    fn dump(&self, stamps: &[u32], levels: &[u8], out: &mut [u8]) -> u64 {
+        unsafe {
+            bus_dump(
+                stamps.as_ptr(),
+                stamps.len(),
+                levels.as_ptr(),
+                levels.len(),
+                out.as_mut_ptr(),
+                out.len(),
+            )
+        }
+    }
+
+    fn dump_piece(&self, stamps: &[u32], levels: &[u8], from: usize, out: &mut [u8]) -> usize {
+        unsafe {
+            bus_dump_piece(
+                stamps.as_ptr(),
+                stamps.len(),
+                levels.as_ptr(),
+                levels.len(),
+                from,
+                out.as_mut_ptr(),
+                out.len(),
             )
         }
     }
@@ -298,6 +342,14 @@ impl Interface for Guarded {
         guarded(stamps, 0xA5A5_A5A5, |stamps| {
             guarded(levels, 0xA5, |levels| Archive.encode(events, start, gap, stamps, levels))
         })
+    }
+
+    fn dump(&self, stamps: &[u32], levels: &[u8], out: &mut [u8]) -> u64 {
+        guarded(out, 0xA5, |out| Archive.dump(stamps, levels, out))
+    }
+
+    fn dump_piece(&self, stamps: &[u32], levels: &[u8], from: usize, out: &mut [u8]) -> usize {
+        guarded(out, 0xA5, |out| Archive.dump_piece(stamps, levels, from, out))
     }
 
     fn arbitrate(&self, asked: &Asked, lent: Lent) -> u64 {

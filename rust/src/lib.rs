@@ -7,6 +7,7 @@ pub mod bus;
 pub mod cases;
 pub mod catalogue;
 pub mod compare;
+pub mod dump;
 #[cfg(feature = "rattle")]
 pub mod ffi;
 pub mod module;

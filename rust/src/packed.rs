@@ -6,6 +6,7 @@
 use crate::arbitration::{self, runner, Request, Run, MASTERS};
 use crate::bus::{self, Decoded};
 use crate::catalogue::{self, Catalogue, Part};
+use crate::dump;
 use crate::module::Module;
 use crate::phases::{self, Mode};
 use crate::refusal::{Reason, Refusal};
@@ -72,6 +73,8 @@ pub trait Interface {
     fn decode(&self, stamps: &[u32], levels: &[u8], events: &mut [u16]) -> u64;
     fn decode_in(&self, mode: Mode, stamps: &[u32], levels: &[u8], events: &mut [u16]) -> u64;
     fn encode(&self, events: &[u16], start: u32, gap: u32, stamps: &mut [u32], levels: &mut [u8]) -> u64;
+    fn dump(&self, stamps: &[u32], levels: &[u8], out: &mut [u8]) -> u64;
+    fn dump_piece(&self, stamps: &[u32], levels: &[u8], from: usize, out: &mut [u8]) -> usize;
     fn arbitrate(&self, asked: &Asked, lent: Lent) -> u64;
     /// The index of the least message, and how many comparisons found it.
     fn least(&self, bytes: &[u8], lengths: &[u32]) -> (u64, u64);
@@ -188,6 +191,14 @@ impl Interface for Model {
 
     fn encode(&self, events: &[u16], start: u32, gap: u32, stamps: &mut [u32], levels: &mut [u8]) -> u64 {
         bus::encode(events, start, gap, stamps, levels).map_or_else(refused, |count| (count as u64) << 8)
+    }
+
+    fn dump(&self, stamps: &[u32], levels: &[u8], out: &mut [u8]) -> u64 {
+        dump::dump(stamps, levels, out).map_or_else(refused, |count| (count as u64) << 24)
+    }
+
+    fn dump_piece(&self, stamps: &[u32], levels: &[u8], from: usize, out: &mut [u8]) -> usize {
+        dump::piece(stamps, levels, from, out)
     }
 
     fn arbitrate(&self, asked: &Asked, lent: Lent) -> u64 {

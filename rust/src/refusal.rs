@@ -22,6 +22,7 @@ pub enum Reason {
     Undecided = 16,
     NoWaiting = 17,
     ShortPhase = 18,
+    EmptyRecord = 19,
     BoardsDoNotRise = 40,
     BoardLengths = 41,
     BoardAbsent = 42,

@@ -31,6 +31,13 @@ enum Wrong {
     InFrames,
     NoPlace,
     LastStamp,
+    SdaFirst,
+    LeadingZero,
+    DumpRest,
+    EmptyBefore5,
+    EmptyTaken,
+    ByteLost,
+    PastTheEnd,
     Position,
     Module,
     StillIn,
@@ -49,6 +56,9 @@ enum Wrong {
     StandingBoardsFirst,
     LengthsNotCounted,
 }
+
+/// How many bytes a dump has before its first sample.
+const HEADER: usize = 127;
 
 impl Interface for Wrong {
     fn power_up(&self, usisrl: u8, usisrh: u8) -> u64 {
@@ -146,6 +156,34 @@ impl Interface for Wrong {
         Model.encode(events, start, gap, stamps, levels)
     }
 
+    fn dump(&self, stamps: &[u32], levels: &[u8], out: &mut [u8]) -> u64 {
+        let reply = Model.dump(stamps, levels, out);
+        let count = (reply >> 24) as usize;
+        match self {
+            Wrong::SdaFirst => (HEADER..(count + 1).saturating_sub(6)).for_each(|at| {
+                if out[at + 1] == b'!' && out[at + 4] == b'"' {
+                    out[at..at + 6].rotate_left(3);
+                }
+            }),
+            Wrong::LeadingZero => (HEADER..count.saturating_sub(2)).for_each(|at| {
+                if out[at] == b'#' && out[at + 2] != b'\n' {
+                    out[at + 1] = b'0';
+                }
+            }),
+            Wrong::DumpRest if count > 0 => out[count..].fill(0),
+            Wrong::EmptyBefore5 if levels.is_empty() => return 19,
+            Wrong::EmptyTaken if reply == 19 => return Model.dump(&[0], &[3], out),
+            _ => {}
+        }
+        reply
+    }
+
+    fn dump_piece(&self, stamps: &[u32], levels: &[u8], from: usize, out: &mut [u8]) -> usize {
+        let late = usize::from(*self == Wrong::ByteLost && from > 0);
+        let count = Model.dump_piece(stamps, levels, from.saturating_add(late), out);
+        count + usize::from(*self == Wrong::PastTheEnd && from > 0 && count == 0 && !out.is_empty())
+    }
+
     fn arbitrate(&self, asked: &Asked, lent: Lent) -> u64 {
         let Lent { carried, levels, modules, seats } = lent;
         let lent =
@@ -238,10 +276,11 @@ fn the_model_is_equal_to_itself_in_full() {
 
 #[test]
 fn every_refusal_occurs() {
-    let expected: [(&str, &[usize]); 6] = [
+    let expected: [(&str, &[usize]); 7] = [
         ("step sequences", &[1, 2, 3, 4]),
         ("traces", &[0, 4, 5, 6, 7, 8]),
         ("timed traces", &[0, 4, 5, 6, 7, 8, 18]),
+        ("dumps", &[0, 4, 5, 6, 7, 8, 19]),
         ("lists", &[0, 6, 8, 9, 10, 11]),
         ("arbitrations", &[0, 8, 12, 13, 14, 15, 16]),
         ("catalogues", &[0, 40, 41, 42]),
@@ -271,6 +310,15 @@ fn wrong_readers_and_writers_are_found() {
         &[LimitRefused, LowForHigh, FirstPhase, LastToLast, ShortBefore7, InFrames, NoPlace],
     );
     check_detected("lists", &[LastStamp]);
+}
+
+#[test]
+fn wrong_dumps_are_found() {
+    use Wrong::*;
+    check_detected(
+        "dumps",
+        &[SdaFirst, LeadingZero, DumpRest, EmptyBefore5, EmptyTaken, ByteLost, PastTheEnd],
+    );
 }
 
 #[test]

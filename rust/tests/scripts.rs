@@ -72,6 +72,8 @@ fn examples() -> Vec<(String, Vec<u8>)> {
             "trace" => &[("decode", "decode")],
             "events" => &[("encode", "encode")],
             "session" => &[("session", "session")],
+            // a dump, which no command reads
+            "vcd" => &[],
             _ => panic!("examples/{file}: no kind of file"),
         };
         for (name, words) in words {

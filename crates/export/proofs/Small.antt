@@ -1,12 +1,12 @@
 -- No place and no count of a reply passes 16 bits, so none is cut in the number that stands for it.
-use Prim.Native.Nat.{ℕ, _<_, _≤_}
+use Prim.Native.Nat.{ℕ, _<_, _≤_, _^_}
 use native.Mathlib.Omega.{arith}
 use mathlib.Core.Logic.{⊎-elim}
 use mathlib.Core.Path.{_≡_, refl, sym, ap}
 use mathlib.Core.Bool.{Bool, true, false, cond, not}
 use mathlib.Core.List.{List, [], _∷_, _++_}
 use lib.Dec.{eqb, ltb}
-use lib.ListN.{length}
+use lib.ListN.{length, getD}
 use borrow.Author.Tests.{eqb-true, ltb-false, not-false}
 use Rattle.laws.specs.Refusals.{Check, check, given}
 use Rattle.laws.proofs.Refusals.{Placed, placed, passed, passed-first, numbered-both}
@@ -24,13 +24,19 @@ use Rattle.encode.specs.declared.Encoded.the-variants.{Drawn, Refused as NotDra
 use Rattle.encode.specs.Encode.{sampleCount}
 use Rattle.encode.specs.EncodeReply.{encodeChecks, encoded, encodedNumbers}
 use Rattle.trace_theorems.proofs.Replies.{accepted, taken}
+use Rattle.dump.specs.declared.Dumped.{Dumped}
+use Rattle.dump.specs.declared.Dumped.the-variants.{Written, Refused as NotWritten}
+use Rattle.dump.specs.Text.{dumpText}
+use Rattle.dump.specs.Dumped.{dumpChecks, dumped, dumpedNumbers}
+use Rattle.dump.proofs.Bound.{each-stamp, written-few}
 use Rattle.phases.specs.declared.Mode.{Mode}
 use Rattle.phases.specs.DecodedIn.{decodedIn}
 use Rattle.phases.proofs.Modes.{before-or-18}
 
 module _ (stamps levels : List ℕ) (room : ℕ) where
-  decode-placed : Placed maxSamples (decodeChecks stamps levels room)
-  decode-placed = (
+  -- the places of 4 and 7 are samples
+  trace-placed : (more : List Check) → Placed maxSamples more → Placed maxSamples (traceChecks stamps levels ++ more)
+  trace-placed more others = (
     omega arith,
     λ same. (
       omega arith,
@@ -44,11 +50,20 @@ module _ (stamps levels : List ℕ) (room : ℕ) where
             ltb-false maxSamples (length levels) few,
             eqb-true (length stamps) (length levels) (not-false (eqb (length stamps) (length levels)) same),
           ),
-          λ rises. (omega arith, λ enough. tt),
+          λ rises. others,
         ),
       ),
     ),
   )
+
+  decode-placed : Placed maxSamples (decodeChecks stamps levels room)
+  decode-placed =
+      trace-placed (check 8 (ltb room (length (events levels))) ∷ []) (omega arith, λ enough. tt)
+
+  dump-placed : Placed maxSamples (dumpChecks stamps levels room)
+  dump-placed =
+      trace-placed (check 19 (eqb (length levels) 0) ∷ check 8 (ltb room (length (dumpText stamps levels))) ∷ [])
+      (omega arith, λ some. (omega arith, λ enough. tt))
 
   -- a refused answer has the refusal's place
   refused-place : (none : Bool) (found : ℕ) (number place : ℕ) (refusal : ℕ) → cond none
@@ -76,6 +91,30 @@ module _ (stamps levels : List ℕ) (room : ℕ) where
               small,
               refused-place (eqb (found .number) 0) (found .place) number place (found .number) is,
             ),
+          )
+
+-- the reply of dump, with stamps of 32 bits
+module _ (stamps levels : List ℕ) (room : ℕ) (known : (i : ℕ) → getD stamps i 0 < 2 ^ 32) where
+  place-of : (none : Bool) (found : ℕ) (number place : ℕ) (refusal : ℕ)
+      → cond none (Written (length (dumpText stamps levels))) (NotWritten refusal found) ≡ NotWritten number place
+      → found ≡ place
+  place-of true found number place refusal is = let never : _≡_ {A = ℕ} 0 1 = cc in absurd (omega arith)
+  place-of false found number place refusal is = cc
+
+  pub dumped-small : (dumpedNumbers (dumped stamps levels room) .count < 73856)
+      × (dumpedNumbers (dumped stamps levels room) .place < 65536)
+  unfolding dumped
+  dumped-small = go (dumped stamps levels room) refl
+    where
+      go : (answer : Dumped) → dumped stamps levels room ≡ answer
+          → (dumpedNumbers answer .count < 73856) × (dumpedNumbers answer .place < 65536)
+      go (Written count) is =
+          (omega (arith, written-few stamps levels room count is (each-stamp stamps known)), omega arith)
+      go (NotWritten number place) is =
+          let found = given (dumpChecks stamps levels room) in
+          let small = placed maxSamples (dumpChecks stamps levels room) (dump-placed stamps levels room) in (
+            omega arith,
+            omega (arith, small, place-of (eqb (found .number) 0) (found .place) number place (found .number) is),
           )
 
 -- the same in a mode: the answer as it was, or 18 at a sample of the trace

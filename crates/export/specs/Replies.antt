@@ -1,9 +1,11 @@
--- The replies of decode and encode as one 64-bit number each, by 01's numbers of their answers.
+-- The replies of decode, encode and dump as one 64-bit number each, by 01's numbers of their answers.
 use Prim.Native.Nat.{ℕ, _+_, _*_, _^_}
 use Rattle.decode.specs.declared.Decoded.{Decoded}
 use Rattle.decode.specs.DecodeReply.{decodedNumbers}
 use Rattle.encode.specs.declared.Encoded.{Encoded}
 use Rattle.encode.specs.EncodeReply.{encodedNumbers}
+use Rattle.dump.specs.declared.Dumped.{Dumped}
+use Rattle.dump.specs.Dumped.{dumpedNumbers}
 
 -- byte 0: refusal; bytes 1 and 2: place; bytes 3 and 4: event count; byte 5: frame open; byte 6: pending bits; byte 7:
 -- their value (no place and no count passes 4,096: proofs/Small.antt)
@@ -16,3 +18,8 @@ packedDecoded answer =
 -- byte 0: refusal; above it the sample count
 abbrev pub packedEncoded : Encoded → ℕ
 packedEncoded answer = encodedNumbers answer .refusal + 256 * encodedNumbers answer .count
+
+-- byte 0: refusal; bytes 1 and 2: place; from byte 3 on the count of bytes, at most 73,855
+abbrev pub packedDumped : Dumped → ℕ
+packedDumped answer =
+    dumpedNumbers answer .refusal + 256 * dumpedNumbers answer .place + 256 ^ 3 * dumpedNumbers answer .count

@@ -9,6 +9,7 @@ ghost use Rattle.export.specs.Packed.{packed as packedModule, packedStep
 
 mod arbitration_calls; // arbitration_calls.rt: arbitration
 mod catalogue_calls; // catalogue_calls.rt: corrections over the standing catalogue
+mod dump_calls; // dump_calls.rt: a trace as a Value Change Dump
 mod order_calls; // order_calls.rt: the least message
 mod trace_calls; // trace_calls.rt: decode and encode
 

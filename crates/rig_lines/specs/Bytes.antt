@@ -2,14 +2,8 @@
 use mathlib.Core.Bool.{Bool, true, not, _&&_, _||_}
 use mathlib.Core.List.{List, [], _∷_}
 use Prim.Native.Nat.{ℕ}
-use Prim.Native.Char.{code}
-use Prim.Native.String.{String, [] as none, _∷_ as _∷ₛ_}
 use lib.Dec.{eqb, ltb}
-
--- the bytes of a text in quotes
-abbrev pub ascii : String → List ℕ
-ascii none = []
-ascii (c ∷ₛ text) = code c ∷ ascii text
+pub use Rattle.text.specs.Bytes.{ascii}
 
 -- a control byte: below 20h, or 7Fh
 abbrev pub control : ℕ → Bool

@@ -13,13 +13,13 @@ use borrow.Author.Tests.{leb-true, leb-false}
 use Rattle.text.specs.Output.{Put}
 
 -- past the end nothing is stored
-sets-out : (text l : List ℕ) (i : ℕ) → length l ≤ i → sets l i text ≡ l
+pub sets-out : (text l : List ℕ) (i : ℕ) → length l ≤ i → sets l i text ≡ l
 sets-out [] l i h = refl
 sets-out (a ∷ text) l i h =
     let past : length (set l i a) ≤ suc i = omega (arith, length-set l i a) in
     sets-out text (set l i a) (suc i) past ∙ set-out l i a h
 
-sets-append : (s t l : List ℕ) (i : ℕ) → sets l i (s ++ t) ≡ sets (sets l i s) (i + length s) t
+pub sets-append : (s t l : List ℕ) (i : ℕ) → sets l i (s ++ t) ≡ sets (sets l i s) (i + length s) t
 sets-append [] t l i = ap (λ (k : ℕ). sets l k t) (omega arith)
 sets-append (a ∷ s) t l i =
     let on : suc i + length s ≡ i + suc (length s) = omega arith in

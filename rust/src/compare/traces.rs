@@ -99,7 +99,7 @@ fn long_levels(random: &mut Random) -> Vec<u8> {
     levels
 }
 
-fn rising_stamps(random: &mut Random, count: usize) -> Vec<u32> {
+pub(super) fn rising_stamps(random: &mut Random, count: usize) -> Vec<u32> {
     let mut stamp = if random.once_in(2) { 0 } else { random.bits() as u32 / 2 };
     let widest = random.pick(&[1, 3, 1000, 100_000]);
     let mut stamps = Vec::new();
