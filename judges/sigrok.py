@@ -2,17 +2,15 @@
 """Our drawings and readings against sigrok's I2C decoder (Debian packages sigrok-cli, libsigrokdecode4).
 
 Draws random complete event lists with `rig encode`, rehearses random loads with `rig clash`, writes what they show as a
-Value Change Dump, and lets sigrok-cli decode it. Its events must be those of the list, or of the carried bytes. Then cuts
-drawings short: what sigrok finds in the cut trace must be what `rig decode` finds. Exit status 1 at the first difference,
-2 where a tool is missing."""
+Value Change Dump with `rig dump`, and lets sigrok-cli decode it. Its events must be those of the list, or of the carried
+bytes. Then cuts drawings short: what sigrok finds in the cut trace must be what `rig decode` finds. GTKWave's converters
+(Debian's gtkwave) must hand each dump back with the same changes. Exit status 1 at the first difference, 2 where a tool is
+missing."""
 import os, random, re, shutil, subprocess, sys, tempfile
 
 TOP = os.path.join(os.path.dirname(os.path.abspath(__file__)), "..")
-RIG = os.path.join(TOP, "target/bin/rig")
-HEADER = (
-    "$timescale 100 ns $end\n$scope module bus $end\n$var wire 1 ! scl $end\n"
-    '$var wire 1 " sda $end\n$upscope $end\n$enddefinitions $end\n'
-)
+PROGRAMS = os.environ.get("RIG_PROGRAMS", os.path.join(TOP, "target/bin"))
+RIG = os.path.join(PROGRAMS, "rig")
 SIGROK = ["sigrok-cli", "-I", "vcd:compress=1", "-P", "i2c:scl=scl:sda=sda:address_format=unshifted", "-A", "i2c=addr-data"]
 
 
@@ -20,27 +18,46 @@ def rig(folder, words, text):
     path = os.path.join(folder, "input")
     with open(path, "w") as f:
         f.write(text)
-    return subprocess.run([RIG] + words + [path], capture_output=True, text=True, cwd=folder).stdout
+    program = os.path.join(PROGRAMS, "rig_clash" if words[0] == "clash" else "rig")
+    return subprocess.run([program] + words + [path], capture_output=True, text=True, cwd=folder).stdout
 
 
-def dump(levels):
-    """A VCD of the levels, 5 us apart, with one more stamp: libsigrok never decodes the last change of a file."""
-    out, before = HEADER, None
-    for i, level in enumerate(levels):
-        if level != before:
-            out += f"#{50 * i}\n"
-            for bit, mark in ((1, "!"), (2, '"')):
-                if before is None or (level ^ before) & bit:
-                    out += f"{int(level & bit != 0)}{mark}\n"
-        before = level
-    return out + f"#{50 * len(levels)}\n"
+def dump(folder, levels):
+    """`rig dump` of the levels, 5 us apart."""
+    text = rig(folder, ["dump"], "".join(f"{50 * i} {level}\n" for i, level in enumerate(levels)))
+    text, last = text[: text.rstrip("\n").rfind("\n") + 1], text.splitlines()[-1]
+    assert last.startswith("ok "), last
+    return text
+
+
+def changes(text):
+    """The stamps of a VCD with the levels after each, by the wires' names, whatever its identifiers are."""
+    names = {m[1]: m[2] for m in re.finditer(r"\$var wire 1 (\S+) (\w+)", text)}
+    found, levels, stamp = [], {}, None
+    for word in text[text.index("$enddefinitions") :].split():
+        if word[0] == "#":
+            if stamp is not None:
+                found.append((stamp, dict(levels)))
+            stamp = int(word[1:])
+        elif word[0] in "01" and word[1:] in names:
+            levels[names[word[1:]]] = word[0]
+    return found + [(stamp, dict(levels))]
+
+
+def converted(folder, text):
+    """A dump as GTKWave's converters hand it back: to its own format, and to a VCD again."""
+    path = os.path.join(folder, "dump.vcd")
+    with open(path, "w") as f:
+        f.write(text)
+    subprocess.run(["vcd2fst", path, path + ".fst"], check=True, capture_output=True)
+    return subprocess.run(["fst2vcd", path + ".fst"], check=True, capture_output=True, text=True).stdout
 
 
 def judged(folder, levels):
-    """The events that sigrok finds, in our numbers."""
+    """The events that sigrok finds, in our numbers. libsigrok never decodes the last change: one more stamp follows it."""
     path = os.path.join(folder, "trace.vcd")
     with open(path, "w") as f:
-        f.write(dump(levels))
+        f.write(dump(folder, levels) + f"#{50 * len(levels)}\n")
     run = subprocess.run(SIGROK + ["-i", path], capture_output=True, text=True)
     if run.stderr.strip():
         sys.exit(f"sigrok-cli: {run.stderr.strip()}")
@@ -77,9 +94,9 @@ def drawn(folder, events):
 def read(folder, levels):
     """The events that `rig decode` finds."""
     out = rig(folder, ["decode"], "".join(f"{50 * i} {level}\n" for i, level in enumerate(levels))).splitlines()
-    assert out[-1].startswith("ok"), out[-1]
+    assert out[-1].startswith(("ok", "look")), out[-1]
     marks = {"START": 512, "repeated START": 513, "STOP": 514, "cut byte": 515}
-    words = [line.split(": ", 1)[1] for line in out[:-1]]
+    words = [line.split(": ", 1)[1] for line in out[:-1] if line[0].isdigit()]
     return [marks[w] if w in marks else int(w[:2], 16) + 256 * w.endswith("NACK") for w in words]
 
 
@@ -111,8 +128,8 @@ def same(what, ours, theirs):
 
 
 def main():
-    if not shutil.which("sigrok-cli") or not os.path.exists(RIG):
-        print("judges/sigrok.py: install Debian's sigrok-cli and libsigrokdecode4, and build the program: ./rig help")
+    if not shutil.which("sigrok-cli") or not shutil.which("vcd2fst") or not os.path.exists(RIG):
+        print("judges/sigrok.py: install Debian's sigrok-cli, libsigrokdecode4 and gtkwave, and build the program: ./rig build")
         sys.exit(2)
     seed, count = 20261115, int(sys.argv[1]) if len(sys.argv) > 1 else 300
     rng = random.Random(seed)
@@ -121,12 +138,15 @@ def main():
             events = random_list(rng)
             levels = drawn(folder, events)
             same("a drawing", events, judged(folder, levels))
+            text = dump(folder, levels)
+            same("a dump through GTKWave's converters", changes(text), changes(converted(folder, text)))
             # sigrok takes a bit as SCL rises, document 01 as it falls: both have taken it where SCL is low
             cut = levels[: rng.choice([i + 1 for i, level in enumerate(levels) if level % 2 == 0])]
             same("a cut drawing", read(folder, cut), judged(folder, cut))
-            levels, carried = shown(rig(folder, ["clash"], load(rng)))
+            levels, carried = shown(rig(folder, ["clash", "--wave"], load(rng)))
             same("an arbitration", carried, judged(folder, levels))
-    print(f"seed {seed}: sigrok reads {count} drawings, {count} cut drawings and {count} arbitrations as we do")
+    print(f"seed {seed}: sigrok reads {count} drawings, {count} cut drawings and {count} arbitrations as we do, dumped by rig dump")
+    print(f"GTKWave's vcd2fst and fst2vcd hand {count} dumps back with the same changes")
 
 
 main()

@@ -57,7 +57,7 @@ input() { printf '%s\n' "$@" >in; }
 load() { input "boards p q r" "load x" "$@" "end 1"; }
 
 commands() {
-    local names="expected clash, decode, encode or session"
+    local names="expected clash, decode, dump, encode or session"
     input
     expect 2 "error unknown command 'rehearse': $names" rehearse
     expect 2 "error unknown command '$(printf 'x%.0s' {1..32})..': $names" "$(printf 'x%.0s' {1..40})"
@@ -91,23 +91,23 @@ help() {
     input
     for command in help --help -h; do expect 0 "ok help" $command && has "usage: rig COMMAND .."; done
     expect 0 "ok help" && has "usage: rig COMMAND .."
-    for command in clash decode encode session; do
+    for command in clash decode dump encode session; do
         for words in "help $command" "$command --help" "$command -h" "$command x --help"; do
             # shellcheck disable=SC2086
             expect 0 "ok help" $words
             holds 'head -n 1 out | grep -q "^usage: rig $command"' "rig $words: $(head -n 1 out)"
         done
     done
-    expect 2 "error unknown command 'rehearse': expected clash, decode, encode or session" help rehearse
+    expect 2 "error unknown command 'rehearse': expected clash, decode, dump, encode or session" help rehearse
     expect 2 "error unexpected 'session' after help" help clash session
     expect 0 "ok version" --version
     has "rig $(cat "$root/VERSION"), for $(cat "$root/RATTLE-VERSION")"
     (cd "$root" && sed -n 's/^example: //p' help/*.txt | sed 's|^rig |./rig |') >examples.sh
     while IFS= read -r line; do
         (cd "$root" && eval "$line") >out 2>err </dev/null
-        holds 'tail -n 1 out | grep -Eq "^(ok|look|refused) "' "the help's example '$line': $(tail -n 1 out)"
+        holds 'tail -n 1 out | grep -Eq "^(ok|look|refused) " || grep -q "^rig: ok " err' "the help's example '$line': $(tail -n 1 out)"
     done <examples.sh
-    holds '[ "$(wc -l <examples.sh)" = 4 ]' "four examples in the help"
+    holds '[ "$(wc -l <examples.sh)" = 5 ]' "five examples in the help"
 }
 
 # What once went up with ok: a board that is missing, a message cut off, a forgotten line, slips.
@@ -447,6 +447,26 @@ terminal() {
     holds '! grep -q waiting out' "a file is read, and it says that it waits"
 }
 
+# A dump is alone on standard output; how it went stands on standard error.
+dumps() {
+    local bad
+    input "5 3" "6 3" "9 1" && "$rig" dump - <in >out 2>err
+    holds "[ $? = 0 ] && cmp -s out '$examples/case.vcd'" "the dump of document 02: $(cat out)"
+    holds 'grep -qx "rig: ok 142 bytes for 3 samples" err' "the last line of a dump: $(cat err)"
+    for bad in "1 refused 19: the trace has no sample" "1 refused 4 sample 0 (line 1): a level is above 3|5 4" \
+        "1 refused 7 sample 1 (line 2): a stamp is not above the one before it|5 3|5 1" \
+        "2 error line 1: expected STAMP LEVEL, two decimal numbers, not 'x'|x"; do
+        printf '%s\n' "$bad" | tr '|' '\n' | tail -n +2 >in
+        "$rig" dump - <in >out 2>err
+        holds "[ $? = ${bad%% *} ] && [ ! -s out ]" "a dump that fails: $(cat out err)"
+        bad=${bad%%|*}
+        holds '[ "$(cat err)" = "rig: ${bad#* }" ]' "a dump that fails: $(cat err), expected ${bad#* }"
+    done
+    input && expect 2 "" dump none && holds 'grep -q "rig: error cannot open none: no such file" err' "no file to dump"
+    "$rig" dump "$examples/clean.trace" >/dev/full 2>err
+    holds "[ $? = 2 ]" "a dump to a full disk: $(cat err)"
+}
+
 # A copy of the script with small crates of its own, and an rt that only pretends. No other rt can be reached.
 scratch() {
     rm -rf scratch
@@ -646,7 +666,7 @@ rehearsal=${RIG_PROGRAM:+$program}
 rehearsal=${rehearsal:-$root/target/bin/rig_clash}
 [ -z "${RIG_PROGRAM:-}" ] || export RIG_PROGRAM=$program
 for part in commands help slips corrections cut_corrections cut_short refusals wrong_lines night many_loads sessions traces captures lists \
-    round_trips streams terminal $builds stored truncated random answers; do
+    round_trips dumps streams terminal $builds stored truncated random answers; do
     $part
 done
 if [ "$failures" -gt 0 ]; then

@@ -6,6 +6,7 @@ pub mod arguments;
 mod clash;
 mod decode;
 pub mod differ;
+mod dump;
 mod encode;
 mod files;
 pub mod inputs;
@@ -40,6 +41,7 @@ fn one_file(options: &Options, input: &mut dyn Read) -> String {
     let contents = files::read(&options.files[0], input);
     match options.command {
         Command::Decode => decode::decode(&contents, options),
+        Command::Dump => dump::dumped(&contents),
         Command::Encode => encode::encode(&contents, options),
         _ => session::session(&contents),
     }

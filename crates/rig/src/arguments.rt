@@ -141,7 +141,7 @@ impl Arguments {
 
     fn with_option(mut self, page: &mut [u8], word: &[u8]) -> Arguments {
         let task = self.task;
-        if same(word, b"--room") & !task.is_session() {
+        if same(word, b"--room") & task.lends_room() {
             self.wants_room = true;
             return self;
         }

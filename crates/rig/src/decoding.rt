@@ -1,5 +1,5 @@
 // rig decode: the events of a trace, with the stamps at which they were complete.
-mod samples; // samples.rt: a trace read from its lines
+pub(crate) mod samples; // samples.rt: a trace read from its lines
 mod shown; // shown.rt: the events one a line
 
 use crate::lines::end;
@@ -134,7 +134,13 @@ fn put_refused(
     }
 }
 
-fn refuse(page: &mut [u8], reading: Reading, number: u8, place: usize, lines: &[u64]) -> usize {
+pub(crate) fn refuse(
+    page: &mut [u8],
+    reading: Reading,
+    number: u8,
+    place: usize,
+    lines: &[u64],
+) -> usize {
     let from = begin(page, reading.at);
     let next = put_refused(page, from, number, place, lines, reading.unpaired);
     end(page, next)

@@ -2,6 +2,7 @@
 // The last line of output says how it went: `ok`, `look`, `refused` with a number, or `error`.
 mod arguments; // arguments.rt: the words of the command line
 mod decoding; // decoding.rt: the events of a trace
+mod dumping; // dumping.rt: a trace drawn as a Value Change Dump
 mod encoding; // encoding.rt: an event list drawn as a trace
 mod hints; // hints.rt: what a file is, by its words
 mod lines; // lines.rt: whole lines of output
@@ -21,6 +22,7 @@ fn run_on(page: &mut [u8], given: Arguments, source: Source) -> usize {
     let task = given.task;
     match task {
         Task::Decode => decoding::run(page, given.at, source, given.room, given.mode()),
+        Task::Dump => dumping::run(page, given.at, source),
         Task::Encode => encoding::run(page, given.at, source, given.room),
         Task::Session => {
             session::run(page, source);

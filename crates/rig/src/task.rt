@@ -8,6 +8,7 @@ use text::put_bytes;
 
 pub(crate) enum Task {
     Decode,
+    Dump,
     Encode,
     Session,
 }
@@ -21,6 +22,9 @@ pub(crate) enum Named {
 pub(crate) fn find(word: &[u8]) -> Named {
     if same(word, b"decode") {
         return Named::Task(Task::Decode);
+    }
+    if same(word, b"dump") {
+        return Named::Task(Task::Dump);
     }
     if same(word, b"encode") {
         return Named::Task(Task::Encode);
@@ -39,9 +43,11 @@ impl Task {
         }
     }
 
-    pub(crate) fn is_session(self) -> bool {
+    // Whether room is lent to the library.
+    pub(crate) fn lends_room(self) -> bool {
         match self {
-            Task::Session => true,
+            Task::Decode => true,
+            Task::Encode => true,
             _ => false,
         }
     }
@@ -58,6 +64,7 @@ impl Task {
     pub(crate) fn put_name(self, page: &mut [u8], at: usize) -> usize {
         match self {
             Task::Decode => put_bytes(page, at, b"decode"),
+            Task::Dump => put_bytes(page, at, b"dump"),
             Task::Encode => put_bytes(page, at, b"encode"),
             Task::Session => put_bytes(page, at, b"session"),
         }
@@ -67,6 +74,7 @@ impl Task {
     pub(crate) fn put_unknown(self, page: &mut [u8], at: usize, word: &[u8]) -> usize {
         match self {
             Task::Decode => put_unknown_option(page, at, word, b"decode"),
+            Task::Dump => put_unknown_option(page, at, word, b"dump"),
             Task::Encode => put_unknown_option(page, at, word, b"encode"),
             Task::Session => put_unknown_option(page, at, word, b"session"),
         }
@@ -78,7 +86,7 @@ pub(crate) fn none(page: &mut [u8]) -> usize {
     say(
         page,
         0,
-        b"error expected a command: clash, decode, encode or session",
+        b"error expected a command: clash, decode, dump, encode or session",
     )
 }
 
@@ -90,6 +98,6 @@ pub(crate) fn unknown(page: &mut [u8], word: &[u8]) -> usize {
     put_bytes(
         page,
         quoted,
-        b": expected clash, decode, encode or session\n",
+        b": expected clash, decode, dump, encode or session\n",
     )
 }

@@ -23,6 +23,7 @@ refusals =
     ++ ascii "\n\n\n\n\n"
     ++ ascii "a divider of 1 does not wait, and SCL was last seen low\n"
     ++ ascii "a phase of SCL is too short for the mode\n"
+    ++ ascii "the trace has no sample\n"
 
 abbrev pub refusalWords : ℕ → List ℕ
 refusalWords number = lineAt number refusals

@@ -31,6 +31,7 @@ the last stamp is above 4294967295
 
 a divider of 1 does not wait, and SCL was last seen low
 a phase of SCL is too short for the mode
+the trace has no sample
 ",
         number as usize,
     )

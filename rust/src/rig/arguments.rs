@@ -6,7 +6,7 @@ use crate::phases::Mode;
 /// The longest argument.
 const ARGUMENT_BYTES: usize = 4096;
 
-const NO_COMMAND: &str = "expected a command: clash, decode, encode or session";
+const NO_COMMAND: &str = "expected a command: clash, decode, dump, encode or session";
 const NO_FILE: &str = "expected a file, or - for standard input";
 const INPUT_TWICE: &str = "- stands twice: standard input is read once";
 const NO_NUMBER: &str = "expected a number after --room";
@@ -19,6 +19,7 @@ const TABLE_ALONE: &str = "--table goes with neither --registers nor --wave";
 pub enum Command {
     Clash,
     Decode,
+    Dump,
     Encode,
     Session,
 }
@@ -43,7 +44,7 @@ pub struct Options {
 
 impl Command {
     fn from_word(word: &str) -> Option<Command> {
-        let commands = [Command::Clash, Command::Decode, Command::Encode, Command::Session];
+        let commands = [Command::Clash, Command::Decode, Command::Dump, Command::Encode, Command::Session];
         commands.into_iter().find(|command| command.word() == word)
     }
 
@@ -51,6 +52,7 @@ impl Command {
         match self {
             Command::Clash => "clash",
             Command::Decode => "decode",
+            Command::Dump => "dump",
             Command::Encode => "encode",
             Command::Session => "session",
         }
@@ -96,7 +98,7 @@ impl Options {
             "--wave" if clash => self.wave = true,
             "--standard" if self.command == Command::Decode => self.standard = true,
             "--fast" if self.command == Command::Decode => self.fast = true,
-            "--room" if self.command != Command::Session => self.room = Some(room(rest.next())?),
+            "--room" if !matches!(self.command, Command::Dump | Command::Session) => self.room = Some(room(rest.next())?),
             "--corrections" if clash => {
                 let file = short(rest.next().ok_or(NO_CORRECTIONS)?)?;
                 self.corrections = Some(self.file(file)?);
@@ -120,7 +122,7 @@ impl Options {
     fn finished(mut self) -> Result<Options, String> {
         if self.files.is_empty() {
             match self.command {
-                Command::Clash | Command::Decode => return Err(NO_FILE.to_string()),
+                Command::Clash | Command::Decode | Command::Dump => return Err(NO_FILE.to_string()),
                 _ => self.files.push("-".to_string()),
             }
         }
@@ -138,7 +140,7 @@ impl Options {
 pub fn parse(arguments: &[String]) -> Result<Options, String> {
     let mut rest = arguments.iter();
     let first = short(rest.next().ok_or(NO_COMMAND)?)?;
-    let unknown = || format!("unknown command {}: expected clash, decode, encode or session", quoted(first));
+    let unknown = || format!("unknown command {}: expected clash, decode, dump, encode or session", quoted(first));
     let mut options = Options::new(Command::from_word(first).ok_or_else(unknown)?);
     while let Some(word) = rest.next() {
         options.word(word, &mut rest)?;

@@ -16,19 +16,19 @@ const LOOKS_LIKE_A_LIST: &str = "; this looks like an event list: did you mean r
 
 /// The record as the file lends it, with the line of each stamp.
 #[derive(Default)]
-struct Record {
-    stamps: Vec<u32>,
-    levels: Vec<u8>,
+pub struct Record {
+    pub stamps: Vec<u32>,
+    pub levels: Vec<u8>,
     lines: Vec<usize>,
     /// The first line with a stamp and no level.
     no_level: Option<usize>,
 }
 
 pub fn decode(contents: &Contents, options: &Options) -> String {
-    let mut record = Record::default();
-    if let Err(error) = each_statement(contents, |line, words| record.line(line, words)) {
-        return error + "\n";
-    }
+    let record = match Record::read(contents) {
+        Ok(record) => record,
+        Err(error) => return error + "\n",
+    };
     let mut events = vec![0; options.room(SAMPLES)];
     match decode_in(options.mode(), &record.stamps, &record.levels, &mut events) {
         Ok(reply) => record.report(&events[..reply.count], &reply),
@@ -37,6 +37,12 @@ pub fn decode(contents: &Contents, options: &Options) -> String {
 }
 
 impl Record {
+    pub fn read(contents: &Contents) -> Result<Record, String> {
+        let mut record = Record::default();
+        each_statement(contents, |line, words| record.line(line, words))?;
+        Ok(record)
+    }
+
     /// `STAMP LEVEL`, or `STAMP` alone; reading ends at the stamp that is one too many.
     fn line(&mut self, line: usize, words: &[&str]) -> Result<Next, String> {
         if words[0] == "ok" {
@@ -60,7 +66,7 @@ impl Record {
         Ok(if self.stamps.len() > SAMPLES { Next::End } else { Next::Line })
     }
 
-    fn refused(&self, refusal: Refusal) -> String {
+    pub fn refused(&self, refusal: Refusal) -> String {
         match (refusal.reason, self.no_level) {
             (Reason::StampsAndLevelsDiffer, Some(line)) => {
                 format!("{}; line {line} has no level", refusals::plain(refusal))

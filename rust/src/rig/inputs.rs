@@ -22,9 +22,10 @@ pub struct Kind {
 }
 
 /// Well-formed files, one in four of them damaged; random bytes for each command; and command lines.
-pub const KINDS: [Kind; 9] = [
+pub const KINDS: [Kind; 10] = [
     Kind { word: "clash", command: "clash", text: |random| damage::some(random, clash::text) },
     Kind { word: "decode", command: "decode", text: |random| damage::some(random, decode::text) },
+    Kind { word: "dump", command: "dump", text: |random| damage::some(random, decode::text) },
     Kind { word: "encode", command: "encode", text: |random| damage::some(random, encode::text) },
     Kind { word: "session", command: "session", text: |random| damage::some(random, session::text) },
     Kind { word: "clash-bytes", command: "clash", text: damage::bytes },

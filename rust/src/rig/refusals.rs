@@ -18,7 +18,7 @@ fn words(reason: Reason) -> &'static str {
         Reason::LastStamp => "the last stamp is above 4294967295",
         Reason::NoWaiting => "a divider of 1 does not wait, and SCL was last seen low",
         Reason::ShortPhase => "a phase of SCL is too short for the mode",
-        Reason::EmptyRecord => "the record is empty",
+        Reason::EmptyRecord => "the trace has no sample",
         Reason::BoardsDoNotRise | Reason::BoardLengths | Reason::BoardAbsent => {
             unreachable!("corrections have their own words")
         }

@@ -26,7 +26,7 @@ pub fn proper(random: &mut Random, command: &str, source: Source, file: &[u8]) -
         };
         parts.extend(modes.iter().map(|mode| vec![mode.as_bytes().to_vec()]));
     }
-    if command != "session" && random.once_in(4) {
+    if command != "session" && command != "dump" && random.once_in(4) {
         parts.push(vec![b"--room".to_vec(), room(random, command).into_bytes()]);
     }
     let turn = random.below(parts.len().max(1));
@@ -111,7 +111,7 @@ pub fn any(random: &mut Random, file: &[u8], tonight: &[u8]) -> Vec<Vec<u8>> {
             11 => tonight.to_vec(),
             12..=14 => random.pick(&["0", "23", "4096", "x", "99999999999999999999", "5x"]).into(),
             15 => b"-".to_vec(),
-            16 => random.pick(&["clash", "decode", "encode", "session", "help"]).into(),
+            16 => random.pick(&["clash", "decode", "dump", "encode", "session", "help"]).into(),
             17 => [file, b"/below"].concat(),
             18 => [file, b".missing"].concat(),
             19 => random.pick(&["/", ".", "..", ""]).into(),
@@ -128,7 +128,8 @@ fn first(random: &mut Random) -> Vec<u8> {
         0 => vec![b'c'; random.pick(&[32, 33, 4096, 4097])],
         1 => odd_word(random),
         2 => random.pick(&["", "Clash", "CLASH", "clashes", "cl", "--help", "-h", "-", "help"]).into(),
-        3..=7 => b"decode".to_vec(),
+        3..=6 => b"decode".to_vec(),
+        7 => b"dump".to_vec(),
         8..=11 => b"encode".to_vec(),
         12..=15 => b"session".to_vec(),
         _ => b"clash".to_vec(),

@@ -1,0 +1,104 @@
+// rig dump: a trace drawn as a Value Change Dump, gathered in a buffer of 4,096 bytes before each write.
+use crate::decoding::refuse;
+use crate::decoding::samples;
+use crate::decoding::samples::Reading;
+use crate::decoding::samples::SAMPLES;
+use crate::lines::end;
+use dump::Dumped;
+use rig_lines::console::begin;
+use rig_lines::console::flush;
+use rig_lines::console::put_count;
+use rig_lines::input;
+use rig_lines::input::Source;
+use rig_lines::parts;
+use text::put_bytes;
+
+const GATHERED: usize = 4096;
+
+// More pieces than the longest text has, which is one of 73,855 bytes.
+const PIECES: u8 = 32;
+
+// The text refused for its length alone is given in pieces.
+const SHORT: u8 = 8;
+
+fn moved(from: usize, n: usize) -> usize {
+    if n < usize::MAX - from {
+        from + n
+    } else {
+        from
+    }
+}
+
+// Writes the text, piece by piece; answers how many bytes it has.
+fn write(stamps: &[u32], levels: &[u8]) -> usize {
+    let mut gathered = [0u8; GATHERED];
+    let mut from: usize = 0;
+    let mut left = PIECES;
+    while left > 0 {
+        let n = dump::piece(stamps, levels, from, &mut gathered);
+        flush(&gathered, n);
+        from = moved(from, n);
+        left -= 1;
+    }
+    from
+}
+
+// The last line, after the text.
+fn written(page: &mut [u8], at: usize, stamps: &[u32], levels: &[u8]) -> usize {
+    let from = begin(page, at);
+    let ok = put_bytes(page, from, b"ok ");
+    let bytes = put_count(page, ok, write(stamps, levels) as u64, b"byte");
+    let of = put_bytes(page, bytes, b" for ");
+    let samples = put_count(page, of, levels.len() as u64, b"sample");
+    end(page, samples)
+}
+
+// No room is lent, so a trace that can be drawn is refused with 8.
+fn answer(
+    page: &mut [u8],
+    reading: Reading,
+    stamps: &[u32],
+    levels: &[u8],
+    lines: &[u64],
+) -> usize {
+    let mut none = [0u8; 1];
+    match dump::dump(stamps, levels, &mut none) {
+        Dumped::Refused { number, place } => {
+            if number == SHORT {
+                return written(page, reading.at, stamps, levels);
+            }
+            refuse(page, reading, number, place, lines)
+        }
+        Dumped::Written(_) => reading.at,
+    }
+}
+
+pub(crate) fn run(page: &mut [u8], at: usize, source: Source) -> usize {
+    let mut piece = io::buffer();
+    let mut line = [0u8; input::ROOM];
+    let mut stamps = [0u32; SAMPLES];
+    let mut levels = [0u8; SAMPLES];
+    let mut lines = [0u64; SAMPLES];
+    let reading = samples::read_all(
+        page,
+        at,
+        &mut piece,
+        &mut line,
+        source,
+        &mut stamps,
+        &mut levels,
+        &mut lines,
+    );
+    if reading.broken {
+        return reading.at;
+    }
+    let stamp_count = parts::stamps(reading.stamps, &stamps);
+    let level_count = parts::bytes(reading.levels, &levels);
+    answer(
+        page,
+        reading,
+        &stamps[..stamp_count],
+        &levels[..level_count],
+        &lines,
+    )
+}
