@@ -145,6 +145,7 @@ corrections() {
     expect 3 "look 40 loads: 34 sent, 6 cut, 1 corrected" clash "$night" --corrections "$tonight"
     has "  corrected 1 thermal, 2 attitude" "  WON    5 payload   50 18 C4 02 7E           sent 5 of 5 bytes" "  silent 1 thermal"
     expect 3 "look 80 loads: 68 sent, 12 cut, 2 corrected" clash "$night" --corrections "$tonight" "$night" --table
+    expect 3 "look 40 loads: 34 sent, 6 cut, 1 corrected" clash --corrections none "$night" --corrections "$tonight"
     expect 2 "error 3 loads: 3 sent, 1 without an ack line, 1 fault outside the loads" \
         clash "$examples/sent.loads" --corrections "$tonight"
     has "! corrections line 6: load upload-40 is in none of the files"
