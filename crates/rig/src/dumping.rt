@@ -29,15 +29,20 @@ fn moved(from: usize, n: usize) -> usize {
     }
 }
 
+// Writes the text from a byte on, as much as is gathered; answers how many bytes those are.
+fn write_piece(stamps: &[u32], levels: &[u8], from: usize) -> usize {
+    let mut gathered = [0u8; GATHERED];
+    let n = dump::piece(stamps, levels, from, &mut gathered);
+    flush(&gathered, n);
+    n
+}
+
 // Writes the text, piece by piece; answers how many bytes it has.
 fn write(stamps: &[u32], levels: &[u8]) -> usize {
-    let mut gathered = [0u8; GATHERED];
     let mut from: usize = 0;
     let mut left = PIECES;
     while left > 0 {
-        let n = dump::piece(stamps, levels, from, &mut gathered);
-        flush(&gathered, n);
-        from = moved(from, n);
+        from = moved(from, write_piece(stamps, levels, from));
         left -= 1;
     }
     from

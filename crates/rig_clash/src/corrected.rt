@@ -144,11 +144,14 @@ fn with_board(
     if (place.number != 0) & (place.number != ABSENT) {
         return load.refused_by(place.number);
     }
-    if (place.number == ABSENT) | (place.length == 0) {
+    if place.number == ABSENT {
         return load.without_message(board);
     }
     if !place.corrected {
         return load;
+    }
+    if place.length == 0 {
+        return load.without_message(board);
     }
     let message = kept::part(tonight, place.offset, place.length as usize);
     put_bytes(kept, kept::row_of(board), message);

@@ -255,14 +255,15 @@ fn options_of(given: Arguments) -> Options {
     }
 }
 
-fn run(page: &mut [u8], given: Arguments) {
+fn run(given: Arguments) {
+    let mut page = [0u8; PAGE];
     let mut kept = [0u8; kept::ROOM];
     let mut names = [0u8; names::ROOM];
     let mut lines = [0u64; names::SLOTS];
-    let begun = headed(page, state::begun(options_of(given)));
-    let read = corrections::read(page, &mut kept, begun, given.corrections);
-    let state = run_loads(page, &mut kept, &mut names, &mut lines, read);
-    summed(page, &kept, state);
+    let begun = headed(&mut page, state::begun(options_of(given)));
+    let read = corrections::read(&mut page, &mut kept, begun, given.corrections);
+    let state = run_loads(&mut page, &mut kept, &mut names, &mut lines, read);
+    summed(&mut page, &kept, state);
 }
 
 fn main() {
@@ -271,6 +272,6 @@ fn main() {
     if given.broken {
         flush(&page, given.at);
     } else {
-        run(&mut page, given);
+        run(given);
     }
 }

@@ -87,7 +87,7 @@ fn a_message_that_is_too_long_or_empty() {
     );
     assert_eq!(last(&night(&long), "load x\nboard p 50\nend 1\n"), "ok 1 load: 1 sent, 1 corrected");
     let output = corrected("", &night(""), "load x\nboard q 50\nend 1\n");
-    assert!(output.contains("  silent 0 p\n"), "{output}");
+    assert!(output.contains("  refused 13: p (line 3) has no bytes\n"), "{output}");
 }
 
 #[test]

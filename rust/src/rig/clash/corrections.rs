@@ -205,10 +205,10 @@ fn lay(load: &mut Load, corrections: &[(usize, Vec<u8>)]) {
     load.corrected = corrections.iter().map(|(board, _)| *board).collect();
     for Board { number, message, .. } in &mut load.boards {
         match find(*number as u32, &tonight, &standing) {
-            Ok(part) => {
-                let block = if part.corrected { &tonight.block } else { &standing.block };
-                *message = Some(block[part.bytes].to_vec()).filter(|bytes| !bytes.is_empty());
+            Ok(part) if part.corrected => {
+                *message = Some(tonight.block[part.bytes].to_vec()).filter(|bytes| !bytes.is_empty());
             }
+            Ok(part) => *message = Some(standing.block[part.bytes].to_vec()),
             Err(refusal) if refusal.reason == Reason::BoardAbsent => *message = None,
             Err(refusal) => load.not_laid = Some(refusal),
         }

@@ -1,8 +1,8 @@
--- `rig::arguments::next_file` is safe and ends: fewer arguments are left.
+-- `rig_clash::arguments::next_file` is safe and ends: fewer arguments are left.
 use Prim.Native.Nat.{_-_}
 use borrow.Author.Needs.{needs}
-use Rattle.rig.proofs.arguments.next_file.Statement.{statement}
-use Rattle.rig.proofs.arguments.next_file.Tie as tie
+use Rattle.rig_clash.proofs.arguments.next_file.Statement.{statement}
+use Rattle.rig_clash.proofs.arguments.next_file.Tie as tie
 
 abbrev Inv-loop : tie.InvT-loop
 Inv-loop from count i₀ i = Unit {0}
