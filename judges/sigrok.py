@@ -37,10 +37,14 @@ def dump(levels):
 
 
 def judged(folder, levels):
-    """The events that sigrok finds, in our numbers."""
+    return judged_text(folder, dump(levels))
+
+
+def judged_text(folder, text):
+    """The events that sigrok finds in a dump, in our numbers."""
     path = os.path.join(folder, "trace.vcd")
     with open(path, "w") as f:
-        f.write(dump(levels))
+        f.write(text)
     run = subprocess.run(SIGROK + ["-i", path], capture_output=True, text=True)
     if run.stderr.strip():
         sys.exit(f"sigrok-cli: {run.stderr.strip()}")
@@ -129,4 +133,5 @@ def main():
     print(f"seed {seed}: sigrok reads {count} drawings, {count} cut drawings and {count} arbitrations as we do")
 
 
-main()
+if __name__ == "__main__":
+    main()
