@@ -54,10 +54,15 @@ def converted(folder, text):
 
 
 def judged(folder, levels):
-    """The events that sigrok finds, in our numbers. libsigrok never decodes the last change: one more stamp follows it."""
+    """The events that sigrok finds in levels. libsigrok never decodes the last change: one more stamp follows it."""
+    return judged_text(folder, dump(folder, levels) + f"#{50 * len(levels)}\n")
+
+
+def judged_text(folder, text):
+    """The events that sigrok finds in a dump, in our numbers."""
     path = os.path.join(folder, "trace.vcd")
     with open(path, "w") as f:
-        f.write(dump(folder, levels) + f"#{50 * len(levels)}\n")
+        f.write(text)
     run = subprocess.run(SIGROK + ["-i", path], capture_output=True, text=True)
     if run.stderr.strip():
         sys.exit(f"sigrok-cli: {run.stderr.strip()}")
@@ -149,4 +154,5 @@ def main():
     print(f"GTKWave's vcd2fst and fst2vcd hand {count} dumps back with the same changes")
 
 
-main()
+if __name__ == "__main__":
+    main()

@@ -1,7 +1,7 @@
 -- The longest text: a trace that is not refused takes at most 73,855 bytes.
 use mathlib.Core.Path.{_≡_, refl, sym, ap}
 use mathlib.Core.Bool.{Bool, true, false, cond}
-use mathlib.Core.List.{List, [], _∷_, _++_}
+use mathlib.Core.List.{List, [], _∷_}
 use Prim.Native.Nat.{ℕ, suc, _+_, _*_, _^_, _≤_, _<_}
 use native.Mathlib.Omega.{arith}
 use lib.Dec.{eqb, ltb}
@@ -13,7 +13,6 @@ use Rattle.laws.specs.Refusals.{Check, check, given}
 use Rattle.laws.proofs.Refusals.{Numbered, passed, passed-first, numbered-both, unrefused}
 use Rattle.trace.specs.Trace.{traceChecks}
 use Rattle.trace.proofs.Checked.{Checked, from-checks, to-checks, trace-numbered}
-use Rattle.dump.specs.declared.Dumped.{Dumped}
 use Rattle.dump.specs.declared.Dumped.the-variants.{Written, Refused}
 use Rattle.dump.specs.Text.{header, sampleText, samplesAfter, samplesText, unlikeFirst, dumpText}
 use Rattle.dump.specs.Dumped.{dumpChecks, dumped}

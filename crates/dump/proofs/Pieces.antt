@@ -1,15 +1,15 @@
 -- Pieces handed over one after another are the text, whatever buffers they came in. What each is, is `piece`'s contract.
 use mathlib.Core.Path.{_≡_, refl, sym, ap, ap₂, _∙_}
 use mathlib.Core.Bool.{Bool, true, false}
-use mathlib.Core.List.{List, [], _∷_, _++_}
+use mathlib.Core.List.{List, [], _++_}
 use Prim.Native.Nat.{ℕ, _+_, _-_, _≤_, _<_, min}
 use native.Mathlib.Omega.{arith}
 use lib.Dec.{leb}
-use lib.ListN.{length, take, drop, take-append-drop, length-take, length-drop, drop-of-length-le}
+use lib.ListN.{length, take, drop, take-append-drop, length-drop}
 use lib.Seq.{sets, length-sets, sets-eq, take-at, drop-at, take-all, take-add, length-take-le}
 use borrow.Author.Tests.{leb-true, leb-false}
 use Rattle.text.specs.Output.{Put}
-use Rattle.text.proofs.Putting.{put-length, sets-append, sets-out}
+use Rattle.text.proofs.Putting.{sets-append, sets-out}
 
 -- ---- one piece: what was put is the text's front, and the rest of the buffer stays
 module _ (old text new : List ℕ) (n : ℕ) (put : Put old 0 text new n) where
