@@ -464,6 +464,16 @@ dumps() {
         holds '[ "$(cat err)" = "rig: ${bad#* }" ]' "a dump that fails: $(cat err), expected ${bad#* }"
     done
     input && expect 2 "" dump none && holds 'grep -q "rig: error cannot open none: no such file" err' "no file to dump"
+    "$rig" clash "$examples/night.loads" --trace upload-17 >drawn 2>err
+    holds "[ $? = 3 ]" "the trace of a load that is cut: $(tail -n 1 drawn)"
+    expect 0 "ok 5 events in 59 samples, no frame open, 0 bits pending" decode drawn && has "2800: FF NACK"
+    "$rig" dump drawn >out 2>err
+    holds "[ $? = 0 ] && grep -qx '#2900' out" "the dump of a load: $(cat err)"
+    expect 1 "refused 16: 1 load: 1 refused" clash "$examples/night.loads" --trace upload-40 && alone
+    expect 2 "error 0 loads: 1 fault outside the loads" clash "$examples/night.loads" --trace nix
+    has "! no load 'nix' in the files"
+    expect 2 "error expected a load after --trace" clash x --trace
+    expect 2 "error --trace goes with none of --table, --registers and --wave" clash x --trace y --wave
     "$rig" dump "$examples/clean.trace" >/dev/full 2>err
     holds "[ $? = 2 ]" "a dump to a full disk: $(cat err)"
 }

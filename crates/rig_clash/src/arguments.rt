@@ -13,6 +13,8 @@ pub(crate) struct Arguments {
     file: bool,
     // which one names the file of corrections; 0: none does
     pub(crate) corrections: usize,
+    // which one names the load whose trace is shown; 0: none does
+    pub(crate) trace: usize,
     pub(crate) table: bool,
     pub(crate) registers: bool,
     pub(crate) wave: bool,
@@ -20,9 +22,10 @@ pub(crate) struct Arguments {
     pub(crate) room: usize,
     // standard input is one of the files
     input: bool,
-    // the next word is the number of --room, or the file of --corrections
+    // the next word is the number of --room, the file of --corrections or the load of --trace
     wants_room: bool,
     wants_corrections: bool,
+    wants_trace: bool,
     // an error stands on the page
     pub(crate) broken: bool,
     // where the page goes on
@@ -34,6 +37,7 @@ impl Arguments {
         Arguments {
             file: false,
             corrections: 0,
+            trace: 0,
             table: false,
             registers: false,
             wave: false,
@@ -41,6 +45,7 @@ impl Arguments {
             input: false,
             wants_room: false,
             wants_corrections: false,
+            wants_trace: false,
             broken: false,
             at: 0,
         }
@@ -93,6 +98,13 @@ impl Arguments {
         self
     }
 
+    // The load after --trace.
+    fn with_trace(mut self, argument: usize) -> Arguments {
+        self.trace = argument;
+        self.wants_trace = false;
+        self
+    }
+
     // What is shown of a load.
     fn with_display(mut self, page: &mut [u8], word: &[u8]) -> Arguments {
         if same(word, b"--table") {
@@ -120,6 +132,10 @@ impl Arguments {
             self.wants_corrections = true;
             return self;
         }
+        if same(word, b"--trace") {
+            self.wants_trace = true;
+            return self;
+        }
         self.with_display(page, word)
     }
 
@@ -129,6 +145,9 @@ impl Arguments {
         }
         if self.wants_corrections {
             return self.with_corrections(page, argument, word);
+        }
+        if self.wants_trace {
+            return self.with_trace(argument);
         }
         if is_option(word) {
             return self.with_option(page, word);
@@ -159,6 +178,9 @@ impl Arguments {
         if self.wants_corrections {
             return self.trouble(page, b"error expected a file after --corrections\n");
         }
+        if self.wants_trace {
+            return self.trouble(page, b"error expected a load after --trace\n");
+        }
         if !self.file {
             return self.trouble(page, b"error expected a file, or - for standard input\n");
         }
@@ -166,6 +188,17 @@ impl Arguments {
             return self.trouble(
                 page,
                 b"error --table goes with neither --registers nor --wave\n",
+            );
+        }
+        self.alone(page)
+    }
+
+    // A trace is shown alone.
+    fn alone(self, page: &mut [u8]) -> Arguments {
+        if (self.trace > 0) & (self.table | self.registers | self.wave) {
+            return self.trouble(
+                page,
+                b"error --trace goes with none of --table, --registers and --wave\n",
             );
         }
         self
@@ -186,11 +219,16 @@ pub(crate) fn parse(page: &mut [u8]) -> Arguments {
     given.finished(page)
 }
 
+// An option that takes the next word.
+fn takes_word(word: &[u8]) -> bool {
+    same(word, b"--room") | same(word, b"--corrections") | same(word, b"--trace")
+}
+
 // How many arguments it takes to pass one that is no file; 0 where it is a file.
 fn passed(argument: usize) -> usize {
     let mut space = io::buffer();
     let n = os::arg(argument, &mut space);
-    if same(&space[..n], b"--room") | same(&space[..n], b"--corrections") {
+    if takes_word(&space[..n]) {
         return 2;
     }
     if is_option(&space[..n]) {

@@ -105,12 +105,18 @@ fn put_unread(page: &mut [u8], at: usize, form: &[u8], word: &[u8]) -> usize {
 
 // A fault that no line is to blame for.
 pub(crate) fn fault(page: &mut [u8], state: State, words: &[u8]) -> State {
-    let end = put_fault(page, state.at, words);
+    let end = put_fault(page, state.at, words, b"");
     state.moved(end).faulted()
 }
 
-fn put_fault(page: &mut [u8], at: usize, words: &[u8]) -> usize {
+// The same about a word.
+pub(crate) fn fault_about(page: &mut [u8], state: State, form: &[u8], word: &[u8]) -> State {
+    let end = put_fault(page, state.at, form, word);
+    state.moved(end).faulted()
+}
+
+fn put_fault(page: &mut [u8], at: usize, form: &[u8], word: &[u8]) -> usize {
     let start = begin(page, at);
     let mark = put_bytes(page, start, b"! ");
-    put_line(page, mark, words, b"", 0)
+    put_line(page, mark, form, word, 0)
 }

@@ -6,6 +6,7 @@ use crate::load::Load;
 use crate::outcome;
 use crate::outcome::LEVELS;
 use crate::outcome::Outcome;
+use crate::recording;
 use crate::state::State;
 use crate::table;
 use arbitration_rules::MAX_LENGTH;
@@ -133,6 +134,34 @@ fn rehearsed(page: &mut [u8], kept: &mut [u8], state: State) -> State {
     next.moved(at)
 }
 
+// The load whose trace is asked for.
+fn drawn(page: &mut [u8], kept: &mut [u8], state: State) -> State {
+    let mut carried = [0u8; MAX_LENGTH];
+    let mut levels = [0u8; LEVELS];
+    let options = state.options;
+    let load = state.load;
+    let outcome = outcome::of(kept, load, options.room, &mut carried, &mut levels);
+    let next = counted(kept, corrected_counted(state, load), load, outcome);
+    if outcome.is_refused() {
+        return next;
+    }
+    next.moved(recording::put(page, state.at, &levels, outcome.count))
+}
+
+// Where a trace is asked for, the other loads are only read.
+fn traced(page: &mut [u8], kept: &mut [u8], state: State) -> State {
+    let options = state.options;
+    let load = state.load;
+    let tally = state.tally;
+    if load.broken {
+        return state.with_tally(tally.with_broken());
+    }
+    if !recording::is_asked(kept, options.trace) {
+        return state.with_tally(tally.without_load());
+    }
+    drawn(page, kept, state)
+}
+
 // A note of how many loads there were; answers where the page goes on.
 fn put_progress(page: &mut [u8], at: usize, loads: u64) -> usize {
     let start = begin(page, at);
@@ -161,6 +190,10 @@ fn shown(page: &mut [u8], kept: &mut [u8], state: State) -> State {
 }
 
 fn finished(page: &mut [u8], kept: &mut [u8], state: State) -> State {
+    let options = state.options;
+    if options.trace > 0 {
+        return closed(traced(page, kept, state));
+    }
     let next = shown(page, kept, state);
     progress(page, closed(next))
 }

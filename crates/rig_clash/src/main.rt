@@ -18,6 +18,7 @@ mod names; // names.rt: the names of a file's loads
 mod opening; // opening.rt: the statement that begins a load
 mod order; // order.rt: which boards a refusal is about
 mod outcome; // outcome.rt: what a rehearsal comes to
+mod recording; // recording.rt: the levels of a load as a trace
 mod refusals; // refusals.rt: refusals in words
 mod registers; // registers.rt: the registers of a board
 mod seen; // seen.rt: the names of the loads to see
@@ -143,7 +144,8 @@ fn run_source(
 
 // `file FILE`, where there are several.
 fn with_name(page: &mut [u8], state: State, argument: usize, several: bool) -> State {
-    if !several {
+    let options = state.options;
+    if !several | (options.trace > 0) {
         return state;
     }
     let start = begin(page, state.at);
@@ -225,9 +227,30 @@ fn headed(page: &mut [u8], state: State) -> State {
 // The last two lines.
 fn summed(page: &mut [u8], kept: &[u8], state: State) {
     let tally = state.tally;
-    let seen = tally::put_seen(page, state.at, kept, tally);
+    let seen = put_seen(page, kept, state);
     let last = tally::put_last(page, seen, tally);
     flush(page, last);
+}
+
+// A trace has no line but its samples and the last one.
+fn put_seen(page: &mut [u8], kept: &[u8], state: State) -> usize {
+    let options = state.options;
+    if options.trace > 0 {
+        return state.at;
+    }
+    tally::put_seen(page, state.at, kept, state.tally)
+}
+
+// The load whose trace is asked for is there.
+fn met(page: &mut [u8], state: State) -> State {
+    let options = state.options;
+    let tally = state.tally;
+    if (options.trace == 0) | (tally.loads > 0) {
+        return state;
+    }
+    let mut space = io::buffer();
+    let n = os::arg(options.trace, &mut space);
+    complaints::fault_about(page, state, b"no load $ in the files", &space[..n])
 }
 
 // No file of loads is read where the corrections are at fault.
@@ -243,7 +266,8 @@ fn run_loads(
         return state;
     }
     let done = run_files(page, kept, names, lines, state, next_file(2));
-    corrected::unmet(page, kept, done, done.corrections)
+    let laid = corrected::unmet(page, kept, done, done.corrections);
+    met(page, laid)
 }
 
 fn options_of(given: Arguments) -> Options {
@@ -252,6 +276,7 @@ fn options_of(given: Arguments) -> Options {
         registers: given.registers,
         wave: given.wave,
         room: given.room,
+        trace: given.trace,
     }
 }
 

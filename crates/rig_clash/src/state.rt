@@ -12,6 +12,8 @@ pub(crate) struct Options {
     pub(crate) registers: bool,
     pub(crate) wave: bool,
     pub(crate) room: usize,
+    // the argument that names the load whose trace is shown; 0: none is
+    pub(crate) trace: usize,
 }
 
 // The file that is being read.

@@ -51,6 +51,14 @@ impl Tally {
         self
     }
 
+    // A load that is only read.
+    pub(crate) fn without_load(mut self) -> Tally {
+        if self.loads > 0 {
+            self.loads -= 1;
+        }
+        self
+    }
+
     pub(crate) fn with_fault(mut self) -> Tally {
         self.faults = more(self.faults);
         self

@@ -13,6 +13,8 @@ const NO_NUMBER: &str = "expected a number after --room";
 const NO_CORRECTIONS: &str = "expected a file after --corrections";
 const LONG_ARGUMENT: &str = "an argument is longer than 4096 bytes";
 const ONE_MODE: &str = "--standard does not go with --fast";
+const NO_TRACE: &str = "expected a load after --trace";
+const TRACE_ALONE: &str = "--trace goes with none of --table, --registers and --wave";
 const TABLE_ALONE: &str = "--table goes with neither --registers nor --wave";
 
 #[derive(Clone, Copy, PartialEq, Eq, Debug)]
@@ -38,6 +40,8 @@ pub struct Options {
     pub room: Option<u64>,
     /// The file of tonight's corrections; `-` is standard input.
     pub corrections: Option<String>,
+    /// The name of the load whose levels are printed, and nothing else.
+    pub trace: Option<String>,
     /// `-` stands among the words.
     reads_input: bool,
 }
@@ -63,8 +67,20 @@ impl Options {
     pub fn new(command: Command) -> Options {
         let files = Vec::new();
         let (table, registers, wave, standard, fast) = (false, false, false, false, false);
-        let (room, corrections, reads_input) = (None, None, false);
-        Options { command, files, table, registers, wave, standard, fast, room, corrections, reads_input }
+        let (room, corrections, trace, reads_input) = (None, None, None, false);
+        Options {
+            command,
+            files,
+            table,
+            registers,
+            wave,
+            standard,
+            fast,
+            room,
+            corrections,
+            trace,
+            reads_input,
+        }
     }
 
     /// The room lent: the lesser of `most` and what `--room` says.
@@ -103,6 +119,7 @@ impl Options {
                 let file = short(rest.next().ok_or(NO_CORRECTIONS)?)?;
                 self.corrections = Some(self.file(file)?);
             }
+            "--trace" if clash => self.trace = Some(short(rest.next().ok_or(NO_TRACE)?)?.to_string()),
             word if word.starts_with("--") => {
                 return Err(format!("unknown option {} for {}", quoted(word), self.command.word()));
             }
@@ -128,6 +145,9 @@ impl Options {
         }
         if self.table && (self.registers || self.wave) {
             return Err(TABLE_ALONE.to_string());
+        }
+        if self.trace.is_some() && (self.table || self.registers || self.wave) {
+            return Err(TRACE_ALONE.to_string());
         }
         if self.standard && self.fast {
             return Err(ONE_MODE.to_string());

@@ -2,7 +2,7 @@
 
 use super::arguments::Options;
 use super::files;
-use super::text::printable;
+use super::text::{printable, quoted};
 use corrections::Corrections;
 use reading::Reading;
 use std::io::Read;
@@ -45,7 +45,7 @@ pub fn clash(options: &Options, input: &mut dyn Read) -> (String, String) {
         Ok(corrections) => night.rehearse(corrections.unwrap_or_default(), input),
         Err(words) => night.fault(&format!("{words}; nothing is rehearsed")),
     }
-    let last = night.tally.last_lines();
+    let last = night.tally.last_lines(options.trace.is_none());
     (night.output + &last, night.notes)
 }
 
@@ -55,13 +55,16 @@ impl Night<'_> {
         self.corrections = corrections;
         let files = &self.options.files;
         for file in files {
-            if files.len() > 1 {
+            if files.len() > 1 && self.options.trace.is_none() {
                 self.line(format!("file {}", printable(file)));
             }
             Reading::new(self, file).whole(&files::read(file, input));
         }
         for words in self.corrections.not_met() {
             self.fault(&words);
+        }
+        if let (Some(name), true) = (&self.options.trace, self.tally.is_empty()) {
+            self.fault(&format!("no load {} in the files", quoted(name)));
         }
     }
 

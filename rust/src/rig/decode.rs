@@ -45,7 +45,7 @@ impl Record {
 
     /// `STAMP LEVEL`, or `STAMP` alone; reading ends at the stamp that is one too many.
     fn line(&mut self, line: usize, words: &[&str]) -> Result<Next, String> {
-        if words[0] == "ok" {
+        if words[0] == "ok" || words[0] == "look" {
             return Ok(Next::Line);
         }
         let (stamp, level) = numbers(words).map_err(|word| {

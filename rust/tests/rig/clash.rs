@@ -93,6 +93,21 @@ fn one_board_alone_draws_p7() {
 }
 
 #[test]
+fn the_trace_of_a_load() {
+    let night = "boards p q\nload one\nboard p a0\nboard q -\nack all\nload two\nboard p 50\nboard q 50 22\nend 2\n";
+    let drawn = rig("encode", "512 160 514");
+    let samples = drawn.strip_suffix("ok 23 samples\n").unwrap();
+    assert_eq!(rig("clash - --trace one", night), format!("{samples}ok 1 load: 1 sent\n"));
+    assert_eq!(rig("clash - --trace two", night), "refused 16: 1 load: 1 refused\n");
+    let expected = "! no load 'three' in the files\nerror 0 loads: 1 fault outside the loads\n";
+    assert_eq!(rig("clash - --trace three", night), expected);
+    let wrong = night.replace("board q 50 22", "board q 5");
+    let output = rig("clash - --trace one", wrong);
+    let complaint = "! line 8: load two: expected bytes of two hexadecimal digits, not '5'";
+    assert_eq!(output, format!("{samples}{complaint}\nerror 2 loads: 1 sent, 1 in error\n"));
+}
+
+#[test]
 fn a_message_that_is_cut() {
     let cut = |acks: &str| load(&format!("board p 50 26 FF 11\nboard q 50 26 FF 11\nboard r -\nack {acks}"));
     let both = |fate: &str| {

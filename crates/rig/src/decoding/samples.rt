@@ -81,7 +81,7 @@ fn parse_rest(stamp: u64, rest: &[u8]) -> Sample {
 
 fn parse(line: &[u8]) -> Sample {
     let word = first_word(line);
-    if (word.len() == 0) | same(word, b"ok") {
+    if (word.len() == 0) | same(word, b"ok") | same(word, b"look") {
         return Sample::Nothing;
     }
     let stamp = text::decimal(word);

@@ -35,6 +35,13 @@ pub fn block(load: &Load, boards: &Boards, result: &Result, options: &Options) -
     lines.join("\n") + "\n"
 }
 
+/// The levels of a load that was rehearsed, as `rig decode` reads them.
+pub fn trace(result: &Result) -> String {
+    let Result::Rehearsed(rehearsal) = result else { return String::new() };
+    let levels = rehearsal.run.outcome.levels.iter().enumerate();
+    levels.map(|(sample, level)| format!("{} {level}\n", 50 * sample)).collect()
+}
+
 fn board_line(word: &str, label: &str, message: &[u8], fate: &str) -> String {
     format!("  {word:<6} {label}  {:<23}  {fate}", hex(message))
 }

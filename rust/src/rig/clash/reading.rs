@@ -255,6 +255,13 @@ impl Night<'_> {
     /// Rehearses a load, prints its block or row, and counts it.
     fn show(&mut self, load: &Load, boards: &Boards) {
         let result = Rehearsed::of(load, self.options);
+        if let Some(name) = &self.options.trace {
+            if load.in_error || load.name == *name {
+                self.output += &block::trace(&result);
+                self.tally.count(load, &result);
+            }
+            return;
+        }
         let text = if self.options.table {
             table::row(load, boards, &result)
         } else {

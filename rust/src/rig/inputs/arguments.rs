@@ -43,9 +43,16 @@ fn shown(random: &mut Random) -> Vec<Vec<Vec<u8>>> {
         3 => &["--registers"],
         4 => &["--wave"],
         5 => &["--wave", "--registers"],
+        6 => return vec![trace(random)],
         _ => &[],
     };
     options.iter().map(|option| vec![option.as_bytes().to_vec()]).collect()
+}
+
+/// The trace of a load that may be there.
+fn trace(random: &mut Random) -> Vec<Vec<u8>> {
+    let name = random.pick(&["upload-00", "upload-00", "upload-01", "n0", "x", "upload-0"]);
+    vec![b"--trace".to_vec(), name.as_bytes().to_vec()]
 }
 
 /// A second file: the same again, standard input, or one that cannot be read.
@@ -105,7 +112,7 @@ pub fn any(random: &mut Random, file: &[u8], tonight: &[u8]) -> Vec<Vec<u8>> {
     for _ in 0..random.below(5) {
         arguments.push(match random.below(24) {
             0..=4 => file.to_vec(),
-            5..=7 => random.pick(&["--table", "--table", "--wave", "--registers", "--standard", "--fast"]).into(),
+            5..=7 => random.pick(&["--table", "--table", "--wave", "--registers", "--trace", "--standard", "--fast"]).into(),
             8..=9 => b"--room".to_vec(),
             10 => b"--corrections".to_vec(),
             11 => tonight.to_vec(),

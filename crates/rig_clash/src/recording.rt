@@ -1,0 +1,47 @@
+// The levels of a load as a trace, a sample a line, which rig decode and rig dump read.
+use crate::kept;
+use crate::outcome::LEVELS;
+use crate::outcome::recorded;
+use check::same;
+use rig_lines::console::begin;
+use rig_lines::console::put_form;
+use rig_lines::parts;
+
+// From one sample to the next.
+const GAP: u64 = 50;
+
+// The load that is being read has the name that an argument is.
+pub(crate) fn is_asked(kept: &[u8], argument: usize) -> bool {
+    let mut space = io::buffer();
+    let n = os::arg(argument, &mut space);
+    same(&space[..n], kept::name(kept))
+}
+
+fn stamp(sample: usize) -> u64 {
+    if sample < LEVELS {
+        sample as u64 * GAP
+    } else {
+        0
+    }
+}
+
+fn put_sample(page: &mut [u8], at: usize, sample: usize, level: u8) -> usize {
+    let start = begin(page, at);
+    put_form(page, start, b"# #\n", &[stamp(sample), level as u64])
+}
+
+fn put_samples(page: &mut [u8], at: usize, levels: &[u8]) -> usize {
+    let mut next = at;
+    let mut i = 0;
+    while i < levels.len() {
+        next = put_sample(page, next, i, levels[i]);
+        i += 1;
+    }
+    next
+}
+
+// What was recorded of a rehearsal of so many bytes.
+pub(crate) fn put(page: &mut [u8], at: usize, levels: &[u8], count: usize) -> usize {
+    let size = parts::bytes(recorded(count), levels);
+    put_samples(page, at, &levels[..size])
+}
