@@ -253,6 +253,18 @@ fn met(page: &mut [u8], state: State) -> State {
     complaints::fault_about(page, state, b"no load $ in the files", &space[..n])
 }
 
+// All files, and then the corrections that are for none of their loads.
+fn run_whole(
+    page: &mut [u8],
+    kept: &mut [u8],
+    names: &mut [u8],
+    lines: &mut [u64],
+    state: State,
+) -> State {
+    let done = run_files(page, kept, names, lines, state, next_file(2));
+    corrected::unmet(page, kept, done, done.corrections)
+}
+
 // No file of loads is read where the corrections are at fault.
 fn run_loads(
     page: &mut [u8],
@@ -265,9 +277,8 @@ fn run_loads(
     if tally.has_fault() {
         return state;
     }
-    let done = run_files(page, kept, names, lines, state, next_file(2));
-    let laid = corrected::unmet(page, kept, done, done.corrections);
-    met(page, laid)
+    let read = run_whole(page, kept, names, lines, state);
+    met(page, read)
 }
 
 fn options_of(given: Arguments) -> Options {

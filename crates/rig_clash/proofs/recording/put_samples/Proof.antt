@@ -15,8 +15,8 @@ abbrev μ-loop : tie.MeasureT-loop
 loop-holds : tie.Need-loop-holds Inv-loop μ-loop
 loop-holds c = search needs
 
-shared-slice-read-result : tie.Need-shared-slice-read-result Inv-loop μ-loop
-shared-slice-read-result c = search needs
+shared-slice-read-put-sample : tie.Need-shared-slice-read-put-sample Inv-loop μ-loop
+shared-slice-read-put-sample c = search needs
 
 put-sample-requires : tie.Need-put-sample-requires Inv-loop μ-loop
 put-sample-requires c κs = search needs
@@ -43,7 +43,7 @@ put-samples-spec =
     Inv-loop
     μ-loop
     loop-holds
-    shared-slice-read-result
+    shared-slice-read-put-sample
     put-sample-requires
     add-i
     loop-less
