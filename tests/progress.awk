@@ -4,9 +4,11 @@
 function shown(line) { print line; fflush() }
 /^rt: must-fail .*: refused, as it must be/ {
     refused++
-    sub(/^rt: must-fail /, "")
-    sub(/: refused, as it must be \(.* /, " refused (")
-    shown(sprintf("  wrong version %d of %d: %s", refused, edits, $0))
+    name = $3
+    sub(/:$/, "", name)
+    seconds = $(NF - 1)
+    sub(/^\(/, "", seconds)
+    shown(sprintf("  wrong version %d of %d: %s refused (%s s)", refused, edits, name, seconds))
     next
 }
 /^rt: [a-z_0-9]+ proved/ {
