@@ -35,15 +35,16 @@ cut-short (byte ∷ bytes) (also {a = zero} bit bits) refused =
 cut-short (byte ∷ bytes) (also {a = suc zero} bit bits) refused = record { last = 0; count = refl; refused = refl }
 cut-short (byte ∷ bytes) (also {a = suc (suc acknowledge)} bit bits) refused = absurd (omega arith)
 
+-- where there is no acknowledge, none is missing
+pub none-left : (message : List ℕ) → allAcknowledged message [] ≡ true
+none-left [] = refl
+none-left (byte ∷ bytes) = refl
+
 -- else it is carried whole
 pub whole : (message acknowledges : List ℕ) → allAcknowledged message acknowledges ≡ true
     → take (carriedCount message acknowledges) message ≡ message
 whole [] acknowledges all = refl
 whole (byte ∷ bytes) [] all = ap (λ l. byte ∷ l) (whole bytes [] (none-left bytes))
-  where
-    none-left : (bytes : List ℕ) → allAcknowledged bytes [] ≡ true
-    none-left [] = refl
-    none-left (byte ∷ bytes) = refl
 whole (byte ∷ bytes) (zero ∷ acknowledges) all = ap (λ l. byte ∷ l) (whole bytes acknowledges all)
 whole (byte ∷ bytes) (suc acknowledge ∷ acknowledges) all =
     absurd (false≢true (rw (eqb·suc-zero acknowledge) at all))

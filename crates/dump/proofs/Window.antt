@@ -1,14 +1,12 @@
 -- A text put past its first bytes, chunk by chunk: chunks one after another are the whole.
 use mathlib.Core.Path.{_≡_, refl, sym, ap, _∙_}
-use mathlib.Core.Bool.{Bool, true, false}
 use mathlib.Core.List.{List, [], _∷_, _++_, append-assoc, append-nil}
 use Prim.Native.Nat.{ℕ, zero, suc, _+_, _*_, _-_, _≤_, min}
-use native.Mathlib.Nat.{zero-sub, sub-zero, suc-sub-suc, min-eq-left, min-eq-right}
+use native.Mathlib.Nat.{zero-sub, sub-zero, suc-sub-suc}
 use native.Mathlib.Omega.{arith}
-use lib.Dec.{leb}
-use lib.ListN.{length, take, drop, length-append, drop-of-length-le}
-use lib.Seq.{sets-eq, take-at, drop-length, drop-nil}
-use borrow.Author.Tests.{leb-true, leb-false}
+use lib.ListN.{length, take, drop, length-append}
+use lib.Seq.{sets-eq, take-at, drop-nil}
+use Rattle.laws.proofs.Lists.{drop-least}
 use Rattle.text.specs.Output.{Put}
 use Rattle.text.proofs.Putting.{put-as, put-then, put-none, put-length}
 use Rattle.dump.specs.declared.writer.Point.{Point}
@@ -19,16 +17,6 @@ pub drop-over : (n : ℕ) (s t : List ℕ) → drop n (s ++ t) ≡ drop n s ++ d
 drop-over zero s t = rw (zero-sub (length s))
 drop-over (suc n) [] t = rw (sub-zero (suc n))
 drop-over (suc n) (a ∷ s) t = rw (suc-sub-suc n (length s)) (drop-over n s t)
-
--- to leave out more than there are is to leave out all
-drop-least : (n : ℕ) (s : List ℕ) → drop (min n (length s)) s ≡ drop n s
-drop-least n s = go (leb n (length s)) refl
-  where
-    go : (few : Bool) → leb n (length s) ≡ few → drop (min n (length s)) s ≡ drop n s
-    go true is = ap (λ (k : ℕ). drop k s) (min-eq-left (leb-true n (length s) is))
-    go false is =
-        let many : length s ≤ n = omega (arith, leb-false n (length s) is) in
-        ap (λ (k : ℕ). drop k s) (min-eq-right many) ∙ drop-length s ∙ sym (drop-of-length-le s many)
 
 pub past-holds : (old chunk new : List ℕ) (from to : Point) (first : ℕ) → first ≡ min (from .skip) (length chunk)
     → to .skip ≡ from .skip - first → Put old (from .at) (drop first chunk) new (to .at) → PutPast old from chunk new to

@@ -3,9 +3,12 @@ use mathlib.Core.Path.{_≡_, refl, ap, ap₂, sym, _∙_}
 use mathlib.Core.Bool.{Bool, true, false, _||_, or-true, false≢true}
 use mathlib.Core.List.{List, [], _∷_, _++_, map, zipWith}
 use Prim.Native.Nat.{ℕ, zero, suc, _+_, _<_, _≤_, min}
-use native.Mathlib.Nat.{not-suc-le-zero, le-of-suc-le-suc}
+use native.Mathlib.Nat.{not-suc-le-zero, le-of-suc-le-suc, min-eq-left, min-eq-right}
 use native.Mathlib.Omega.{arith}
-use lib.ListN.{length, getD, set, take, drop}
+use lib.Dec.{leb}
+use lib.ListN.{length, getD, set, take, drop, drop-of-length-le}
+use lib.Seq.{take-all}
+use borrow.Author.Tests.{leb-true, leb-false}
 use Rattle.laws.specs.Search.{any}
 use Rattle.laws.specs.Everyone.{Everyone, nobody, also, Someone, this, another}
 
@@ -47,6 +50,26 @@ module _ {A : Type 0} where
   pub any-one : {f : A → Bool} {l : List A} → Someone (λ a. f a ≡ true) l → any f l ≡ true
   any-one {f} (this {a} {l} one) = ap (λ b. b || any f l) one
   any-one {f} (another {a} some) = ap (λ b. f a || b) (any-one some) ∙ or-true (f a)
+
+  -- the front of a list that may be shorter, and the rest of it
+  pub take-least : (n : ℕ) (l : List A) → take (min n (length l)) l ≡ take n l
+  take-least n l = by-test (leb n (length l)) refl
+    where
+      by-test : (b : Bool) → leb n (length l) ≡ b → take (min n (length l)) l ≡ take n l
+      by-test true e = ap (λ (k : ℕ). take k l) (min-eq-left (leb-true n (length l) e))
+      by-test false e =
+          let past : length l ≤ n = omega (arith, leb-false n (length l) e) in
+          take-all (min n (length l)) l (omega (arith, min-eq-right past)) ∙ sym (take-all n l past)
+
+  pub drop-least : (n : ℕ) (l : List A) → drop (min n (length l)) l ≡ drop n l
+  drop-least n l = by-test (leb n (length l)) refl
+    where
+      by-test : (b : Bool) → leb n (length l) ≡ b → drop (min n (length l)) l ≡ drop n l
+      by-test true e = ap (λ (k : ℕ). drop k l) (min-eq-left (leb-true n (length l) e))
+      by-test false e =
+          let past : length l ≤ n = omega (arith, leb-false n (length l) e) in
+          let all : length l ≤ min n (length l) = omega (arith, min-eq-right past) in
+          drop-of-length-le l all ∙ sym (drop-of-length-le l past)
 
 module _ {A B : Type 0} where
   pub everyone-map : {P : B → Type 0} (f : A → B) {l : List A} → Everyone (λ a. P (f a)) l → Everyone P (map f l)

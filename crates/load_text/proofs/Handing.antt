@@ -3,41 +3,20 @@ use mathlib.Core.Path.{_≡_, refl, sym, ap, ap₂, _∙_}
 use mathlib.Core.Bool.{Bool, true, false}
 use mathlib.Core.List.{List, [], _∷_, _++_, map, append-assoc, append-nil}
 use Prim.Native.Nat.{ℕ, zero, suc, _+_, _-_, _*_, _≤_, _<_, min}
-use native.Mathlib.Nat.{not-suc-le-zero, le-of-suc-le-suc, min-eq-left, min-eq-right}
+use native.Mathlib.Nat.{not-suc-le-zero, le-of-suc-le-suc}
 use native.Mathlib.Numerals.{add-one}
 use native.Mathlib.Omega.{arith}
-use lib.Dec.{leb}
-use lib.ListN.{length, getD, take, drop, length-take, length-drop, drop-of-length-le}
+use lib.ListN.{length, getD, take, drop, length-drop}
 use lib.Seq.{take-all, length-take-le, drop-at, take-at}
-use borrow.Author.Tests.{leb-true, leb-false}
 use Rattle.text.specs.Output.{Put}
 use Rattle.text.proofs.Runs.{to-end}
 use Rattle.text.proofs.Putting.{put-then, put-as}
-use Rattle.laws.specs.Everyone.{Everyone, nobody, also}
+use Rattle.laws.proofs.Lists.{take-least, drop-least}
+use Rattle.laws.specs.Everyone.{Everyone, also}
 use Rattle.arbitration_rules.specs.Limits.{maxMasters, maxLength}
 use Rattle.arbitration_rules.specs.Reply.{messagesOf}
 use Rattle.load_text.specs.Boards.{boardOf, masters}
 use Rattle.load_text.specs.Messages.{chosen, messagesIn, joined, unless}
-
--- no more than there are
-front-min : (n : ℕ) (l : List ℕ) → take (min n (length l)) l ≡ take n l
-front-min n l = by-test (leb n (length l)) refl
-  where
-    by-test : (b : Bool) → leb n (length l) ≡ b → take (min n (length l)) l ≡ take n l
-    by-test true e = ap (λ (k : ℕ). take k l) (min-eq-left (leb-true n (length l) e))
-    by-test false e =
-        let past : length l ≤ n = omega (arith, leb-false n (length l) e) in
-        take-all (min n (length l)) l (omega (arith, min-eq-right past)) ∙ sym (take-all n l past)
-
-back-min : (n : ℕ) (l : List ℕ) → drop (min n (length l)) l ≡ drop n l
-back-min n l = by-test (leb n (length l)) refl
-  where
-    by-test : (b : Bool) → leb n (length l) ≡ b → drop (min n (length l)) l ≡ drop n l
-    by-test true e = ap (λ (k : ℕ). drop k l) (min-eq-left (leb-true n (length l) e))
-    by-test false e =
-        let past : length l ≤ n = omega (arith, leb-false n (length l) e) in
-        let all : length l ≤ min n (length l) = omega (arith, min-eq-right past) in
-        drop-of-length-le l all ∙ sym (drop-of-length-le l past)
 
 -- a board's message, cut out of the rows
 pub messages-length : (counts rows : List ℕ) → length (messagesIn rows counts) ≡ length counts
@@ -83,9 +62,9 @@ module _ (counts rows : List ℕ) (board : ℕ) where
       → take end (take (length rows - start) (drop start rows)) ≡ getD (messagesIn rows counts) board []
   message-cut start end less from to =
       ap (λ (k : ℕ). take k row) to
-      ∙ front-min (getD counts board 0) row
+      ∙ take-least (getD counts board 0) row
       ∙ ap (take (getD counts board 0))
-      (to-end start rows ∙ ap (λ (k : ℕ). drop k rows) from ∙ back-min (board * maxLength) rows)
+      (to-end start rows ∙ ap (λ (k : ℕ). drop k rows) from ∙ drop-least (board * maxLength) rows)
       ∙ sym (messages-at counts rows board less)
     where
       row : List ℕ

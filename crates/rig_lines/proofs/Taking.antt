@@ -5,10 +5,9 @@ use mathlib.Core.List.{List, [], _∷_, _++_, append-assoc, append-nil}
 use Prim.Native.Nat.{ℕ, _+_, _-_, _≤_, _<_, min}
 use native.Mathlib.Numerals.{add-one}
 use native.Mathlib.Omega.{arith}
-use lib.Dec.{leb}
-use lib.ListN.{length, getD, take, drop, length-append, drop-of-length-le}
-use lib.Seq.{drop-cons, take-all}
-use borrow.Author.Tests.{ne-eqb, leb-true, leb-false}
+use lib.ListN.{length, getD, drop, length-append, drop-of-length-le}
+use lib.Seq.{drop-cons}
+use borrow.Author.Tests.{ne-eqb}
 use Rattle.text.specs.Output.{Put}
 use Rattle.text.proofs.Putting.{put-next, put-none}
 use Rattle.rig_lines.specs.Bytes.{every}
@@ -72,17 +71,6 @@ module _ (test : ℕ → Bool) where
           → (v && every test s) ≡ true → (v && every test (s ++ (b ∷ []))) ≡ true
       both true f q = f q t
       both false f q = q
-
--- the first n bytes of a text that may have fewer
-pub take-least : (n : ℕ) (s : List ℕ) → take (min n (length s)) s ≡ take n s
-take-least n s = by-test (leb n (length s)) refl
-  where
-    by-test : (b : Bool) → leb n (length s) ≡ b → take (min n (length s)) s ≡ take n s
-    by-test true e = let same : min n (length s) ≡ n = omega (arith, leb-true) in rw same
-    by-test false e =
-        let most : length s ≤ n = omega (arith, leb-false) in
-        let same : min n (length s) ≡ length s = omega arith in
-        rw (same, take-all n s most) (take-all (length s) s (omega arith))
 
 module _ (piece line : List ℕ) (s : Source) where
   -- a line of which some bytes are taken, none of them a newline

@@ -53,10 +53,6 @@ abbrev pub Taken : List ℕ → List ℕ → ℕ → Type 0
 Taken message acknowledges i =
     Through allAcknowledged taken (λ byte acknowledge bytes acknowledges. refl) message acknowledges i
 
-pub none-left : (message : List ℕ) → allAcknowledged message [] ≡ true
-none-left [] = refl
-none-left (byte ∷ bytes) = refl
-
 -- a message found by its index
 module _ (lengths bytes : List ℕ) (index : ℕ) where
   pub message-past : length lengths ≤ index → MessageAt lengths bytes index (record { from = 0; to = 0 })

@@ -1,7 +1,7 @@
 -- `rig_lines::input::content` meets its contract.
 use mathlib.Core.Path.{sym}
 use lib.Seq.{length-take-le}
-use Rattle.rig_lines.proofs.Taking.{take-least}
+use Rattle.laws.proofs.Lists.{take-least}
 use borrow.Author.Needs.{needs}
 use Rattle.rig_lines.proofs.input.content.Statement.{statement}
 use Rattle.rig_lines.proofs.input.content.Tie as tie
