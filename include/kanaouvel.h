@@ -1,8 +1,9 @@
 /* The proved library for callers in C and in C's ABI: `rt staticlib export` writes target/staticlib/libexport.a.
  *
  * A module is a number: bits 0 to 47 are its registers in the order of their addresses (USICTL0, USICTL1, USICKCTL,
- * USICNT, USISRL, USISRH), bits 48 to 54 its hidden state (SDA latch, output enable, clock phase, levels remembered,
- * SCL, SDA, SCL held). A caller keeps the number and passes it on; any number is a module.
+ * USICNT, USISRL, USISRH), bits 48 to 54 its hidden state (output latch, output enable, clock phase, levels remembered,
+ * SCL, SDA, SCL held; in SPI the phase is 1 while the clock is idle, and the levels are SCLK and SDI). A caller keeps
+ * the number and passes it on; any number is a module.
  *
  * No call refuses by a crash, reads past a length or keeps a pointer. A refused call gives the number and place of
  * document 01 and leaves every lent buffer as it was; of a buffer that is filled the rest stays as it was. A pointer
@@ -19,15 +20,19 @@ uint64_t usi_power_up(uint8_t usisrl, uint8_t usisrh);
  * USICTL1 (AL, STP, STTIFG, IFG from bit 3 down) that it cleared in bits 60 to 63 */
 uint64_t usi_write(uint64_t module, uint16_t address, uint8_t value);
 uint64_t usi_write_word(uint64_t module, uint16_t address, uint16_t value);
-uint64_t usi_sample(uint64_t module, uint8_t level); /* level: SCL + 2 * SDA */
+uint64_t usi_sample(uint64_t module, uint8_t level); /* level: SCL + 2 * SDA, in SPI SCLK + 2 * SDI */
 uint64_t usi_tick(uint64_t module);
 
 /* the value in bits 0 to 15, the refusal's number from bit 16 on */
 uint32_t usi_read(uint64_t module, uint16_t address);
 uint32_t usi_read_word(uint64_t module, uint16_t address);
 
-/* 1 where the module pulls SCL low, plus 2 where it pulls SDA low */
+/* 1 where the module pulls SCL low, plus 2 where it pulls SDA low; 0 unless the set-up fits I2C */
 uint8_t usi_lines(uint64_t module);
+
+/* SCLK + 4 * SDO, each 0 where the line is released, 2 where it is driven low, 3 where it is driven high; 0 unless the
+ * set-up fits SPI */
+uint8_t usi_spi_lines(uint64_t module);
 
 /* The events of a trace. The answer: byte 0 the refusal's number, bytes 1 and 2 its place, bytes 3 and 4 how many events
  * there are, byte 5 whether a message is open at the end, byte 6 how many bits of a byte are, byte 7 their value. */
@@ -55,6 +60,14 @@ uint64_t bus_dump(const uint32_t *stamps, size_t stamps_length, const uint8_t *l
  * levels; nothing is refused. The answer: how many bytes were put, 0 at the text's end or past it. */
 size_t bus_dump_piece(const uint32_t *stamps, size_t stamps_length, const uint8_t *levels, size_t levels_length,
                       size_t from, uint8_t *out, size_t out_length);
+
+/* A Value Change Dump of two one-bit wires, SCL declared first, read as a trace. The answer: byte 0 the refusal's number (26:
+ * more than 60,000 bytes; 20 to 25 and 27, what is wrong in the text; 6: more than 4,096 samples; 8: a slice is too short),
+ * bytes 1 and 2 the place, a byte of the text, from byte 3 on how many samples there are. Stamps are not rescaled: the second
+ * call gives their unit in femtoseconds, 0 where the text says none or is refused. */
+uint64_t bus_read_dump(const uint8_t *text, size_t text_length, uint32_t *stamps, size_t stamps_length, uint8_t *levels,
+                       size_t levels_length);
+uint64_t bus_dump_timescale(const uint8_t *text, size_t text_length);
 
 /* Masters that start together, with messages that lie in bytes one after the other. The answer: the refusal's number in
  * byte 0, the place in bytes 1 and 2, the count of bytes carried from byte 3 on. Each table has an entry for each of the

@@ -1,6 +1,6 @@
 /* The proved library called from C, with guard bytes around every lent buffer: what is refused leaves all of it as it
  * was, what is filled keeps its rest, and nothing outside is written. The expected values are document 01's worked
- * numbers P1 to P12, and what 01 says of each refusal. */
+ * numbers P1 to P12, what 01 says of each refusal, and bits of SPI worked by hand. */
 #include "../include/kanaouvel.h"
 #include <stdio.h>
 #include <string.h>
@@ -236,6 +236,47 @@ static void dumps(void)
     check(bus_dump(NULL, 0, NULL, 0, NULL, 0) == 19, "19 before 8");
 }
 
+/* what is wrong in the text of a dump, its number and the byte where it stands; both slices as they were */
+static void unread(const char *text, uint64_t number, uint64_t place)
+{
+    static struct guarded stamps, levels;
+    uint32_t *t = lend(&stamps, 40);
+    uint8_t *v = lend(&levels, 10);
+    check(bus_read_dump((const uint8_t *)text, strlen(text), t, 10, v, 10) == number + 256 * place, "a dump's refusal");
+    check(kept_past(&stamps, 0) && kept_past(&levels, 0), "a dump's refusal: all kept");
+    check(bus_dump_timescale((const uint8_t *)text, strlen(text)) == 0, "a dump's refusal: no timescale");
+}
+
+/* document 02, request 8: the case of request 2 read back, in slices of every length about it */
+static void dump_texts(void)
+{
+    static struct guarded stamps, levels;
+    const uint8_t *text = (const uint8_t *)dumped;
+    for (size_t a = 0; a < 5; a++)
+        for (size_t b = 0; b < 5; b++) {
+            uint32_t *t = lend(&stamps, 4 * a);
+            uint8_t *v = lend(&levels, b);
+            int reads = a >= 2 && b >= 2;
+            check(bus_read_dump(text, 142, t, a, v, b) == (reads ? (uint64_t)2 << 24 : 8), "the case read back");
+            check(kept_past(&stamps, reads ? 8 : 0) && kept_past(&levels, reads ? 2 : 0), "its rest");
+            check(!reads || (t[0] == 5 && t[1] == 9 && v[0] == 3 && v[1] == 1), "its samples");
+        }
+    check(bus_dump_timescale(text, 142) == 100000000, "its timescale");
+    check(bus_read_dump(NULL, 0, NULL, 0, NULL, 0) == 24, "24 of an empty text");
+    unread("$enddefinitions $end\n", 24, 0);
+    unread("$date today", 23, 11);
+    unread("1!\n", 27, 0);
+    static char wires[] = "$var wire 1 a x $end $var wire 1 b y $end $enddefinitions $end\n";
+    static char all[200];
+    unread(strcat(strcpy(all, wires), "#5 xa\n"), 20, 66);
+    unread(strcat(strcpy(all, wires), "#5 1a 1b #5\n"), 21, 72);
+    unread(strcat(strcpy(all, wires), "#5 1c\n"), 22, 66);
+    unread(strcat(strcpy(all, wires), "#4294967296\n"), 25, 63);
+    static uint8_t blanks[60001];
+    memset(blanks, ' ', sizeof blanks);
+    check(bus_read_dump(blanks, 60001, NULL, 0, NULL, 0) == 26, "26");
+}
+
 static void modules(void)
 {
     uint64_t u = usi_power_up(0, 0);
@@ -256,6 +297,26 @@ static void modules(void)
     check(usi_write(u, 0x80, 1) == (u | (uint64_t)1 << 55), "1: the module stays");
     check(usi_sample(u, 4) == (u | (uint64_t)4 << 55), "4: the module stays");
     check(usi_read(u, 0x77) >> 16 == 1 && usi_read_word(u, 0x79) >> 16 == 2, "1 and 2 of reads");
+    check(usi_spi_lines(u) == 0 && usi_spi_lines(usi_power_up(0, 0)) == 0, "nothing is driven outside SPI");
+}
+
+/* SPI (request 1), a master with CKPH=0 and CKPL=0 that sends A5h: SCLK + 4 * SDO, each 0, 2 low or 3 high */
+static void spi(void)
+{
+    uint64_t u = usi_write(usi_write(usi_power_up(0xA5, 0), 0x79, 0x00), 0x78, 0xEA);
+    u = usi_sample(usi_write(u, 0x7B, 0x08), 0);
+    check(usi_spi_lines(u) == 2, "SCLK rests low, SDO is let go");
+    u = usi_tick(u);
+    check(usi_spi_lines(u) == 3, "a tick raises SCLK");
+    u = usi_sample(u, 1);
+    check(usi_spi_lines(u) == 15, "bit 7 is out: 1");
+    u = usi_sample(usi_tick(u), 2);
+    check(usi_spi_lines(u) == 14 && usi_read(u, 0x7C) == 0x4B && usi_read(u, 0x7B) == 0x07, "1 is received");
+    u = usi_sample(usi_tick(u), 1);
+    check(usi_spi_lines(u) == 11 && usi_lines(u) == 0, "bit 6 is out: 0; no line is pulled as in I2C");
+    check(usi_spi_lines(usi_write(u, 0x78, 0xE2)) == 8, "a slave drives SDO alone");
+    u = usi_write(u, 0x78, 0xCA);
+    check(usi_spi_lines(u) == 0 && usi_tick(u) == (u | (uint64_t)3 << 55), "3 with PE5=0, the module stays");
 }
 
 struct catalogue {
@@ -299,8 +360,10 @@ static void catalogues(void)
 int main(void)
 {
     modules();
+    spi();
     traces();
     dumps();
+    dump_texts();
     arbitrations();
     catalogues();
     printf("guards: %d checks, %d failed\n", checks, failures);

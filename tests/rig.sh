@@ -295,7 +295,7 @@ sessions() {
     input "readw 079" && expect 1 "refused 2: 1 of 1 commands refused, the first on line 1" session
     has "refused 2: a word access needs an even address"
     input tick && expect 1 "refused 3: 1 of 1 commands refused, the first on line 1" session -
-    has "refused 3: the set-up does not fit I2C mode"
+    has "refused 3: the set-up fits neither I2C nor SPI"
     input "" "# hello" "sample 4" && expect 1 "refused 4: 1 of 1 commands refused, the first on line 3" session
     has "refused 4: a level is above 3"
     input "write usicnt 08" "read USICTL1" lines help && expect 0 "ok 4 commands" session
@@ -309,6 +309,12 @@ sessions() {
     expect 2 "error 1 of 2 commands not understood, the first on line 1" session
     printf 'lines\n\0\nlines\n' >in && expect 2 "error 1 of 3 commands not understood, the first on line 2" session
     expect 0 "ok 26 commands" session "$examples/worked.session"
+    expect 0 "ok 153 commands" session "$examples/spi.session"
+    has "ok 3C" "ok A5" "ok 4D" "ok 96" "ok sclk=high sdo=low" "ok sclk=released sdo=high"
+    input "write USICTL1 80" "write USICTL0 EA" tick lines "sample 0" && expect 0 "ok 5 commands" session
+    has "ok sclk=low sdo=released" \
+        "ok EA 80 00 00 00 00 latch=1 enable=0 phase=1 seen=1 scl=0 sda=0 stretch=0 sclk=0 sdo=-"
+    input "write USICTL0 CA" tick && expect 1 "refused 3: 1 of 2 commands refused, the first on line 2" session
     yes lines | head -n 100000 >in && expect 0 "ok 100000 commands" session
 }
 
@@ -478,6 +484,101 @@ dumps() {
     holds "[ $? = 2 ]" "a dump to a full disk: $(cat err)"
 }
 
+# dump LINES..: a dump of two wires with a first sample, 76 bytes in four lines, and then these
+dump() { input '$var wire 1 ! scl $end' '$var wire 1 " sda $end' '$enddefinitions $end' '#5 1! 1"' "$@"; }
+
+# not_read NUMBER WHERE WORDS HINT: the dump in the file `in` is refused so, on one line
+not_read() {
+    expect 1 "refused $1 byte $2: $3; $4" decode -
+    alone
+}
+
+# A dump that is not read is refused with its place, its line, the word there and what to do about it.
+dumps_refused() {
+    local undeclared="a value of a wire that is not declared" wires two cut again form only
+    wires="a dump needs just two wires of one bit, and a value for each at its first stamp"
+    two="declare SCL, then SDA, each as wire 1, and dump only these two"
+    cut="the text ends inside a line, a command or a section" again="the file may be cut: copy it again"
+    form="this is not of the form of a dump with two wires" only="export a Value Change Dump of SCL and SDA alone"
+    dump 'x!' && not_read 20 "76 (line 5)" "a value is x or z: 'x!'" "capture from where both lines have a level"
+    dump '#9' '0"' '#9'
+    not_read 21 "82 (line 7)" "a stamp is not above the one before it: '#9'" "packets may have crossed: export the capture again"
+    dump '1%' && not_read 22 "76 (line 5)" "$undeclared: '1%'" "dump only the two wires"
+    dump '$comment' && not_read 23 "85 (line 6)" "$cut" "$again"
+    printf '$date' >in && not_read 23 "5 (line 1)" "$cut" "$again"
+    dump '$var' && not_read 24 "76 (line 5)" "$wires: '\$var'" "$two"
+    input '$var reg 1 ! scl $end' && not_read 24 "5 (line 1)" "$wires: 'reg'" "$two"
+    input '$date $end' && not_read 24 "11 (line 2)" "$wires" "$two"
+    dump '#4294967296'
+    not_read 25 "76 (line 5)" "a stamp is above 4294967295: '#4294967296'" "choose a coarser timescale"
+    dump 'b1 !' && not_read 27 "76 (line 5)" "$form: 'b1'" "$only"
+    printf '\r\n\t$scope\n  class\001\n' >in && not_read 27 "12 (line 3)" "$form: 'class?'" "$only"
+    dump && printf '%059923d\n' 0 >>in
+    not_read 22 "76 (line 5)" "$undeclared: '$(printf '%032d' 0)..'" "dump only the two wires"
+    dump && printf '%059924d\n' 0 >>in
+    expect 1 "refused 26: the text is longer than 60000 bytes; dump a shorter time" decode - && alone
+    dump && seq 6 4101 | awk '{ print "#" $1, $1 % 2 "!" }' >>in
+    expect 1 "refused 6: more than 4096 samples; dump a shorter time" decode - && alone
+    sed -i '$d' in
+    expect 3 "look 0 events in 4096 samples, no frame open, 0 bits pending, no byte in any frame" decode -
+}
+
+# What is read of a dump, what the options ask of it, and which text is one.
+dumps_read() {
+    local needs="needs stamps that count 100 ns, and this dump" capture=$examples/capture.vcd lines
+    lines="expected STAMP LEVEL, two decimal numbers, not '\$timescale'; this looks like a Value Change Dump: did you mean rig decode?"
+    : >in
+    expect 0 "ok 7 events in 99 samples, no frame open, 0 bits pending" decode "$capture" --room 7
+    has "# a Value Change Dump whose stamps count 1 us" "start 0" "20: START" "114: 50 write ACK" "212: repeated START" \
+        "305: 51 read ACK" "395: 7E NACK" "404: STOP"
+    expect 1 "refused 8: the reply needs more room than was lent" decode "$capture" --room 6 && alone
+    expect 2 "error --fast $needs counts 1 us" decode "$capture" --fast && alone
+    dump && expect 2 "error --standard $needs has no timescale" decode --standard - && alone
+    dump 'x!' && expect 1 "refused 20 byte 76 (line 5): a value is x or z: 'x!'; capture from where both lines have a level" decode --fast -
+    input START "A0 ACK" STOP "gap 46" && "$rig" encode - <in 2>err | "$rig" dump - >drawn.vcd 2>>err
+    expect 1 "refused 18 sample 3 (stamp 138): a phase of SCL is too short for the mode" decode drawn.vcd --standard && alone
+    expect 0 "ok 3 events in 23 samples, no frame open, 0 bits pending" decode drawn.vcd --fast
+    has "# a Value Change Dump whose stamps count 100 ns" "start 0" "gap 46"
+    sed 's/$/\r/; s/ /\t/g' drawn.vcd >in && expect 0 "ok 3 events in 23 samples, no frame open, 0 bits pending" decode -
+    (printf '%4095s' '' && cat drawn.vcd) >in && expect 0 "ok 3 events in 23 samples, no frame open, 0 bits pending" decode -
+    (printf '%4096s' '' && cat drawn.vcd) >in && expect 2 "error line 1: longer than 4096 bytes" decode - && alone
+    (yes '' | head -n 4096 && cat drawn.vcd) >in && expect 2 "error line 4097: $lines" decode - && alone
+    (echo '# a dump' && cat drawn.vcd) >in && expect 2 "error line 2: $lines" decode - && alone
+    "$rig" dump drawn.vcd >out 2>err
+    holds "[ $? = 2 ] && [ ! -s out ]" "a dump of a dump: $(cat out err)"
+    holds '[ "$(cat err)" = "rig: error line 1: $lines" ]' "a dump of a dump: $(cat err)"
+}
+
+# What is written is read back with the same events, and what is read is drawn again; a dump cut in a line is refused.
+dumps_back() {
+    local size n capture=$examples/capture.vcd
+    "$rig" decode "$capture" | tee first | "$rig" encode >drawn 2>err
+    holds "[ $? = 0 ]" "a dump that is read and drawn: $(tail -n 1 drawn)"
+    "$rig" decode drawn >second
+    holds '[ "$(grep -c "^[0-9]*: " first)" = 7 ]' "a dump of seven events: $(cat first)"
+    holds 'cmp -s <(sed -n "s/^[0-9]*: //p" first) <(sed -n "s/^[0-9]*: //p" second)' "drawn and read again: $(cat second)"
+    "$rig" clash "$examples/night.loads" --trace upload-17 2>err | "$rig" decode - >first
+    "$rig" clash "$examples/night.loads" --trace upload-17 2>err | "$rig" dump - 2>>err | "$rig" decode - >second
+    holds "[ $? = 0 ]" "the dump of a load: $(tail -n 1 second)"
+    holds '[ "$(wc -l <first)" = 8 ] && tail -n +2 second | cmp -s first -' "the dump of a load has other events: $(cat second)"
+    size=$(wc -c <"$capture")
+    for ((n = 1; n < size; n += 7)); do
+        head -c $n "$capture" >in
+        [ -n "$(tail -c 1 in)" ] || continue
+        "$rig" decode - <in >out 2>err
+        holds "[ $? = 1 ] && grep -q '^refused 23 byte $n (line ' out" "the first $n bytes of capture.vcd: $(tail -n 1 out)"
+    done
+}
+
+# The dumps of tests/dumps, made by other tools and for each rule, are said to be what is stored beside them.
+corpus() {
+    local file
+    for file in "$root"/tests/dumps/*.vcd; do
+        "$rig" decode "$file" >out 2>>err
+        holds "cmp -s out '${file%.vcd}.expected'" "${file##*/}: not as stored: $(diff out "${file%.vcd}.expected" | head -n 3)"
+    done
+}
+
 # A copy of the script with small crates of its own, and an rt that only pretends. No other rt can be reached.
 scratch() {
     rm -rf scratch
@@ -618,17 +719,18 @@ truncated() {
     done
     run_on "clash --table" cut/*.loads >all
     run_on "clash $examples/sent.loads --corrections" cut/*.corrections >>all
-    run_on decode cut/*.trace >>all
+    run_on decode cut/*.trace cut/*.vcd >>all
     run_on encode cut/*.events >>all
     run_on session cut/*.session >>all
     judge
 }
 
-# Ten thousand files: a third of random bytes, the rest of random words of the formats.
+# Ten thousand files: a third of random bytes, the rest of random words of the formats, in some the values of a dump.
 random() {
     local words=(boards load board ack end expect all - p q r a 90 12 0F 0 1 2 255 256 4294967295 99999999999999999999
         START STOP repeated cut byte ACK NACK write read power tick sample lines readw writew USICNT 078 07F start gap
         512 513 514 515 : 50: ok look '#' $'\n' $'\n' $'\n' $'\t')
+    local values=('#6' '#7' '#80' '#90' '#1000' '0!' '1!' '0"' '1"' '0!' '1!' '0"' '1"' '$dumpall' '$end' '$comment' 'x!' 1)
     local text byte i n
     RANDOM=1
     mkdir -p random
@@ -641,6 +743,9 @@ random() {
             done
             # shellcheck disable=SC2059
             printf "$text" >random/$i
+        elif ((i % 10 == 5)); then
+            for ((n = RANDOM % 40; n > 0; n--)); do text+="${values[RANDOM % ${#values[@]}]}"$'\n'; done
+            dump "$text" && mv in random/$i
         else
             if ((i % 2 == 0)); then text=$'boards p q\nload x\n'; fi
             for ((n = RANDOM % 40; n > 0; n--)); do text+="${words[RANDOM % ${#words[@]}]} "; done
@@ -677,7 +782,7 @@ rehearsal=${RIG_PROGRAM:+$program}
 rehearsal=${rehearsal:-$root/target/bin/rig_clash}
 [ -z "${RIG_PROGRAM:-}" ] || export RIG_PROGRAM=$program
 for part in commands help slips corrections cut_corrections cut_short refusals wrong_lines night many_loads sessions traces captures lists \
-    round_trips dumps streams terminal $builds stored truncated random answers; do
+    round_trips dumps dumps_refused dumps_read dumps_back corpus streams terminal $builds stored truncated random answers; do
     $part
 done
 if [ "$failures" -gt 0 ]; then

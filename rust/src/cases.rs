@@ -1,6 +1,6 @@
 //! The case programs: a script of commands in, one answer for each command out.
 
-use crate::module::Module;
+use crate::module::{Driven, Module, SetUp};
 use std::str::FromStr;
 
 mod arbitration;
@@ -45,12 +45,11 @@ fn hex_byte(word: &str) -> Result<u8, String> {
     u8::from_str_radix(word, 16).map_err(|_| format!("no hex byte `{word}`"))
 }
 
-/// A module whole, with the lines it pulls.
+/// A module whole, with the lines it pulls, or in SPI drives.
 pub(crate) fn module_text(module: &Module) -> String {
     let registers = module.registers.map(|register| format!("{register:02X}")).join(" ");
-    let lines = module.lines();
     format!(
-        "{registers} latch={} enable={} phase={} seen={} scl={} sda={} stretch={} pull={}",
+        "{registers} latch={} enable={} phase={} seen={} scl={} sda={} stretch={} {}",
         u8::from(module.latch),
         u8::from(module.enable),
         u8::from(module.phase),
@@ -58,8 +57,22 @@ pub(crate) fn module_text(module: &Module) -> String {
         u8::from(module.scl),
         u8::from(module.sda),
         u8::from(module.stretch),
-        u8::from(lines.scl) + 2 * u8::from(lines.sda),
+        lines_text(module),
     )
+}
+
+fn lines_text(module: &Module) -> String {
+    let digit = |line: Driven| match line {
+        Driven::Released => '-',
+        Driven::Low => '0',
+        Driven::High => '1',
+    };
+    if module.set_up() == SetUp::Spi {
+        let lines = module.spi_lines();
+        return format!("sclk={} sdo={}", digit(lines.sclk), digit(lines.sdo));
+    }
+    let lines = module.lines();
+    format!("pull={}", u8::from(lines.scl) + 2 * u8::from(lines.sda))
 }
 
 /// The items, each after a space.

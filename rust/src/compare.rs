@@ -9,6 +9,7 @@ use std::collections::BTreeMap;
 pub mod arbitration;
 pub mod catalogue;
 pub mod dump;
+pub mod dump_reader;
 pub mod lists;
 pub mod phases;
 pub mod traces;
@@ -38,11 +39,12 @@ pub struct Comparison {
     pub case: Case,
 }
 
-pub const COMPARISONS: [Comparison; 7] = [
+pub const COMPARISONS: [Comparison; 8] = [
     Comparison { word: "usi", cases: "step sequences", count: 200_000, case: usi::case },
     Comparison { word: "bus", cases: "traces", count: 100_000, case: traces::case },
     Comparison { word: "bus", cases: "timed traces", count: 100_000, case: phases::case },
     Comparison { word: "bus", cases: "dumps", count: 50_000, case: dump::case },
+    Comparison { word: "bus", cases: "dump texts", count: 200_000, case: dump_reader::case },
     Comparison { word: "bus", cases: "lists", count: 100_000, case: lists::case },
     Comparison { word: "arbitration", cases: "arbitrations", count: 50_000, case: arbitration::case },
     Comparison { word: "catalogue", cases: "catalogues", count: 100_000, case: catalogue::case },

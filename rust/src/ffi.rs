@@ -14,6 +14,7 @@ extern "C" {
     fn usi_read(module: u64, address: u16) -> u32;
     fn usi_read_word(module: u64, address: u16) -> u32;
     fn usi_lines(module: u64) -> u8;
+    fn usi_spi_lines(module: u64) -> u8;
     fn bus_decode(
         stamps: *const u32,
         stamps_len: usize,
@@ -65,6 +66,15 @@ extern "C" {
         out: *mut u8,
         out_len: usize,
     ) -> usize;
+    fn bus_read_dump(
+        text: *const u8,
+        text_len: usize,
+        stamps: *mut u32,
+        stamps_len: usize,
+        levels: *mut u8,
+        levels_len: usize,
+    ) -> u64;
+    fn bus_dump_timescale(text: *const u8, text_len: usize) -> u64;
     fn arbitrate(
         bytes: *const u8,
         bytes_len: usize,
@@ -152,6 +162,10 @@ impl Interface for Archive {
         unsafe { usi_lines(module) }
     }
 
+    fn spi_lines(&self, module: u64) -> u8 {
+        unsafe { usi_spi_lines(module) }
+    }
+
     fn decode(&self, stamps: &[u32], levels: &[u8], events: &mut [u16]) -> u64 {
         self.decode_in(Mode::Unchecked, stamps, levels, events)
     }
@@ -214,6 +228,23 @@ impl Interface for Archive {
                 out.len(),
             )
         }
+    }
+
+    fn read_dump(&self, text: &[u8], stamps: &mut [u32], levels: &mut [u8]) -> u64 {
+        unsafe {
+            bus_read_dump(
+                text.as_ptr(),
+                text.len(),
+                stamps.as_mut_ptr(),
+                stamps.len(),
+                levels.as_mut_ptr(),
+                levels.len(),
+            )
+        }
+    }
+
+    fn dump_timescale(&self, text: &[u8]) -> u64 {
+        unsafe { bus_dump_timescale(text.as_ptr(), text.len()) }
     }
 
     fn arbitrate(&self, asked: &Asked, lent: Lent) -> u64 {
@@ -330,6 +361,10 @@ impl Interface for Guarded {
         Archive.lines(module)
     }
 
+    fn spi_lines(&self, module: u64) -> u8 {
+        Archive.spi_lines(module)
+    }
+
     fn decode(&self, stamps: &[u32], levels: &[u8], events: &mut [u16]) -> u64 {
         guarded(events, 0xA5A5, |events| Archive.decode(stamps, levels, events))
     }
@@ -350,6 +385,16 @@ impl Interface for Guarded {
 
     fn dump_piece(&self, stamps: &[u32], levels: &[u8], from: usize, out: &mut [u8]) -> usize {
         guarded(out, 0xA5, |out| Archive.dump_piece(stamps, levels, from, out))
+    }
+
+    fn read_dump(&self, text: &[u8], stamps: &mut [u32], levels: &mut [u8]) -> u64 {
+        guarded(stamps, 0xA5A5_A5A5, |stamps| {
+            guarded(levels, 0x5A, |levels| Archive.read_dump(text, stamps, levels))
+        })
+    }
+
+    fn dump_timescale(&self, text: &[u8]) -> u64 {
+        Archive.dump_timescale(text)
     }
 
     fn arbitrate(&self, asked: &Asked, lent: Lent) -> u64 {

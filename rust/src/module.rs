@@ -1,6 +1,13 @@
-//! The USI module in I2C mode by 01: six registers, the hidden state, and the steps write, sample and tick.
+//! The USI module: six registers, the hidden state, and the steps write, sample and tick. What a sample, a
+//! tick and the end of a step do depends on the set-up: I2C's rules (01) are in `i2c`, SPI's (02) in `spi`.
 
 use crate::refusal::{Reason, Refusal};
+
+mod i2c;
+mod spi;
+
+pub use i2c::Lines;
+pub use spi::{Driven, SpiLines};
 
 /// One bit of a register: the register's place after 078h and the bit's number.
 #[derive(Clone, Copy)]
@@ -8,6 +15,7 @@ pub struct Flag(usize, u8);
 
 pub const PE7: Flag = Flag(0, 7);
 pub const PE6: Flag = Flag(0, 6);
+pub const PE5: Flag = Flag(0, 5);
 pub const LSB: Flag = Flag(0, 4);
 pub const MST: Flag = Flag(0, 3);
 pub const GE: Flag = Flag(0, 2);
@@ -27,7 +35,7 @@ pub const IFGCC: Flag = Flag(3, 5);
 /// The bits of CNT in USICNT.
 const CNT: u8 = 0x1F;
 
-/// A module whole: `registers` in order of address, the rest is 01's hidden state.
+/// A module whole: `registers` in order of address, the rest is 01's hidden state, which SPI shares.
 #[derive(Clone, Copy, PartialEq, Eq, Debug)]
 pub struct Module {
     pub registers: [u8; 6],
@@ -35,9 +43,9 @@ pub struct Module {
     pub latch: bool,
     /// Latched enable.
     pub enable: bool,
-    /// Clock half: true is the high one.
+    /// Clock half: true is the high one, in SPI the idle one.
     pub phase: bool,
-    /// Levels are remembered; `scl` and `sda` are those last seen.
+    /// Levels are remembered; `scl` and `sda` are those last seen, in SPI SCLK and SDI.
     pub seen: bool,
     pub scl: bool,
     pub sda: bool,
@@ -45,11 +53,12 @@ pub struct Module {
     pub stretch: bool,
 }
 
-/// Which lines a module pulls low.
+/// Which set-up the registers are.
 #[derive(Clone, Copy, PartialEq, Eq, Debug)]
-pub struct Lines {
-    pub scl: bool,
-    pub sda: bool,
+pub enum SetUp {
+    I2c,
+    Spi,
+    Neither,
 }
 
 impl Module {
@@ -93,20 +102,15 @@ impl Module {
         self.registers[3] & CNT
     }
 
-    const fn top_bit(&self) -> bool {
-        self.registers[4] >> 7 == 1
-    }
-
-    /// The set-up fits: I2C=1, CKPL=1, CKPH=0, LSB=0, 16B=0, PE6=PE7=1, SWRST=0.
-    pub const fn fits(&self) -> bool {
-        self.is(I2C)
-            && self.is(CKPL)
-            && !self.is(CKPH)
-            && !self.is(LSB)
-            && !self.is(SIXTEEN_BIT)
-            && self.is(PE6)
-            && self.is(PE7)
-            && !self.is(SWRST)
+    /// I2C's set-up and SPI's never fit together: the bit I2C parts them.
+    pub const fn set_up(&self) -> SetUp {
+        if self.fits_i2c() {
+            SetUp::I2c
+        } else if self.fits_spi() {
+            SetUp::Spi
+        } else {
+            SetUp::Neither
+        }
     }
 
     /// Refusal 1: an address outside 078h to 07Dh.
@@ -144,7 +148,7 @@ impl Module {
         if address == Self::USICNT {
             next.count_written();
         }
-        next.settle();
+        next.settle(self.set_up());
         Ok(next)
     }
 
@@ -155,7 +159,7 @@ impl Module {
         self.write(address, low)?.write(address + 1, high)
     }
 
-    /// The flags of USICTL1 (AL, STP, STTIFG, IFG) that were 1 before a write and are 0 after it (02: Ask 12).
+    /// Which of AL, STP, STTIFG, IFG in USICTL1 were 1 before a write and are 0 after it (02, request 12).
     pub fn cleared_since(&self, before: &Module) -> u8 {
         let flags = |module: &Module| [AL, STP, STTIFG, IFG].map(|flag| module.is(flag));
         let both = flags(before).into_iter().zip(flags(self));
@@ -173,16 +177,25 @@ impl Module {
         }
     }
 
-    /// The end of each step: a set-up that doesn't fit rests; GE=1 makes latch and enable transparent.
-    fn settle(&mut self) {
-        if !self.fits() {
+    /// The end of a write: the hidden state rests if the set-up was another before, and while neither fits.
+    fn settle(&mut self, before: SetUp) {
+        let now = self.set_up();
+        if now != before || now == SetUp::Neither {
             self.rest();
-        } else if self.is(GE) {
-            self.latch_output();
+        }
+        self.follow();
+    }
+
+    /// The end of each step: by the set-up's own rule the outputs follow the register and OE.
+    fn follow(&mut self) {
+        match self.set_up() {
+            SetUp::I2c => self.follow_i2c(),
+            SetUp::Spi => self.follow_spi(),
+            SetUp::Neither => {}
         }
     }
 
-    /// The resting hidden state: latch 1, enable 0, half high, no levels, not caught.
+    /// The resting hidden state: latch 1, enable 0, half high (in SPI idle), no levels, not caught.
     fn rest(&mut self) {
         self.latch = true;
         self.enable = false;
@@ -193,118 +206,41 @@ impl Module {
         self.stretch = false;
     }
 
-    /// The latch takes bit 7 of USISRL and the enable takes OE.
-    fn latch_output(&mut self) {
-        self.latch = self.top_bit();
-        self.enable = self.is(OE);
-    }
-
-    /// One sample of the bus: level byte = SCL + 2·SDA. Refusals 4, 3.
+    /// One sample: level byte = SCL + 2·SDA, in SPI SCLK + 2·SDI. With no levels remembered it only records.
+    /// Refusals 4, 3.
     pub fn sample(self, level: u8) -> Result<Module, Refusal> {
         if level > 3 {
             return Err(Reason::Level.refusal());
         }
-        if !self.fits() {
-            return Err(Reason::SetUp.refusal());
-        }
-        let (scl, sda) = (level & 1 == 1, level & 2 == 2);
+        let (clock, data) = (level & 1 == 1, level & 2 == 2);
         let mut next = self;
-        if self.seen {
-            next.compare_levels(scl, sda);
+        match self.set_up() {
+            SetUp::Neither => return Err(Reason::SetUp.refusal()),
+            SetUp::I2c if self.seen => next.compare_levels(clock, data),
+            SetUp::Spi if self.seen => next.compare_sclk(clock, data),
+            _ => {}
         }
         next.seen = true;
-        next.scl = scl;
-        next.sda = sda;
-        next.settle();
+        next.scl = clock;
+        next.sda = data;
+        next.follow();
         Ok(next)
     }
 
-    /// What a sample means against the levels remembered.
-    fn compare_levels(&mut self, scl: bool, sda: bool) {
-        match (self.scl, scl) {
-            (true, true) => self.condition(sda),
-            (false, true) => self.scl_rises(sda),
-            (true, false) => self.scl_falls(),
-            (false, false) => {}
-        }
-        if scl {
-            self.stretch = false;
-        }
-    }
-
-    /// SCL high before and now: SDA's fall is START, so STTIFG=1 and SCLREL=0; its rise is STOP, so STP=1.
-    fn condition(&mut self, sda: bool) {
-        if self.sda && !sda {
-            self.put(STTIFG, true);
-            self.put(SCLREL, false);
-        }
-        if !self.sda && sda {
-            self.put(STP, true);
-        }
-    }
-
-    /// SCL rises, CNT>0: compare for lost arbitration, then shift SDA in and count; at 0, IFG=1.
-    fn scl_rises(&mut self, sda: bool) {
-        if self.count() == 0 {
-            return;
-        }
-        if self.is(MST) && self.enable && self.latch != sda {
-            self.put(AL, true);
-            self.put(OE, false);
-            self.enable = false;
-        }
-        self.registers[4] = self.registers[4] << 1 | u8::from(sda);
-        self.registers[3] -= 1;
-        if self.count() == 0 {
-            self.put(IFG, true);
-        }
-    }
-
-    /// SCL falls: with CNT>0 and GE=0 the output is latched; with the half high, "caught" becomes true.
-    fn scl_falls(&mut self) {
-        if self.count() > 0 && !self.is(GE) {
-            self.latch_output();
-        }
-        if self.phase {
-            self.stretch = true;
-        }
-    }
-
-    /// One tick of the clock half. Refusal 3.
+    /// One tick of the clock half. Refusals 3, and in I2C 17.
     pub fn tick(self) -> Result<Module, Refusal> {
-        if !self.fits() {
-            return Err(Reason::SetUp.refusal());
-        }
-        let clocking = self.is(MST) && !self.is(IFG) && self.count() > 0;
-        let scl_seen_high = self.seen && self.scl;
-        let scl_seen_low = self.seen && !self.scl;
-        if clocking && self.phase && scl_seen_low && self.divider() == 0 {
-            return Err(Reason::NoWaiting.refusal());
-        }
         let mut next = self;
-        next.phase = !(clocking && self.phase && scl_seen_high);
-        next.settle();
+        next.phase = match self.set_up() {
+            SetUp::I2c => self.half_after_tick()?,
+            SetUp::Spi => self.phase_after_tick(),
+            SetUp::Neither => return Err(Reason::SetUp.refusal()),
+        };
+        next.follow();
         Ok(next)
     }
 
-    /// DIV, bits 7 to 5 of USICKCTL: the clock is divided by 2 to this power.
-    const fn divider(&self) -> u8 {
-        self.registers[2] >> 5
-    }
-
-    /// The lines pulled low; both are released while the set-up doesn't fit.
-    pub const fn lines(&self) -> Lines {
-        let fits = self.fits();
-        Lines { scl: fits && (self.clocks_low() || self.holds()), sda: fits && self.enable && !self.latch }
-    }
-
-    /// SCL is low in the low half of the module's own clock.
-    const fn clocks_low(&self) -> bool {
-        self.is(MST) && !self.is(IFG) && !self.phase
-    }
-
-    /// SCL is held low when caught, SCLREL=0 and (IFG=1 or STTIFG=1 or CNT=0).
-    const fn holds(&self) -> bool {
-        self.stretch && !self.is(SCLREL) && (self.is(IFG) || self.is(STTIFG) || self.count() == 0)
+    /// The module's own clock runs: MST=1, IFG=0, CNT>0.
+    const fn clocking(&self) -> bool {
+        self.is(MST) && !self.is(IFG) && self.count() > 0
     }
 }

@@ -7,7 +7,8 @@ use crate::arbitration::{self, runner, Request, Run, MASTERS};
 use crate::bus::{self, Decoded};
 use crate::catalogue::{self, Catalogue, Part};
 use crate::dump;
-use crate::module::Module;
+use crate::dump_reader;
+use crate::module::{Driven, Module};
 use crate::phases::{self, Mode};
 use crate::refusal::{Reason, Refusal};
 
@@ -70,11 +71,14 @@ pub trait Interface {
     fn read(&self, module: u64, address: u16) -> u32;
     fn read_word(&self, module: u64, address: u16) -> u32;
     fn lines(&self, module: u64) -> u8;
+    fn spi_lines(&self, module: u64) -> u8;
     fn decode(&self, stamps: &[u32], levels: &[u8], events: &mut [u16]) -> u64;
     fn decode_in(&self, mode: Mode, stamps: &[u32], levels: &[u8], events: &mut [u16]) -> u64;
     fn encode(&self, events: &[u16], start: u32, gap: u32, stamps: &mut [u32], levels: &mut [u8]) -> u64;
     fn dump(&self, stamps: &[u32], levels: &[u8], out: &mut [u8]) -> u64;
     fn dump_piece(&self, stamps: &[u32], levels: &[u8], from: usize, out: &mut [u8]) -> usize;
+    fn read_dump(&self, text: &[u8], stamps: &mut [u32], levels: &mut [u8]) -> u64;
+    fn dump_timescale(&self, text: &[u8]) -> u64;
     fn arbitrate(&self, asked: &Asked, lent: Lent) -> u64;
     /// The index of the least message, and how many comparisons found it.
     fn least(&self, bytes: &[u8], lengths: &[u32]) -> (u64, u64);
@@ -122,6 +126,15 @@ fn written(packed: u64, write: impl Fn(Module) -> Result<Module, Refusal>) -> u6
     let before = unpack(packed);
     let cleared = write(before).map_or(0, |after| after.cleared_since(&before));
     step(packed, write) | u64::from(cleared) << 60
+}
+
+/// A line of SPI in two bits: 0 released, 2 driven low, 3 driven high.
+fn driven(line: Driven) -> u8 {
+    match line {
+        Driven::Released => 0,
+        Driven::Low => 2,
+        Driven::High => 3,
+    }
 }
 
 /// A value read, or the refusal number times 65536.
@@ -181,6 +194,11 @@ impl Interface for Model {
         u8::from(lines.scl) + 2 * u8::from(lines.sda)
     }
 
+    fn spi_lines(&self, module: u64) -> u8 {
+        let lines = unpack(module).spi_lines();
+        driven(lines.sclk) + 4 * driven(lines.sdo)
+    }
+
     fn decode(&self, stamps: &[u32], levels: &[u8], events: &mut [u16]) -> u64 {
         read(bus::decode(stamps, levels, events))
     }
@@ -199,6 +217,15 @@ impl Interface for Model {
 
     fn dump_piece(&self, stamps: &[u32], levels: &[u8], from: usize, out: &mut [u8]) -> usize {
         dump::piece(stamps, levels, from, out)
+    }
+
+    fn read_dump(&self, text: &[u8], stamps: &mut [u32], levels: &mut [u8]) -> u64 {
+        dump_reader::read(text, stamps, levels).map_or_else(refused, |(count, _)| (count as u64) << 24)
+    }
+
+    fn dump_timescale(&self, text: &[u8]) -> u64 {
+        let (mut stamps, mut levels) = ([0; bus::SAMPLES], [0; bus::SAMPLES]);
+        dump_reader::read(text, &mut stamps, &mut levels).map_or(0, |(_, timescale)| timescale)
     }
 
     fn arbitrate(&self, asked: &Asked, lent: Lent) -> u64 {

@@ -5,7 +5,8 @@ use rehearsal_model::bus::frame_open_after;
 use rehearsal_model::catalogue::Catalogue;
 use rehearsal_model::compare::catalogue::wraps;
 use rehearsal_model::compare::{run, Comparison, COMPARISONS};
-use rehearsal_model::packed::{read, Asked, Interface, Lent, Model, Place};
+use rehearsal_model::module::{SetUp, CKPH, CKPL, GE, PE5, SIXTEEN_BIT};
+use rehearsal_model::packed::{read, unpack, Asked, Interface, Lent, Model, Place};
 use rehearsal_model::phases::{decode_within, edges, Limits, Mode};
 
 /// The model with one function that is wrong now and then.
@@ -19,6 +20,19 @@ enum Wrong {
     HighBitsMatter,
     ReadsZero,
     Lines,
+    SdoWithSclk,
+    PullsInSpi,
+    NearlyFits,
+    RestForgotten,
+    RestsInside,
+    FirstBitLate,
+    EdgesExchanged,
+    EndsExchanged,
+    LowByteAlone,
+    TouchesUsisrh,
+    StartInSpi,
+    WaitsForSclk,
+    OneBitEarly,
     EventCount,
     EventsRest,
     PendingValue,
@@ -38,6 +52,10 @@ enum Wrong {
     EmptyTaken,
     ByteLost,
     PastTheEnd,
+    TextPlace,
+    TextRest,
+    TextLines,
+    TextUnit,
     Position,
     Module,
     StillIn,
@@ -60,6 +78,54 @@ enum Wrong {
 /// How many bytes a dump has before its first sample.
 const HEADER: usize = 127;
 
+/// The hidden state, and in it the latch with the enable.
+const HIDDEN: u64 = 0x7F << 48;
+const OUTPUTS: u64 = 3 << 48;
+const PHASE: u64 = 1 << 50;
+
+/// The bits `kept` as they were before a step.
+fn keep(before: u64, after: u64, kept: u64) -> u64 {
+    after & !kept | before & kept
+}
+
+/// The sides that are wrong about writes between and inside set-ups.
+fn wrong_write(side: Wrong, module: u64, next: u64) -> u64 {
+    let (was, is) = (unpack(module).set_up(), unpack(next).set_up());
+    match side {
+        Wrong::RestForgotten if was != is && is != SetUp::Neither => keep(module, next, HIDDEN),
+        Wrong::RestsInside if was == is && is == SetUp::Spi && module >> 15 & 1 != next >> 15 & 1 => {
+            next & !HIDDEN | 5 << 48
+        }
+        _ => next,
+    }
+}
+
+/// The sides that are wrong about samples in SPI.
+fn wrong_sample(side: Wrong, module: u64, level: u8) -> u64 {
+    const CKPH_BIT: u64 = 1 << 15;
+    const LSB_BIT: u64 = 1 << 4;
+    let next = Model.sample(module, level);
+    let (before, after) = (unpack(module), unpack(next));
+    if side == Wrong::NearlyFits && before.set_up() == SetUp::Neither && !before.is(PE5) {
+        return keep(module, Model.sample(module | 1 << 5, level), 1 << 5);
+    }
+    if before.set_up() != SetUp::Spi || level > 3 {
+        return next;
+    }
+    let captured = after.count() < before.count();
+    let edge = before.seen && before.scl != after.scl;
+    match side {
+        Wrong::EdgesExchanged => Model.sample(module ^ CKPH_BIT, level) ^ CKPH_BIT,
+        Wrong::EndsExchanged => Model.sample(module ^ LSB_BIT, level) ^ LSB_BIT,
+        Wrong::LowByteAlone => keep(module, next, 0xFF << 40),
+        Wrong::TouchesUsisrh if captured && !before.is(SIXTEEN_BIT) => next ^ 1 << 40,
+        Wrong::StartInSpi if before.seen && before.scl && before.sda && level == 1 => next | 1 << 9,
+        Wrong::OneBitEarly if captured && after.count() == 1 => next | 1 << 8,
+        Wrong::FirstBitLate if before.is(CKPH) && !before.is(GE) && !edge => keep(module, next, OUTPUTS),
+        _ => next,
+    }
+}
+
 impl Interface for Wrong {
     fn power_up(&self, usisrl: u8, usisrh: u8) -> u64 {
         Model.power_up(usisrl, if *self == Wrong::PowerUp { 0 } else { usisrh })
@@ -71,7 +137,7 @@ impl Interface for Wrong {
             Wrong::SetsCounted => next | (!module >> 8 & next >> 8 & 15) << 60,
             Wrong::HighBitsMatter => next | module & 1 << 55,
             Wrong::RefusalNumber if next >> 55 & 31 == 1 => next ^ 3 << 55,
-            _ => next,
+            _ => wrong_write(*self, module, next),
         }
     }
 
@@ -82,12 +148,16 @@ impl Interface for Wrong {
     }
 
     fn sample(&self, module: u64, level: u8) -> u64 {
-        let next = Model.sample(module, level);
+        let next = wrong_sample(*self, module, level);
         next | if *self == Wrong::KeptScl { module & 1 << 52 } else { 0 }
     }
 
     fn tick(&self, module: u64) -> u64 {
         let next = Model.tick(module);
+        let before = unpack(module);
+        if *self == Wrong::WaitsForSclk && before.set_up() == SetUp::Spi && before.phase {
+            return next | if before.seen && before.scl != before.is(CKPL) { PHASE } else { 0 };
+        }
         next & !if *self == Wrong::NeverWaits && module >> 48 & 0x1F == 0x0C { 1 << 50 } else { 0 }
     }
 
@@ -100,7 +170,14 @@ impl Interface for Wrong {
     }
 
     fn lines(&self, module: u64) -> u8 {
-        Model.lines(module) & if *self == Wrong::Lines { 2 } else { 3 }
+        let lines = Model.lines(module) & if *self == Wrong::Lines { 2 } else { 3 };
+        let spi = unpack(module).set_up() == SetUp::Spi;
+        lines | if *self == Wrong::PullsInSpi && spi && module & OUTPUTS == 2 << 48 { 2 } else { 0 }
+    }
+
+    fn spi_lines(&self, module: u64) -> u8 {
+        let lines = Model.spi_lines(module);
+        lines | if *self == Wrong::SdoWithSclk && lines > 0 { 8 } else { 0 }
     }
 
     fn decode(&self, stamps: &[u32], levels: &[u8], events: &mut [u16]) -> u64 {
@@ -182,6 +259,31 @@ impl Interface for Wrong {
         let late = usize::from(*self == Wrong::ByteLost && from > 0);
         let count = Model.dump_piece(stamps, levels, from.saturating_add(late), out);
         count + usize::from(*self == Wrong::PastTheEnd && from > 0 && count == 0 && !out.is_empty())
+    }
+
+    fn read_dump(&self, text: &[u8], stamps: &mut [u32], levels: &mut [u8]) -> u64 {
+        let reply = Model.read_dump(text, stamps, levels);
+        let (number, count) = (reply & 0xFF, (reply >> 24) as usize);
+        match self {
+            Wrong::TextPlace if (20..26).contains(&number) => reply + 256,
+            Wrong::TextRest if number == 0 && count < stamps.len() => {
+                stamps[count] = 0;
+                reply
+            }
+            Wrong::TextLines if count > 0 => {
+                levels[..count].iter_mut().for_each(|level| *level = *level >> 1 | (*level & 1) << 1);
+                reply
+            }
+            _ => reply,
+        }
+    }
+
+    fn dump_timescale(&self, text: &[u8]) -> u64 {
+        let timescale = Model.dump_timescale(text);
+        if *self == Wrong::TextUnit && timescale > 0 {
+            return timescale / 1000;
+        }
+        timescale
     }
 
     fn arbitrate(&self, asked: &Asked, lent: Lent) -> u64 {
@@ -276,11 +378,12 @@ fn the_model_is_equal_to_itself_in_full() {
 
 #[test]
 fn every_refusal_occurs() {
-    let expected: [(&str, &[usize]); 7] = [
-        ("step sequences", &[1, 2, 3, 4]),
+    let expected: [(&str, &[usize]); 8] = [
+        ("step sequences", &[1, 2, 3, 4, 17]),
         ("traces", &[0, 4, 5, 6, 7, 8]),
         ("timed traces", &[0, 4, 5, 6, 7, 8, 18]),
         ("dumps", &[0, 4, 5, 6, 7, 8, 19]),
+        ("dump texts", &[0, 6, 8, 20, 21, 22, 23, 24, 25, 26, 27]),
         ("lists", &[0, 6, 8, 9, 10, 11]),
         ("arbitrations", &[0, 8, 12, 13, 14, 15, 16]),
         ("catalogues", &[0, 40, 41, 42]),
@@ -293,12 +396,45 @@ fn every_refusal_occurs() {
     }
 }
 
+/// Every change of set-up, and in SPI every kind of step, for each phase, polarity, direction and width.
+#[test]
+fn every_kind_of_step_in_spi_occurs() {
+    let counts = run(comparison("step sequences"), &Model, 1, 20_000).unwrap();
+    let occurs = |kind: &str| assert!(counts.get(kind) >= 500, "{kind}: {}", counts.get(kind));
+    for (from, to) in [("I2C", "SPI"), ("I2C", "neither"), ("SPI", "neither")] {
+        occurs(&format!("set-up: {from} to {to}"));
+        occurs(&format!("set-up: {to} to {from}"));
+    }
+    for flags in 0..16 {
+        let flag = |place: u8| flags >> place & 1;
+        let (ckph, ckpl, lsb, wide) = (flag(0), flag(1), flag(2), flag(3));
+        occurs(&format!("SPI: captured, CKPH={ckph} CKPL={ckpl} LSB={lsb} 16B={wide}"));
+    }
+    let kinds = "captured the last bit|change edge|edge with CNT=0|phase changed|SCLK driven|SDO driven\
+        |CKPH, CKPL, LSB or 16B written anew";
+    kinds.split('|').for_each(|kind| occurs(&format!("SPI: {kind}")));
+}
+
+#[test]
+fn modules_wrong_in_spi_are_found() {
+    use Wrong::*;
+    check_detected("step sequences", &[SdoWithSclk, PullsInSpi, NearlyFits, RestForgotten, RestsInside]);
+    check_detected("step sequences", &[FirstBitLate, EdgesExchanged, EndsExchanged, LowByteAlone]);
+    check_detected("step sequences", &[TouchesUsisrh, StartInSpi, WaitsForSclk, OneBitEarly]);
+}
+
 #[test]
 fn wrong_modules_are_found() {
     use Wrong::*;
     let wrong = [PowerUp, KeptScl, RefusalNumber, OddWord, NeverWaits, HighBitsMatter, ReadsZero, Lines];
     check_detected("step sequences", &[SetsCounted, WordsLowByte]);
     check_detected("step sequences", &wrong);
+}
+
+#[test]
+fn wrong_readers_of_dumps_are_found() {
+    use Wrong::*;
+    check_detected("dump texts", &[TextPlace, TextRest, TextLines, TextUnit]);
 }
 
 #[test]

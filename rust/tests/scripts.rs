@@ -69,11 +69,9 @@ fn examples() -> Vec<(String, Vec<u8>)> {
                 &[("clash", "clash"), ("table", "clash --table"), ("whole", "clash --registers --wave")]
             }
             "corrections" => &[("corrected", "clash --corrections")],
-            "trace" => &[("decode", "decode")],
+            "trace" | "vcd" => &[("decode", "decode")],
             "events" => &[("encode", "encode")],
             "session" => &[("session", "session")],
-            // a dump, which no command reads
-            "vcd" => &[],
             _ => panic!("examples/{file}: no kind of file"),
         };
         for (name, words) in words {

@@ -99,6 +99,7 @@ class Tree:
 FUNCTION = re.compile(r'(pub(\(crate\))? )?(extern "C" )?fn |impl |#\[no_mangle\]')
 OUTSIDE = re.compile(r"ghost use |(pub )?(use|mod) ")
 USE = re.compile(r"use (\w+)::(\w+);")
+INNER = re.compile(r"^use crate::(\w+)::([A-Z]\w*);", re.M)
 DECLARED = re.compile(r"(?:(?:abbrev|unfoldable) )?(?:pub )?([^\s:]+) :")
 
 
@@ -112,7 +113,9 @@ def types(text):
         inside = inside and line != "}"
     named = words("\n".join(kept))
     uses = [(crate, item) for crate, item in USE.findall(text) if item in named and crate != "crate"]
-    return "\n".join([f"use {crate}::{item};" for crate, item in uses] + kept)
+    inner = [(module, item) for module, item in INNER.findall(text) if item in named]
+    return "\n".join([f"use {crate}::{item};" for crate, item in uses]
+                     + [f"use crate::{module}::{item};" for module, item in inner] + kept)
 
 
 def words(text):

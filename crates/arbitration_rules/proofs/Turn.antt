@@ -8,7 +8,6 @@ use Rattle.usi_registers.specs.Rules as setUp
 use Rattle.usi_i2c.specs.Rules as rules
 use Rattle.usi_i2c.specs.Rules.{conditionFlags, conditionCount, phaseAfter}
 use Rattle.usi.specs.declared.Usi.{Usi}
-use Rattle.usi.specs.declared.Step.the-variants.{Next, Refused}
 use Rattle.usi.specs.Module.{fits, pullsScl, pullsSda}
 use Rattle.usi.specs.Step.{moduleOf, latched, followed, bitTaken, risen, fallen, stretched, recorded, edged}
 use Rattle.usi.specs.Step.{sampled, sample, ticked, overruns, tick}
@@ -72,14 +71,10 @@ tick-fits usi fitting waits = rw (fitting, waits)
 
 sample-fits : (scl sda : Bool) (usi : Usi) → fits usi ≡ true → samples scl sda usi ≡ sampled scl sda usi
 unfolding sample
-sample-fits true true usi fitting =
-    ap (λ fit. moduleOf (cond fit (Next (sampled true true usi)) (Refused 3 usi))) fitting
-sample-fits true false usi fitting =
-    ap (λ fit. moduleOf (cond fit (Next (sampled true false usi)) (Refused 3 usi))) fitting
-sample-fits false true usi fitting =
-    ap (λ fit. moduleOf (cond fit (Next (sampled false true usi)) (Refused 3 usi))) fitting
-sample-fits false false usi fitting =
-    ap (λ fit. moduleOf (cond fit (Next (sampled false false usi)) (Refused 3 usi))) fitting
+sample-fits true true usi fitting = rw fitting
+sample-fits true false usi fitting = rw fitting
+sample-fits false true usi fitting = rw fitting
+sample-fits false false usi fitting = rw fitting
 
 -- with GE=0 the latch holds
 held : (usi : Usi) → setUp.transparent (usi .usictl0) ≡ false → followed usi ≡ usi

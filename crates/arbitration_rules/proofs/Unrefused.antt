@@ -62,10 +62,10 @@ sample-fine u level small ready =
           (sampled-clock (scl level) (sda level) u),
     )
 
--- what a write leaves is ready where the registers are
-settled-fits : (u : Usi) → Ready u → Ready (settled u)
+-- what a write leaves is ready where the registers are, before it and after it
+settled-fits : (before u : Usi) → fits before ≡ true → Ready u → Ready (settled before u)
 unfolding settled
-settled-fits u ready = rw (ready .0) (same-clock u (followed u) ready (followed-fits u) (followed-clock u))
+settled-fits before u fitted ready = rw (ready .0, fitted) (same-clock u (followed u) ready (followed-fits u) (followed-clock u))
 
 -- the eight tests of the set-up
 record Fitting (usictl0 usictl1 usickctl usicnt : ℕ) : Type 0 where
@@ -112,20 +112,20 @@ write-fine (toControl {value} lsb pe6 pe7 swrst) u ready =
     let t = tests (u .usictl0) (u .usictl1) (u .usickctl) (u .usicnt) (ready .0) in
     let fitting : fits (withUSICTL0 value u) ≡ true =
     rw (t .i2c, t .ckpl, t .ckph, lsb, t .narrow, pe6, pe7, swrst) in
-    (refl, settled-fits (withUSICTL0 value u) (fitting, ready .1))
+    (refl, settled-fits u (withUSICTL0 value u) (ready .0) (fitting, ready .1))
 write-fine (toFlags {value} i2c ckph) u ready =
     let t = tests (u .usictl0) (u .usictl1) (u .usickctl) (u .usicnt) (ready .0) in
     let fitting : fits (withUSICTL1 value u) ≡ true =
     rw (i2c, t .ckpl, ckph, t .lsb, t .narrow, t .pe6, t .pe7, t .swrst) in
-    (refl, settled-fits (withUSICTL1 value u) (fitting, ready .1))
+    (refl, settled-fits u (withUSICTL1 value u) (ready .0) (fitting, ready .1))
 write-fine (toCount {value} narrow) u ready =
     let t = tests (u .usictl0) (u .usictl1) (u .usickctl) (u .usicnt) (ready .0) in
     let counted = withUSICNT value (withUSICTL1 (setUpRules.countFlags (u .usictl1) value) u) in
     let fitting : fits counted ≡ true =
     count-flags value (u .usictl0) (u .usictl1) (u .usickctl) value
     ∙ rw (t .i2c, t .ckpl, t .ckph, t .lsb, narrow, t .pe6, t .pe7, t .swrst) in
-    (refl, settled-fits counted (fitting, ready .1))
-write-fine (toShift {value}) u ready = (refl, settled-fits (withUSISRL value u) ready)
+    (refl, settled-fits u counted (ready .0) (fitting, ready .1))
+write-fine (toShift {value}) u ready = (refl, settled-fits u (withUSISRL value u) (ready .0) ready)
 
 -- a master whose set-up fits, and an operation that no such master is refused
 abbrev Fit : Master → Type 0

@@ -17,11 +17,8 @@ use Rattle.levels.specs.Levels.{sda}
 use Rattle.usi_registers.specs.Registers.{USIAL}
 use Rattle.usi.specs.declared.Usi.{Usi}
 use Rattle.usi.specs.Module.{pullsScl, pullsSda}
-use Rattle.usi.specs.declared.Step.the-variants.{Next, Refused}
-use Rattle.usi.specs.Module.{fits, withPhase}
-use Rattle.usi.specs.Step.{moduleOf, latched, followed, overruns, tick}
-use Rattle.usi_registers.specs.Rules.{transparent}
-use Rattle.usi_i2c.specs.Rules.{phaseAfter, clocks}
+use Rattle.usi.specs.Step.{moduleOf, tick}
+use Rattle.usi.proofs.Clearing.{tick-flags}
 use Rattle.arbitration_rules.specs.Limits.{maxMasters, maxLength}
 use Rattle.arbitration_rules.specs.Masters.{Master, stillIn, applied, judged}
 use Rattle.arbitration_rules.specs.Run.{Bus, withMasters, perform, performed}
@@ -73,22 +70,6 @@ same-bus {one} {other} m p l b ls c =
           levels = levels;
           carried = carried;
         }
-
--- a tick sets and clears no flag
-tick-flags : (usi : Usi) → moduleOf (tick usi) .usictl1 ≡ usi .usictl1
-unfolding tick followed
-tick-flags usi = go (fits usi) (overruns usi) (transparent (usi .usictl0))
-  where
-    go : (fit early follows : Bool)
-        → let turned = withPhase
-        (phaseAfter (clocks (usi .usictl0) (usi .usictl1) (usi .usicnt)) (usi .phase) (usi .seen) (usi .scl)) usi in
-        moduleOf
-        (cond fit (cond early (Refused 17 usi) (Next (cond follows (latched turned) turned))) (Refused 3 usi)) .usictl1
-        ≡ usi .usictl1
-    go true true follows = refl
-    go true false true = refl
-    go true false false = refl
-    go false early follows = refl
 
 judged-ticked : (position : ℕ) (ticks : Bool) (usi : Usi) (contending lost : Bool) (before : ℕ)
     → judged position (tickedBy ticks (join usi contending lost before))

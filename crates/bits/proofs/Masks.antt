@@ -106,7 +106,7 @@ or-false : (b : Bool) → b || false ≡ b
 or-false true = refl
 or-false false = refl
 
-and-true : (b : Bool) → b && true ≡ b
+pub and-true : (b : Bool) → b && true ≡ b
 and-true true = refl
 and-true false = refl
 

@@ -3,12 +3,14 @@ use Prim.Native.Nat.{ℕ, _<_, _≤_, _^_}
 use native.Mathlib.Omega.{arith}
 use mathlib.Core.Logic.{⊎-elim}
 use mathlib.Core.Path.{_≡_, refl, sym, ap}
-use mathlib.Core.Bool.{Bool, true, false, cond, not}
+use mathlib.Core.Bool.{Bool, true, false, cond, not, _&&_, _||_}
 use mathlib.Core.List.{List, [], _∷_, _++_}
 use lib.Dec.{eqb, ltb}
 use lib.ListN.{length, getD}
-use borrow.Author.Tests.{eqb-true, ltb-false, not-false}
-use Rattle.laws.specs.Refusals.{Check, check, given}
+use borrow.Author.Tests.{eqb-true, eqb-false, ltb-false, not-false}
+use Rattle.laws.specs.Refusals.{Check, check, check-at, given}
+use Rattle.levels.specs.Levels.{maxLevel}
+use Rattle.export.specs.Replies.{readNumbers}
 use Rattle.laws.proofs.Refusals.{Placed, placed, passed, passed-first, numbered-both}
 use Rattle.laws.proofs.Search.{first-within}
 use Rattle.trace.specs.Limits.{maxSamples}
@@ -29,6 +31,11 @@ use Rattle.dump.specs.declared.Dumped.the-variants.{Written, Refused as NotWrit
 use Rattle.dump.specs.Text.{dumpText}
 use Rattle.dump.specs.Dumped.{dumpChecks, dumped, dumpedNumbers}
 use Rattle.dump.proofs.Bound.{each-stamp, written-few}
+use Rattle.dump_reader.specs.declared.DumpRead.{DumpRead}
+use Rattle.dump_reader.specs.declared.DumpRead.the-variants.{Written as Read, Refused as NotRead}
+use Rattle.dump_reader.specs.Reading.{stampsIn, final as finalReader}
+use Rattle.dump_reader.specs.DumpRead.{longestText, closed, mayEnd, refusalOf, readChecks, dumpRead}
+use Rattle.dump_reader.proofs.Places.{read-place}
 use Rattle.phases.specs.declared.Mode.{Mode}
 use Rattle.phases.specs.DecodedIn.{decodedIn}
 use Rattle.phases.proofs.Modes.{before-or-18}
@@ -116,6 +123,48 @@ module _ (stamps levels : List ℕ) (room : ℕ) (known : (i : ℕ) → getD sta
             omega arith,
             omega (arith, small, place-of (eqb (found .number) 0) (found .place) number place (found .number) is),
           )
+
+-- the reply of the dump reader: a place in a text of at most 60,000 bytes, or at most 4,096 samples
+module _ (text : List ℕ) (stampRoom levelRoom : ℕ) where
+  not-six : (long : Bool) (number place : ℕ) (none : Bool) → eqb number 0 ≡ none → (cut bare many short : Bool)
+      → given (check 26 long ∷ check-at number (not none) place ∷ check-at 23 cut (length text)
+      ∷ check-at 24 bare (length text) ∷ check 6 many ∷ check 8 short ∷ []) .number ≡ 0
+      → many ≡ false
+  not-six true number place none is cut bare many short unrefused = absurd (omega (arith, unrefused))
+  not-six false number place false is cut bare many short unrefused = absurd (eqb-false number 0 is unrefused)
+  not-six false number place true is true bare many short unrefused = absurd (omega (arith, unrefused))
+  not-six false number place true is false true many short unrefused = absurd (omega (arith, unrefused))
+  not-six false number place true is false false true short unrefused = absurd (omega (arith, unrefused))
+  not-six false number place true is false false false short unrefused = refl
+
+  -- an answer has the refusal's place, or no refusal and the count
+  answer-of : (none : Bool) (number place : ℕ) (answer : DumpRead)
+      → cond none (Read (length (stampsIn text)) (finalReader text .timescale)) (NotRead number place) ≡ answer
+      → (readNumbers answer .count ≤ cond none (length (stampsIn text)) 0) × (readNumbers answer .place ≤ place)
+  answer-of true number place answer is = rw (← is) (omega arith, omega arith)
+  answer-of false number place answer is = rw (← is) (omega arith, omega arith)
+
+  few-samples : (none : Bool) → eqb (given (readChecks text stampRoom levelRoom) .number) 0 ≡ none
+      → cond none (length (stampsIn text)) 0 ≤ maxSamples
+  few-samples false is = omega arith
+  few-samples true is =
+      let number = refusalOf (finalReader text .part) in
+      ltb-false maxSamples (length (stampsIn text))
+      (not-six (ltb longestText (length text)) number (finalReader text .place) (eqb number 0) refl
+      (not (closed text && mayEnd (finalReader text .part))) (not (eqb (finalReader text .wave .known) maxLevel))
+      (ltb maxSamples (length (stampsIn text)))
+      (ltb stampRoom (length (stampsIn text)) || ltb levelRoom (length (stampsIn text)))
+      (eqb-true (given (readChecks text stampRoom levelRoom) .number) 0 is))
+
+  pub dump-read-small : (readNumbers (dumpRead text stampRoom levelRoom) .count < 65536)
+      × (readNumbers (dumpRead text stampRoom levelRoom) .place < 65536)
+  unfolding dumpRead
+  dump-read-small =
+      let found = given (readChecks text stampRoom levelRoom) in
+      let both = answer-of (eqb (found .number) 0) (found .number) (found .place) _ refl in (
+        omega (arith, both .0, few-samples (eqb (found .number) 0) refl),
+        omega (arith, both .1, read-place text stampRoom levelRoom),
+      )
 
 -- the same in a mode: the answer as it was, or 18 at a sample of the trace
 module _ (mode : Mode) (stamps levels : List ℕ) (room : ℕ) where

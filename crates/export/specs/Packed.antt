@@ -6,7 +6,9 @@ use Rattle.usi.specs.declared.Usi.{Usi}
 use Rattle.usi.specs.declared.Step.{Step}
 use Rattle.usi.specs.declared.Read.{Read}
 use Rattle.usi.specs.declared.Written.{Written}
-use Rattle.usi.specs.Module.{pullsScl, pullsSda}
+use Rattle.usi_spi.specs.declared.Driven.{Driven}
+use Rattle.usi_spi.specs.declared.Driven.the-variants.{Released, Low, High}
+use Rattle.usi.specs.Module.{pullsScl, pullsSda, spiLines}
 use Rattle.usi.specs.Step.{refusal, moduleOf, readRefusal, valueOf}
 
 -- byte k of a number
@@ -69,3 +71,13 @@ packedRead r = valueOf r + 65536 * readRefusal r
 -- the lines: 1 where SCL is pulled low, and 2 where SDA is
 abbrev pub lines : Usi → ℕ
 lines u = boolByte (pullsScl u) + 2 * boolByte (pullsSda u)
+
+-- a line in SPI: 0 where it is released, 2 where it is driven low, 3 where it is driven high
+abbrev pub lineNumber : Driven → ℕ
+lineNumber Released = 0
+lineNumber Low = 2
+lineNumber High = 3
+
+-- the lines in SPI: SCLK, and 4 times SDO
+abbrev pub spiNumber : Usi → ℕ
+spiNumber u = lineNumber (spiLines u .sclk) + 4 * lineNumber (spiLines u .sdo)

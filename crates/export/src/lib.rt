@@ -6,6 +6,7 @@ ghost use Rattle.usi.specs.Module.{powerUp};
 ghost use Rattle.usi.specs.Step.{readByte, readWord, written, writtenWord, sample as sampleRule, tick as tickRule};
 ghost use Rattle.export.specs.Packed.{unpacked as unpackedNumber, registers as registersOf, hidden as hiddenOf};
 ghost use Rattle.export.specs.Packed.{packed as packedModule, packedStep, packedWritten, packedRead, lines};
+ghost use Rattle.export.specs.Packed.{lineNumber, spiNumber};
 
 mod arbitration_calls; // arbitration_calls.rt: arbitration
 mod catalogue_calls; // catalogue_calls.rt: corrections over the standing catalogue
@@ -17,6 +18,7 @@ use usi::Read;
 use usi::Step;
 use usi::Usi;
 use usi::Written;
+use usi_spi::Driven;
 
 // The module that a number stands for.
 fn unpacked(number: u64) -> Usi
@@ -154,4 +156,24 @@ pub extern "C" fn usi_lines(state: u64) -> u8
 {
     let u = unpacked(state);
     (u.pulls_scl() as u8) + 2 * (u.pulls_sda() as u8)
+}
+
+fn line_number(line: Driven) -> u8
+    ensures { λ r. ⌜ (r ≡ lineNumber line) × (r < 4) ⌝ }
+{
+    match line {
+        Driven::Released => 0,
+        Driven::Low => 2,
+        Driven::High => 3,
+    }
+}
+
+#[no_mangle]
+pub extern "C" fn usi_spi_lines(state: u64) -> u8
+    ensures { λ r. ⌜ r ≡ spiNumber (unpackedNumber state) ⌝ }
+{
+    let lines = unpacked(state).spi_lines();
+    let sclk = lines.sclk;
+    let sdo = lines.sdo;
+    line_number(sclk) + 4 * line_number(sdo)
 }

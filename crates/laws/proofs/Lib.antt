@@ -5,3 +5,4 @@ pub mod Search
 pub mod Buffer
 pub mod Lists
 pub mod Loops
+pub mod Same

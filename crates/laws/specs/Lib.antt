@@ -2,3 +2,4 @@ pub mod Refusals
 pub mod Search
 pub mod Buffer
 pub mod Everyone
+pub mod Same

@@ -1,4 +1,5 @@
 // rig decode: the events of a trace, with the stamps at which they were complete.
+mod captured; // captured.rt: a trace read from a Value Change Dump
 pub(crate) mod samples; // samples.rt: a trace read from its lines
 mod shown; // shown.rt: the events one a line
 
@@ -146,7 +147,21 @@ pub(crate) fn refuse(
     end(page, next)
 }
 
-// Shows a trace that the library has read.
+// Shows a trace that the library has read, with its usual gap inside frames; 0: none is judged.
+fn show_trace(
+    page: &mut [u8],
+    at: usize,
+    stamps: &[u32],
+    levels: &[u8],
+    lines: &[u64],
+    usual: u64,
+    ending: Ending,
+) -> usize {
+    let next = show_start(page, at, stamps);
+    let shown = shown::show_all(page, next, stamps, levels, lines, usual);
+    summary(page, shown, levels.len(), ending)
+}
+
 fn show(
     page: &mut [u8],
     at: usize,
@@ -155,10 +170,8 @@ fn show(
     lines: &[u64],
     ending: Ending,
 ) -> usize {
-    let next = show_start(page, at, stamps);
     let usual = trace_gaps::usual(stamps, levels);
-    let shown = shown::show_all(page, next, stamps, levels, lines, usual);
-    summary(page, shown, levels.len(), ending)
+    show_trace(page, at, stamps, levels, lines, usual, ending)
 }
 
 // Hands a trace to the library, and shows what it answers.
@@ -214,8 +227,15 @@ fn answer_part(
     )
 }
 
-pub(crate) fn run(page: &mut [u8], at: usize, source: Source, room: usize, mode: Mode) -> usize {
-    let mut piece = io::buffer();
+// Reads the lines of a trace.
+fn run_lines(
+    page: &mut [u8],
+    at: usize,
+    piece: &mut [u8],
+    source: Source,
+    room: usize,
+    mode: Mode,
+) -> usize {
     let mut line = [0u8; input::ROOM];
     let mut stamps = [0u32; SAMPLES];
     let mut levels = [0u8; SAMPLES];
@@ -223,7 +243,7 @@ pub(crate) fn run(page: &mut [u8], at: usize, source: Source, room: usize, mode:
     let reading = samples::read_all(
         page,
         at,
-        &mut piece,
+        piece,
         &mut line,
         source,
         &mut stamps,
@@ -234,4 +254,13 @@ pub(crate) fn run(page: &mut [u8], at: usize, source: Source, room: usize, mode:
         return reading.at;
     }
     answer_part(page, reading, &stamps, &levels, &lines, room, mode)
+}
+
+pub(crate) fn run(page: &mut [u8], at: usize, source: Source, room: usize, mode: Mode) -> usize {
+    let mut piece = io::buffer();
+    let ready = input::refilled(&mut piece, source);
+    if captured::comes(&piece, ready) {
+        return captured::run(page, at, &mut piece, ready, room, mode);
+    }
+    run_lines(page, at, &mut piece, ready, room, mode)
 }

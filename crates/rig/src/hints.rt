@@ -38,13 +38,28 @@ pub(crate) fn put_loads(page: &mut [u8], at: usize, word: &[u8]) -> usize {
     at
 }
 
-// A hint for rig decode, at a line that begins with that word.
+// Whether a word is one of a Value Change Dump.
+fn begins_dump(word: &[u8]) -> bool {
+    if word.len() == 0 {
+        return false;
+    }
+    word[0] == b'$'
+}
+
+// A hint for a reader of traces, at a line that begins with that word.
 pub(crate) fn put_other(page: &mut [u8], at: usize, word: &[u8]) -> usize {
     if begins_event(word) {
         return put_bytes(
             page,
             at,
             b"; this looks like an event list: did you mean rig encode?",
+        );
+    }
+    if begins_dump(word) {
+        return put_bytes(
+            page,
+            at,
+            b"; this looks like a Value Change Dump: did you mean rig decode?",
         );
     }
     put_loads(page, at, word)

@@ -21,6 +21,7 @@ use usi::Read;
 use usi::Step;
 use usi::Usi;
 use usi::Written;
+use usi_spi::Driven;
 use usi_text::put_module;
 
 struct Session {
@@ -154,7 +155,7 @@ impl Session {
 
     fn lines(self, page: &mut [u8]) -> Session {
         let device = self.device;
-        let next = put_pulls(page, device);
+        let next = put_lines(page, device);
         answer(page, next);
         self.with_device(device)
     }
@@ -273,6 +274,32 @@ fn put_pulls(page: &mut [u8], device: Usi) -> usize {
     let past_scl = put_pull(page, scl, device.pulls_scl());
     let sda = put_bytes(page, past_scl, b" sda=");
     put_pull(page, sda, device.pulls_sda())
+}
+
+fn put_level(page: &mut [u8], at: usize, line: Driven) -> usize {
+    match line {
+        Driven::Released => put_bytes(page, at, b"released"),
+        Driven::Low => put_bytes(page, at, b"low"),
+        Driven::High => put_bytes(page, at, b"high"),
+    }
+}
+
+fn put_drives(page: &mut [u8], device: Usi) -> usize {
+    let lines = device.spi_lines();
+    let sclk = lines.sclk;
+    let sdo = lines.sdo;
+    let label = put_bytes(page, 0, b"ok sclk=");
+    let past_sclk = put_level(page, label, sclk);
+    let next = put_bytes(page, past_sclk, b" sdo=");
+    put_level(page, next, sdo)
+}
+
+// The lines, by the set-up.
+fn put_lines(page: &mut [u8], device: Usi) -> usize {
+    if device.fits_spi() {
+        return put_drives(page, device);
+    }
+    put_pulls(page, device)
 }
 
 fn put_unknown(page: &mut [u8], word: &[u8]) -> usize {

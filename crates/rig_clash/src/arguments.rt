@@ -1,12 +1,25 @@
 // The words of the command line after the command, which is the first.
-use check::same;
-use rig_lines::console::begin;
+use crate::forms;
+use crate::phrase::place_of;
+use crate::problem;
+use crate::problem::Problem;
+use crate::words::is_dash;
 use rig_lines::numbers::is_number;
 use rig_lines::numbers::value;
 use rig_lines::options::is_option;
-use rig_lines::options::put_no_number;
-use rig_lines::options::put_unknown_option;
-use text::put_bytes;
+
+// The places of the options in their list; those from the first that takes the next word on take it.
+const TABLE: usize = 0;
+
+const REGISTERS: usize = 1;
+
+const WAVE: usize = 2;
+
+const ROOM: usize = 3;
+
+const CORRECTIONS: usize = 4;
+
+const TRACE: usize = 5;
 
 pub(crate) struct Arguments {
     // whether an argument names a file of loads
@@ -26,10 +39,15 @@ pub(crate) struct Arguments {
     wants_room: bool,
     wants_corrections: bool,
     wants_trace: bool,
-    // an error stands on the page
-    pub(crate) broken: bool,
-    // where the page goes on
-    pub(crate) at: usize,
+    // what is wrong with them
+    pub(crate) problem: Problem,
+}
+
+fn option_of(word: &[u8]) -> usize {
+    place_of(
+        b"--table\n--registers\n--wave\n--room\n--corrections\n--trace",
+        word,
+    )
 }
 
 impl Arguments {
@@ -46,28 +64,27 @@ impl Arguments {
             wants_room: false,
             wants_corrections: false,
             wants_trace: false,
-            broken: false,
-            at: 0,
+            problem: problem::none(),
         }
     }
 
-    // An error stands on the page up to a position.
-    fn failed(mut self, at: usize) -> Arguments {
-        self.broken = true;
-        self.at = at;
+    pub(crate) fn is_broken(self) -> bool {
+        !self.problem.is_none()
+    }
+
+    fn trouble_with(mut self, form: usize, word: &[u8]) -> Arguments {
+        self.problem = problem::of(0, form, word, 0, 0, 0);
         self
     }
 
-    fn trouble(self, page: &mut [u8], line: &[u8]) -> Arguments {
-        let from = begin(page, self.at);
-        self.failed(put_bytes(page, from, line))
+    fn trouble(self, form: usize) -> Arguments {
+        self.trouble_with(form, b"")
     }
 
-    fn with_room(mut self, page: &mut [u8], word: &[u8]) -> Arguments {
+    fn with_room(mut self, word: &[u8]) -> Arguments {
         let number = text::decimal(word);
         if !is_number(number) {
-            let from = begin(page, self.at);
-            return self.failed(put_no_number(page, from, word));
+            return self.trouble_with(forms::NUMBER, word);
         }
         self.room = value(number) as usize;
         self.wants_room = false;
@@ -80,20 +97,20 @@ impl Arguments {
     }
 
     // Standard input is read once.
-    fn with_input(mut self, page: &mut [u8]) -> Arguments {
+    fn with_input(mut self) -> Arguments {
         if self.input {
-            return self.trouble(page, b"error - stands twice: standard input is read once\n");
+            return self.trouble(forms::INPUT_TWICE);
         }
         self.input = true;
         self
     }
 
     // The file after --corrections.
-    fn with_corrections(mut self, page: &mut [u8], argument: usize, word: &[u8]) -> Arguments {
+    fn with_corrections(mut self, argument: usize, word: &[u8]) -> Arguments {
         self.corrections = argument;
         self.wants_corrections = false;
-        if same(word, b"-") {
-            return self.with_input(page);
+        if is_dash(word) {
+            return self.with_input();
         }
         self
     }
@@ -105,136 +122,127 @@ impl Arguments {
         self
     }
 
-    // What is shown of a load.
-    fn with_display(mut self, page: &mut [u8], word: &[u8]) -> Arguments {
-        if same(word, b"--table") {
-            self.table = true;
-            return self;
+    fn with_option(mut self, word: &[u8]) -> Arguments {
+        let option = option_of(word);
+        match option {
+            TABLE => {
+                self.table = true;
+                self
+            }
+            REGISTERS => {
+                self.registers = true;
+                self
+            }
+            WAVE => {
+                self.wave = true;
+                self
+            }
+            ROOM => {
+                self.wants_room = true;
+                self
+            }
+            CORRECTIONS => {
+                self.wants_corrections = true;
+                self
+            }
+            TRACE => {
+                self.wants_trace = true;
+                self
+            }
+            _ => self.trouble_with(forms::OPTION, word),
         }
-        if same(word, b"--registers") {
-            self.registers = true;
-            return self;
-        }
-        if same(word, b"--wave") {
-            self.wave = true;
-            return self;
-        }
-        let from = begin(page, self.at);
-        self.failed(put_unknown_option(page, from, word, b"clash"))
     }
 
-    fn with_option(mut self, page: &mut [u8], word: &[u8]) -> Arguments {
-        if same(word, b"--room") {
-            self.wants_room = true;
-            return self;
-        }
-        if same(word, b"--corrections") {
-            self.wants_corrections = true;
-            return self;
-        }
-        if same(word, b"--trace") {
-            self.wants_trace = true;
-            return self;
-        }
-        self.with_display(page, word)
-    }
-
-    fn with_word(self, page: &mut [u8], argument: usize, word: &[u8]) -> Arguments {
-        if self.wants_room {
-            return self.with_room(page, word);
-        }
-        if self.wants_corrections {
-            return self.with_corrections(page, argument, word);
-        }
-        if self.wants_trace {
-            return self.with_trace(argument);
-        }
+    // A word that no option takes.
+    fn with_other(self, word: &[u8]) -> Arguments {
         if is_option(word) {
-            return self.with_option(page, word);
+            return self.with_option(word);
         }
-        if same(word, b"-") {
-            return self.with_file().with_input(page);
+        if is_dash(word) {
+            return self.with_file().with_input();
         }
         self.with_file()
     }
 
-    fn with_argument(self, page: &mut [u8], argument: usize) -> Arguments {
+    fn with_word(self, argument: usize, word: &[u8]) -> Arguments {
+        if self.wants_room {
+            return self.with_room(word);
+        }
+        if self.wants_corrections {
+            return self.with_corrections(argument, word);
+        }
+        if self.wants_trace {
+            return self.with_trace(argument);
+        }
+        self.with_other(word)
+    }
+
+    fn with_argument(self, argument: usize) -> Arguments {
         let mut space = io::buffer();
         let n = os::arg(argument, &mut space);
         if os::errno() != 0 {
-            return self.trouble(page, b"error an argument is longer than 4096 bytes\n");
+            return self.trouble(forms::LONG_ARGUMENT);
         }
-        self.with_word(page, argument, &space[..n])
+        self.with_word(argument, &space[..n])
     }
 
-    // What is found once all words are read.
-    fn finished(self, page: &mut [u8]) -> Arguments {
-        if self.broken {
+    // What is found once all words are read: an option lacks its word, or there is no file.
+    fn finished(self) -> Arguments {
+        if self.is_broken() {
             return self;
         }
         if self.wants_room {
-            return self.trouble(page, b"error expected a number after --room\n");
+            return self.trouble(forms::NO_NUMBER);
         }
         if self.wants_corrections {
-            return self.trouble(page, b"error expected a file after --corrections\n");
+            return self.trouble(forms::NO_CORRECTIONS);
         }
         if self.wants_trace {
-            return self.trouble(page, b"error expected a load after --trace\n");
+            return self.trouble(forms::NO_TRACE);
         }
         if !self.file {
-            return self.trouble(page, b"error expected a file, or - for standard input\n");
+            return self.trouble(forms::NO_FILE);
         }
-        if self.table & (self.registers | self.wave) {
-            return self.trouble(
-                page,
-                b"error --table goes with neither --registers nor --wave\n",
-            );
-        }
-        self.alone(page)
+        self.alone()
     }
 
-    // A trace is shown alone.
-    fn alone(self, page: &mut [u8]) -> Arguments {
+    // A table and a trace are shown alone.
+    fn alone(self) -> Arguments {
+        if self.table & (self.registers | self.wave) {
+            return self.trouble(forms::TABLE);
+        }
         if (self.trace > 0) & (self.table | self.registers | self.wave) {
-            return self.trouble(
-                page,
-                b"error --trace goes with none of --table, --registers and --wave\n",
-            );
+            return self.trouble(forms::TRACE);
         }
         self
     }
 }
 
-pub(crate) fn parse(page: &mut [u8]) -> Arguments {
+pub(crate) fn parse() -> Arguments {
     let mut given = Arguments::none();
     let count = os::arg_count();
     let mut i: usize = 2;
     while i < count {
-        if given.broken {
+        if given.is_broken() {
             return given;
         }
-        given = given.with_argument(page, i);
+        given = given.with_argument(i);
         i += 1;
     }
-    given.finished(page)
-}
-
-// An option that takes the next word.
-fn takes_word(word: &[u8]) -> bool {
-    same(word, b"--room") | same(word, b"--corrections") | same(word, b"--trace")
+    given.finished()
 }
 
 // How many arguments it takes to pass one that is no file; 0 where it is a file.
 fn passed(argument: usize) -> usize {
     let mut space = io::buffer();
     let n = os::arg(argument, &mut space);
-    if takes_word(&space[..n]) {
-        return 2;
+    let option = option_of(&space[..n]);
+    match option {
+        ROOM => 2,
+        CORRECTIONS => 2,
+        TRACE => 2,
+        _ => is_option(&space[..n]) as usize,
     }
-    if is_option(&space[..n]) {
-        return 1;
-    }
-    0
 }
 
 // The argument at or after one that names a file; 0 where none does.

@@ -1,115 +1,100 @@
 // The block of a load: who won, who lost where, and what else is asked for.
 use crate::board;
 use crate::board::Group;
+use crate::board::before;
+use crate::board::is_undecided;
 use crate::contenders;
 use crate::contenders::Style;
 use crate::corrected;
 use crate::kept;
 use crate::load::Load;
 use crate::outcome::Outcome;
+use crate::phrase;
 use crate::refusals;
 use crate::registers;
 use crate::state::Options;
+use crate::table::put_title;
 use crate::wave;
-use rig_lines::console::begin;
-use rig_lines::console::put_form;
+use rig_lines::console::PAGE;
 use text::put_byte;
-use text::put_bytes;
 use verdict::Verdict;
 
 // `load NAME TITLE`
-fn put_header(page: &mut [u8], at: usize, kept: &[u8]) -> usize {
-    let start = begin(page, at);
-    let word = put_bytes(page, start, b"load ");
-    let name = put_bytes(page, word, kept::name(kept));
-    let title = kept::title(kept);
-    if title.len() == 0 {
-        return put_byte(page, name, b'\n');
-    }
-    let space = put_byte(page, name, b' ');
-    let end = put_bytes(page, space, title);
+fn put_header(page: &mut [u8; PAGE], at: usize, kept: &[u8]) -> usize {
+    let name = phrase::put_line(page, at, kept, b"load *", 0, [0; 4]);
+    let end = put_title(page, name, kept::title(kept));
     put_byte(page, end, b'\n')
 }
 
 // A load in error.
-pub(crate) fn put_broken(page: &mut [u8], at: usize, kept: &[u8]) -> usize {
+pub(crate) fn put_broken(page: &mut [u8; PAGE], at: usize, kept: &[u8]) -> usize {
     let header = put_header(page, at, kept);
-    let start = begin(page, header);
-    put_bytes(page, start, b"  ERROR: not rehearsed\n")
+    phrase::put_line(page, header, kept, b"  ERROR: not rehearsed\n", 0, [0; 4])
 }
 
-fn before(count: usize) -> u64 {
-    if count > 0 { (count - 1) as u64 } else { 0 }
-}
-
-fn put_undecided(page: &mut [u8], at: usize, kept: &[u8], load: Load, outcome: Outcome) -> usize {
-    let start = begin(page, at);
-    let word = put_bytes(page, start, b"  UNDECIDED between ");
+fn put_undecided(
+    page: &mut [u8; PAGE],
+    at: usize,
+    kept: &[u8],
+    load: Load,
+    outcome: Outcome,
+) -> usize {
+    let verdict = outcome.verdict;
+    if !is_undecided(verdict) {
+        return at;
+    }
+    let word = phrase::put_line(page, at, kept, b"  UNDECIDED between ", 0, [0; 4]);
     let style = Style {
         named: false,
         spaced: true,
     };
     let who = contenders::put_all(page, word, kept, load, outcome, style);
-    let numbers = [before(outcome.count), outcome.last as u64];
-    let stopped = put_form(page, who, b": the bus stopped after byte # (%)", &numbers);
-    put_bytes(
-        page,
-        stopped,
-        b", before they differ; nothing was sent whole\n",
-    )
+    let numbers = [before(outcome.count), outcome.last as u64, 0, 0];
+    let form = b": the bus stopped after byte # (%), before they differ; nothing was sent whole\n";
+    phrase::put_numbers(page, who, form, numbers)
 }
 
-fn put_boards(page: &mut [u8], at: usize, kept: &[u8], load: Load, outcome: Outcome) -> usize {
-    let within = board::put_group(page, at, kept, load, outcome, Group::In);
-    let lost = board::put_group(page, within, kept, load, outcome, Group::Lost);
-    board::put_group(page, lost, kept, load, outcome, Group::Silent)
-}
-
-fn put_unacked(page: &mut [u8], at: usize, load: Load) -> usize {
+fn put_unacked(page: &mut [u8; PAGE], at: usize, kept: &[u8], load: Load) -> usize {
     if load.ack_line > 0 {
         return at;
     }
-    let start = begin(page, at);
-    put_bytes(
-        page,
-        start,
-        b"  note: no ack line, rehearsed as all acknowledged\n",
-    )
+    let words = b"  note: no ack line, rehearsed as all acknowledged\n";
+    phrase::put_line(page, at, kept, words, 0, [0; 4])
 }
 
-fn put_unexpected(page: &mut [u8], at: usize, kept: &[u8], load: Load, outcome: Outcome) -> usize {
+fn put_unexpected(
+    page: &mut [u8; PAGE],
+    at: usize,
+    kept: &[u8],
+    load: Load,
+    outcome: Outcome,
+) -> usize {
     if outcome.expected {
         return at;
     }
-    let start = begin(page, at);
-    let line = put_form(
-        page,
-        start,
-        b"  NOT AS EXPECTED: line # expects ",
-        &[load.expect_line],
-    );
-    let name = put_bytes(page, line, kept::board_name(kept, load.winner));
-    put_form(page, name, b" #/#\n", &[load.carried, load.length])
+    let numbers = [load.expect_line, load.carried, load.length, 0];
+    let form = b"  NOT AS EXPECTED: line # expects $ #/#\n";
+    phrase::put_line(page, at, kept, form, load.winner, numbers)
 }
 
-// The boards of a load that was not refused, and the notes after them.
-fn put_whole(page: &mut [u8], at: usize, kept: &[u8], load: Load, outcome: Outcome) -> usize {
-    let boards = put_boards(page, at, kept, load, outcome);
-    let unacked = put_unacked(page, boards, load);
+// The boards of a load that was not refused, and the notes about it.
+fn put_outcome(
+    page: &mut [u8; PAGE],
+    at: usize,
+    kept: &[u8],
+    load: Load,
+    outcome: Outcome,
+) -> usize {
+    let undecided = put_undecided(page, at, kept, load, outcome);
+    let within = board::put_group(page, undecided, kept, load, outcome, Group::In);
+    let lost = board::put_group(page, within, kept, load, outcome, Group::Lost);
+    let boards = board::put_group(page, lost, kept, load, outcome, Group::Silent);
+    let unacked = put_unacked(page, boards, kept, load);
     put_unexpected(page, unacked, kept, load, outcome)
 }
 
-fn put_outcome(page: &mut [u8], at: usize, kept: &[u8], load: Load, outcome: Outcome) -> usize {
-    let verdict = outcome.verdict;
-    if let Verdict::Undecided = verdict {
-        let undecided = put_undecided(page, at, kept, load, outcome);
-        return put_whole(page, undecided, kept, load, outcome);
-    }
-    put_whole(page, at, kept, load, outcome)
-}
-
 fn put_registers(
-    page: &mut [u8],
+    page: &mut [u8; PAGE],
     at: usize,
     kept: &[u8],
     load: Load,
@@ -124,7 +109,7 @@ fn put_registers(
 
 // The block of a load that was rehearsed.
 pub(crate) fn put(
-    page: &mut [u8],
+    page: &mut [u8; PAGE],
     at: usize,
     kept: &[u8],
     load: Load,

@@ -2,10 +2,13 @@
 use crate::columns::pad;
 use crate::kept;
 use crate::load::Load;
+use crate::order;
 use crate::outcome::Outcome;
-use rig_lines::console::begin;
-use rig_lines::console::put_count;
-use rig_lines::console::put_form;
+use crate::phrase;
+use crate::phrase::either;
+use crate::phrase::line_of;
+use crate::phrase::put_numbers;
+use rig_lines::console::PAGE;
 use rig_lines::console::put_padded;
 use text::put_byte;
 use text::put_bytes;
@@ -13,13 +16,18 @@ use text::put_decimal;
 use text::put_hex_byte;
 use verdict::Verdict;
 
-// The columns of the word in front and of a message.
-const WORD: usize = 6;
-
+// The columns of a message.
 const MESSAGE: usize = 23;
 
 // The bits on the bus for each byte: eight, and the acknowledge.
 const BITS: u16 = 9;
+
+// The words about a board that is still in, by their places.
+const SENT: usize = 0;
+
+const CARRIED: usize = 1;
+
+const CUT: usize = 2;
 
 // The lines of the boards that are still in stand first, then the losers, then the silent.
 pub(crate) enum Group {
@@ -40,47 +48,43 @@ fn belongs(group: Group, load: Load, outcome: Outcome, board: usize) -> bool {
 
 // A board's number, and its name padded to a width.
 fn put_who(
-    page: &mut [u8],
+    page: &mut [u8; PAGE],
     at: usize,
     kept: &[u8],
-    load: Load,
+    named: bool,
     board: usize,
     width: usize,
 ) -> usize {
     let number = put_decimal(page, at, board as u64);
-    if !load.named {
+    if !named {
         return number;
     }
     let space = put_byte(page, number, b' ');
     put_padded(page, space, kept::board_name(kept, board), width)
 }
 
-// A line begins: a word, and the board.
+// A line begins: words in front, and the board.
 pub(crate) fn put_begin(
-    page: &mut [u8],
+    page: &mut [u8; PAGE],
     at: usize,
     kept: &[u8],
     load: Load,
-    word: &[u8],
+    front: &[u8],
     board: usize,
 ) -> usize {
-    let start = begin(page, at);
-    let front = put_bytes(page, start, b"  ");
-    let padded = put_padded(page, front, word, WORD);
-    let space = put_byte(page, padded, b' ');
-    let who = put_who(page, space, kept, load, board, load.widest);
+    let word = phrase::put_line(page, at, kept, front, 0, [0; 4]);
+    let who = put_who(page, word, kept, load.named, board, load.widest);
     put_bytes(page, who, b"  ")
 }
 
-fn put_silent(page: &mut [u8], at: usize, kept: &[u8], load: Load, board: usize) -> usize {
-    let start = begin(page, at);
-    let word = put_bytes(page, start, b"  silent ");
-    let who = put_who(page, word, kept, load, board, 0);
+fn put_silent(page: &mut [u8; PAGE], at: usize, kept: &[u8], named: bool, board: usize) -> usize {
+    let word = phrase::put_line(page, at, kept, b"  silent ", 0, [0; 4]);
+    let who = put_who(page, word, kept, named, board, 0);
     put_byte(page, who, b'\n')
 }
 
 // Bytes, separated by one space.
-pub(crate) fn put_message(page: &mut [u8], at: usize, message: &[u8]) -> usize {
+pub(crate) fn put_message(page: &mut [u8; PAGE], at: usize, message: &[u8]) -> usize {
     let mut next = at;
     let mut i = 0;
     while i < message.len() {
@@ -91,117 +95,126 @@ pub(crate) fn put_message(page: &mut [u8], at: usize, message: &[u8]) -> usize {
     next
 }
 
-fn put_blank(page: &mut [u8], at: usize, wanted: bool) -> usize {
+fn put_blank(page: &mut [u8; PAGE], at: usize, wanted: bool) -> usize {
     if wanted {
         return put_byte(page, at, b' ');
     }
     at
 }
 
-// `K of M bytes`
-fn put_ratio(page: &mut [u8], at: usize, count: usize, message: &[u8]) -> usize {
-    let of = put_form(page, at, b"# of ", &[count as u64]);
-    put_count(page, of, message.len() as u64, b"byte")
-}
-
-fn put_sent(page: &mut [u8], at: usize, message: &[u8]) -> usize {
-    let word = put_bytes(page, at, b"sent ");
-    put_ratio(page, word, message.len(), message)
-}
-
 // The byte before a place.
-fn before(count: usize) -> u64 {
+pub(crate) fn before(count: usize) -> u64 {
     if count > 0 { (count - 1) as u64 } else { 0 }
 }
 
-fn put_cut(page: &mut [u8], at: usize, message: &[u8], outcome: Outcome) -> usize {
-    let count = outcome.count;
-    let word = put_bytes(page, at, b"CUT after ");
-    let ratio = put_ratio(page, word, count, message);
-    let numbers = [before(count), outcome.last as u64];
-    let byte = put_form(page, ratio, b": byte # (%) not acknowledged", &numbers);
+// What of a message was not sent.
+fn put_unsent(page: &mut [u8; PAGE], at: usize, message: &[u8], count: usize) -> usize {
     if count >= message.len() {
-        return byte;
+        return at;
     }
-    let mark = put_bytes(page, byte, b"; ");
+    let mark = put_bytes(page, at, b"; ");
     let rest = put_message(page, mark, &message[count..]);
     put_bytes(page, rest, b" not sent")
 }
 
-fn put_in(page: &mut [u8], at: usize, message: &[u8], outcome: Outcome) -> usize {
-    let verdict = outcome.verdict;
+// The words about a board that is still in.
+fn form_of(verdict: Verdict) -> usize {
     match verdict {
-        Verdict::Sent(_) => put_sent(page, at, message),
-        Verdict::Cut(_) => put_cut(page, at, message, outcome),
-        _ => {
-            let ratio = put_ratio(page, at, outcome.count, message);
-            put_bytes(page, ratio, b" carried")
-        }
+        Verdict::Sent(_) => SENT,
+        Verdict::Cut(_) => CUT,
+        _ => CARRIED,
     }
 }
 
-fn put_lost(page: &mut [u8], at: usize, message: &[u8], position: u16) -> usize {
-    let numbers = [(position / BITS) as u64, (position % BITS) as u64];
-    let place = put_form(page, at, b"byte # bit #: sends 1, the bus is 0; ", &numbers);
-    let count = put_count(page, place, message.len() as u64, b"byte");
-    put_bytes(page, count, b" still to send")
+// How a board that is still in fares.
+fn put_in(page: &mut [u8; PAGE], at: usize, message: &[u8], outcome: Outcome) -> usize {
+    let verdict = outcome.verdict;
+    let count = outcome.count;
+    let form = form_of(verdict);
+    let words = b"sent # of # byte~\n# of # byte~ carried\n\
+        CUT after # of # byte~: byte # (%) not acknowledged";
+    let carried = either(form == SENT, message.len(), count) as u64;
+    let numbers = [
+        carried,
+        message.len() as u64,
+        before(count),
+        outcome.last as u64,
+    ];
+    let fate = put_numbers(page, at, line_of(words, form), numbers);
+    if form == CUT {
+        return put_unsent(page, fate, message, count);
+    }
+    fate
 }
 
-// The word in front of a board that is still in.
+fn put_lost(page: &mut [u8; PAGE], at: usize, message: &[u8], position: u16) -> usize {
+    let byte = (position / BITS) as u64;
+    let bit = (position % BITS) as u64;
+    let form = b"byte # bit #: sends 1, the bus is 0; # byte~ still to send\n";
+    put_numbers(page, at, form, [byte, bit, message.len() as u64, 0])
+}
+
+// The words in front of a board that is still in.
 fn put_in_word(
-    page: &mut [u8],
+    page: &mut [u8; PAGE],
     at: usize,
     kept: &[u8],
     load: Load,
-    outcome: Outcome,
+    verdict: Verdict,
     board: usize,
 ) -> usize {
-    let verdict = outcome.verdict;
+    let words = line_of(b"  WON    \n  in     ", is_undecided(verdict) as usize);
+    put_begin(page, at, kept, load, words, board)
+}
+
+pub(crate) fn is_undecided(verdict: Verdict) -> bool {
     if let Verdict::Undecided = verdict {
-        return put_begin(page, at, kept, load, b"in", board);
+        true
+    } else {
+        false
     }
-    put_begin(page, at, kept, load, b"WON", board)
 }
 
 // The message of a board, padded, and two spaces.
-fn put_row(page: &mut [u8], at: usize, message: &[u8]) -> usize {
+fn put_row(page: &mut [u8; PAGE], at: usize, message: &[u8]) -> usize {
     let end = put_message(page, at, message);
     let padded = pad(page, at, end, MESSAGE);
     put_bytes(page, padded, b"  ")
 }
 
-// A board's line, in its group.
-fn put_line(
-    page: &mut [u8],
+fn put_contender(
+    page: &mut [u8; PAGE],
     at: usize,
     kept: &[u8],
     load: Load,
     outcome: Outcome,
     board: usize,
-    group: Group,
 ) -> usize {
-    let message = kept::message(kept, board, load.length_of(board));
-    let seat = outcome.seat_of(load, board);
-    match group {
-        Group::Silent => put_silent(page, at, kept, load, board),
-        Group::In => {
-            let word = put_in_word(page, at, kept, load, outcome, board);
-            let row = put_row(page, word, message);
-            let fate = put_in(page, row, message, outcome);
-            put_byte(page, fate, b'\n')
-        }
-        Group::Lost => {
-            let word = put_begin(page, at, kept, load, b"lost", board);
-            let row = put_row(page, word, message);
-            let fate = put_lost(page, row, message, seat.position);
-            put_byte(page, fate, b'\n')
-        }
-    }
+    let message = order::message(kept, load, board);
+    let verdict = outcome.verdict;
+    let word = put_in_word(page, at, kept, load, verdict, board);
+    let row = put_row(page, word, message);
+    let fate = put_in(page, row, message, outcome);
+    put_byte(page, fate, b'\n')
+}
+
+fn put_loser(
+    page: &mut [u8; PAGE],
+    at: usize,
+    kept: &[u8],
+    load: Load,
+    position: u16,
+    board: usize,
+) -> usize {
+    let message = order::message(kept, load, board);
+    let word = put_begin(page, at, kept, load, b"  lost   ", board);
+    let row = put_row(page, word, message);
+    put_lost(page, row, message, position)
 }
 
 // A board's line, if it is in the group.
 fn put_member(
-    page: &mut [u8],
+    page: &mut [u8; PAGE],
     at: usize,
     kept: &[u8],
     load: Load,
@@ -209,15 +222,20 @@ fn put_member(
     board: usize,
     group: Group,
 ) -> usize {
-    if belongs(group, load, outcome, board) {
-        return put_line(page, at, kept, load, outcome, board, group);
+    let seat = outcome.seat_of(load, board);
+    if !belongs(group, load, outcome, board) {
+        return at;
     }
-    at
+    match group {
+        Group::Silent => put_silent(page, at, kept, load.named, board),
+        Group::In => put_contender(page, at, kept, load, outcome, board),
+        Group::Lost => put_loser(page, at, kept, load, seat.position, board),
+    }
 }
 
 // The lines of a group.
 pub(crate) fn put_group(
-    page: &mut [u8],
+    page: &mut [u8; PAGE],
     at: usize,
     kept: &[u8],
     load: Load,

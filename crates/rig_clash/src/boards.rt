@@ -1,6 +1,7 @@
 // The boards of a file, by name.
-use crate::complaints::unread;
+use crate::forms;
 use crate::kept;
+use crate::kept::ROOM;
 use crate::state::State;
 use arbitration_rules::MAX_MASTERS;
 use check::same;
@@ -26,44 +27,37 @@ fn greater(a: usize, b: usize) -> usize {
 
 // One board more, with a name of that length.
 fn named(mut state: State, length: usize) -> State {
-    let mut file = state.file;
-    let board = file.boards;
+    let board = state.file.boards;
     if board < MAX_MASTERS {
-        file.boards = board + 1;
-        file.widest = greater(file.widest, length);
+        let boards = board + 1;
+        let widest = greater(state.file.widest, length);
+        state.file.boards = boards;
+        state.file.widest = widest;
     }
-    state.file = file;
     state
 }
 
-fn with_name(page: &mut [u8], kept: &mut [u8], state: State, name: &[u8]) -> State {
-    let file = state.file;
-    if file.boards >= MAX_MASTERS {
-        return unread(page, kept, state, b"more than 8 boards", b"");
+fn with_name(kept: &mut [u8; ROOM], state: State, name: &[u8]) -> State {
+    if state.file.boards >= MAX_MASTERS {
+        return state.unread(forms::MANY_BOARDS, name);
     }
     if !is_board_name(name) {
-        return unread(
-            page,
-            kept,
-            state,
-            b"expected a name of 1 to 16 bytes that begins with a letter and is no byte, not $",
-            name,
-        );
+        let form = forms::BOARD_NAME;
+        return state.unread(form, name);
     }
-    if find(kept, file.boards, name) < file.boards {
-        return unread(page, kept, state, b"board $ is named twice", name);
+    if find(kept, state.file.boards, name) < state.file.boards {
+        return state.unread(forms::NAMED_TWICE, name);
     }
-    kept::keep_board_name(kept, file.boards, name);
+    kept::keep_board_name(kept, state.file.boards, name);
     named(state, name.len())
 }
 
-fn with_names(page: &mut [u8], kept: &mut [u8], begun: State, words: &[u8]) -> State {
+fn with_names(kept: &mut [u8; ROOM], begun: State, words: &[u8]) -> State {
     let mut state = begun;
     let mut rest = words;
     while first_word(rest).len() > 0 {
-        state = with_name(page, kept, state, first_word(rest));
-        let file = state.file;
-        if !file.more {
+        state = with_name(kept, state, first_word(rest));
+        if !state.file.more {
             return state;
         }
         let next = after_word(rest);
@@ -73,19 +67,12 @@ fn with_names(page: &mut [u8], kept: &mut [u8], begun: State, words: &[u8]) -> S
 }
 
 // `boards NAME ..`, the first statement.
-pub(crate) fn with_boards(
-    page: &mut [u8],
-    kept: &mut [u8],
-    mut state: State,
-    words: &[u8],
-) -> State {
+pub(crate) fn with_boards(kept: &mut [u8; ROOM], mut state: State, words: &[u8]) -> State {
     if first_word(words).len() == 0 {
-        return unread(page, kept, state, b"expected boards and 1 to 8 names", b"");
+        return state.unread(forms::NO_BOARDS, words);
     }
-    let source = state.source;
-    let mut file = state.file;
-    file.named = true;
-    file.boards_line = source.line;
-    state.file = file;
-    with_names(page, kept, state, words)
+    let line = state.source.line;
+    state.file.named = true;
+    state.file.boards_line = line;
+    with_names(kept, state, words)
 }

@@ -1,4 +1,5 @@
 // Columns of text on the page, from a start to an end.
+use rig_lines::console::PAGE;
 use rig_lines::console::put_spaces;
 use text::put_byte;
 
@@ -7,7 +8,7 @@ fn width_of(start: usize, end: usize) -> usize {
 }
 
 // Spaces up to a width.
-pub(crate) fn pad(page: &mut [u8], start: usize, end: usize, width: usize) -> usize {
+pub(crate) fn pad(page: &mut [u8; PAGE], start: usize, end: usize, width: usize) -> usize {
     let used = width_of(start, end);
     if used < width {
         return put_spaces(page, end, width - used);
@@ -29,7 +30,7 @@ fn last_of(start: usize, width: usize) -> usize {
 }
 
 // A text longer than its column is cut to one byte less, with `~` after it.
-pub(crate) fn cut(page: &mut [u8], start: usize, end: usize, width: usize) -> usize {
+pub(crate) fn cut(page: &mut [u8; PAGE], start: usize, end: usize, width: usize) -> usize {
     if width_of(start, end) > width {
         return put_byte(page, last_of(start, width), b'~');
     }
@@ -37,7 +38,7 @@ pub(crate) fn cut(page: &mut [u8], start: usize, end: usize, width: usize) -> us
 }
 
 // A column of that width: cut, or padded with spaces.
-pub(crate) fn fit(page: &mut [u8], start: usize, end: usize, width: usize) -> usize {
+pub(crate) fn fit(page: &mut [u8; PAGE], start: usize, end: usize, width: usize) -> usize {
     let last = cut(page, start, end, width);
     pad(page, start, last, width)
 }

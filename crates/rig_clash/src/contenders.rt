@@ -2,6 +2,8 @@
 use crate::kept;
 use crate::load::Load;
 use crate::outcome::Outcome;
+use crate::phrase::line_of;
+use rig_lines::console::PAGE;
 use text::put_bytes;
 use text::put_decimal;
 
@@ -12,17 +14,14 @@ pub(crate) struct Style {
 }
 
 // What stands between two boards of a list that begins at a position: nothing in front of the first.
-fn put_between(page: &mut [u8], from: usize, at: usize, spaced: bool) -> usize {
+fn put_between(page: &mut [u8; PAGE], from: usize, at: usize, spaced: bool) -> usize {
     if at <= from {
         return at;
     }
-    if spaced {
-        return put_bytes(page, at, b", ");
-    }
-    put_bytes(page, at, b",")
+    put_bytes(page, at, line_of(b",\n, ", spaced as usize))
 }
 
-fn put_who(page: &mut [u8], at: usize, kept: &[u8], board: usize, named: bool) -> usize {
+fn put_who(page: &mut [u8; PAGE], at: usize, kept: &[u8], board: usize, named: bool) -> usize {
     if named {
         return put_bytes(page, at, kept::board_name(kept, board));
     }
@@ -31,7 +30,7 @@ fn put_who(page: &mut [u8], at: usize, kept: &[u8], board: usize, named: bool) -
 
 // A board, where it is still in.
 fn put_next(
-    page: &mut [u8],
+    page: &mut [u8; PAGE],
     from: usize,
     at: usize,
     kept: &[u8],
@@ -48,7 +47,7 @@ fn put_next(
 
 // The boards that are still in.
 pub(crate) fn put_all(
-    page: &mut [u8],
+    page: &mut [u8; PAGE],
     from: usize,
     kept: &[u8],
     load: Load,

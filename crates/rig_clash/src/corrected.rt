@@ -3,18 +3,20 @@ use crate::boards;
 use crate::kept;
 use crate::kept::BYTES;
 use crate::kept::MESSAGES_AT;
+use crate::kept::ROOM;
 use crate::kept::TONIGHT_AT;
 use crate::load::Load;
+use crate::phrase;
+use crate::phrase::put_numbers;
 use crate::slots;
 use crate::state::State;
 use crate::tally::put_between;
 use arbitration_rules::MAX_LENGTH;
 use arbitration_rules::MAX_MASTERS;
-use check::same;
+use catalogue::Located;
 use load_text::gather;
 use load_text::gather_lengths;
-use rig_lines::console::begin;
-use rig_lines::console::put_form;
+use rig_lines::console::PAGE;
 use rig_lines::console::put_quoted;
 use rig_lines::numbers::least;
 use rig_lines::parts;
@@ -50,13 +52,13 @@ fn cut_all(lengths: [u32; MAX_MASTERS]) -> [u32; MAX_MASTERS] {
 }
 
 // A correction for the load that is being read marks that it was met.
-fn met_by(kept: &mut [u8], correction: usize) {
-    if same(slots::load(kept, correction), kept::name(kept)) {
+fn met_by(kept: &mut [u8; ROOM], correction: usize) {
+    if slots::is_current(kept, correction) {
         slots::meet(kept, correction);
     }
 }
 
-fn meet(kept: &mut [u8], count: usize) {
+fn meet(kept: &mut [u8; ROOM], count: usize) {
     let mut correction: usize = 0;
     while correction < count {
         met_by(kept, correction);
@@ -64,53 +66,58 @@ fn meet(kept: &mut [u8], count: usize) {
     }
 }
 
-// A line about a line of the corrections, and a load.
-fn put_place(page: &mut [u8], at: usize, line: u64, name: &[u8]) -> usize {
-    let start = begin(page, at);
-    let place = put_form(page, start, b"! corrections line #: load ", &[line]);
-    put_bytes(page, place, name)
-}
-
-fn put_unknown(page: &mut [u8], at: usize, board: &[u8], line: u64) -> usize {
-    let none = put_bytes(page, at, b": no board ");
-    let quoted = put_quoted(page, none, board);
-    put_form(page, quoted, b" on line #\n", &[line])
+fn put_unknown(page: &mut [u8; PAGE], at: usize, board: &[u8], line: u64) -> usize {
+    let quoted = put_quoted(page, at, board);
+    put_numbers(page, quoted, b" on line #\n", [line, 0, 0, 0])
 }
 
 // There is no such board: it costs the load.
-fn unknown(page: &mut [u8], kept: &[u8], state: State, correction: usize) -> State {
-    let file = state.file;
-    let line = slots::line(kept, correction);
-    let place = put_place(page, state.at, line, kept::name(kept));
+fn unknown(page: &mut [u8; PAGE], kept: &[u8], state: State, correction: usize) -> State {
+    let numbers = [slots::line(kept, correction), 0, 0, 0];
+    let form = b"! corrections line #: load *: no board ";
+    let place = phrase::put_line(page, state.at, kept, form, 0, numbers);
     let board = slots::board(kept, correction);
-    let end = put_unknown(page, place, board, file.boards_line);
+    let end = put_unknown(page, place, board, state.file.boards_line);
     state.moved(end).blamed()
 }
 
 // The message of a correction, in the row of its board.
-fn keep_row(kept: &mut [u8], board: usize, correction: usize) {
+fn keep_row(kept: &mut [u8; ROOM], board: usize, correction: usize) {
     let mut row = [0u8; MAX_LENGTH];
     put_bytes(&mut row, 0, slots::message(kept, correction));
     put_bytes(kept, kept::tonight_row_of(board), &row);
 }
 
+// The board of a correction among the first so many, else their number.
+fn board_of(kept: &[u8], boards: usize, correction: usize) -> usize {
+    boards::find(kept, boards, slots::board(kept, correction))
+}
+
 // A correction, where it is for the load that is being read.
-fn with_correction(page: &mut [u8], kept: &mut [u8], state: State, correction: usize) -> State {
-    let file = state.file;
-    let load = state.load;
-    if !same(slots::load(kept, correction), kept::name(kept)) {
+fn with_correction(
+    page: &mut [u8; PAGE],
+    kept: &mut [u8; ROOM],
+    state: State,
+    correction: usize,
+) -> State {
+    if !slots::is_current(kept, correction) {
         return state;
     }
-    let board = boards::find(kept, file.boards, slots::board(kept, correction));
-    if board >= file.boards {
+    let board = board_of(kept, state.file.boards, correction);
+    if board >= state.file.boards {
         return unknown(page, kept, state, correction);
     }
     keep_row(kept, board, correction);
     let length = slots::length(kept, correction) as u32;
-    state.with_load(load.with_correction(board, length))
+    state.with_load(state.load.with_correction(board, length))
 }
 
-fn with_corrections(page: &mut [u8], kept: &mut [u8], begun: State, count: usize) -> State {
+fn with_corrections(
+    page: &mut [u8; PAGE],
+    kept: &mut [u8; ROOM],
+    begun: State,
+    count: usize,
+) -> State {
     let mut state = begun;
     let mut correction: usize = 0;
     while correction < count {
@@ -120,161 +127,150 @@ fn with_corrections(page: &mut [u8], kept: &mut [u8], begun: State, count: usize
     state
 }
 
-// What the library says of a board: a correction takes the place of what stands, and no bytes are silence.
-fn with_board(
-    kept: &mut [u8],
-    load: Load,
+// Messages as the library takes them: their bytes, one after another, the boards that send them, and their lengths.
+struct List {
+    bytes: [u8; BYTES],
+    size: usize,
+    boards: [u32; MAX_MASTERS],
+    lengths: [u32; MAX_MASTERS],
+    count: usize,
+}
+
+// The messages in the rows of all boards but some.
+fn listed(messages: &[u8], rows: [u32; MAX_MASTERS], without: [bool; MAX_MASTERS]) -> List {
+    let mut bytes = [0u8; BYTES];
+    let mut boards = [0u32; MAX_MASTERS];
+    let mut lengths = [0u32; MAX_MASTERS];
+    let size = gather(messages, rows, without, &mut bytes);
+    let count = gather_lengths(NUMBERS, without, &mut boards);
+    gather_lengths(rows, without, &mut lengths);
+    List {
+        bytes,
+        size,
+        boards,
+        lengths,
+        count,
+    }
+}
+
+// What the library says of a board: tonight's list is taken apart, and then the one that stands.
+fn located_in(
     board: usize,
     tonight: &[u8],
     tonight_boards: &[u32],
     tonight_lengths: &[u32],
-    standing: &[u8],
-    standing_boards: &[u32],
-    standing_lengths: &[u32],
-) -> Load {
-    let place = catalogue::locate(
+    standing: List,
+) -> Located {
+    let bytes = standing.bytes;
+    let boards = standing.boards;
+    let lengths = standing.lengths;
+    let listed = parts::stamps(standing.count, &boards);
+    let measured = parts::stamps(standing.count, &lengths);
+    catalogue::locate(
         number_of(board),
         tonight,
         tonight_boards,
         tonight_lengths,
-        standing,
-        standing_boards,
-        standing_lengths,
-    );
-    if (place.number != 0) & (place.number != ABSENT) {
-        return load.refused_by(place.number);
-    }
-    if place.number == ABSENT {
-        return load.without_message(board);
-    }
-    if !place.corrected {
-        return load;
-    }
-    if place.length == 0 {
-        return load.without_message(board);
-    }
-    let message = kept::part(tonight, place.offset, place.length as usize);
-    put_bytes(kept, kept::row_of(board), message);
-    load.with_message(board, place.length)
-}
-
-// What it says of each board.
-fn with_boards(
-    kept: &mut [u8],
-    begun: Load,
-    boards: usize,
-    tonight: &[u8],
-    tonight_boards: &[u32],
-    tonight_lengths: &[u32],
-    standing: &[u8],
-    standing_boards: &[u32],
-    standing_lengths: &[u32],
-) -> Load {
-    let mut load = begun;
-    let mut board: usize = 0;
-    while board < boards {
-        load = with_board(
-            kept,
-            load,
-            board,
-            tonight,
-            tonight_boards,
-            tonight_lengths,
-            standing,
-            standing_boards,
-            standing_lengths,
-        );
-        board += 1;
-    }
-    load
-}
-
-// The messages that stand in the load, beside its corrections.
-fn over_standing(
-    kept: &mut [u8],
-    load: Load,
-    tonight: &[u8],
-    boards: &[u32],
-    lengths: &[u32],
-) -> Load {
-    let mut bytes = [0u8; BYTES];
-    let mut standing_boards = [0u32; MAX_MASTERS];
-    let mut standing_lengths = [0u32; MAX_MASTERS];
-    let silent = load.silent;
-    let said = load.lengths;
-    let rows = cut_all(said);
-    let size = gather(
-        kept::part(kept, MESSAGES_AT, BYTES),
-        rows,
-        silent,
-        &mut bytes,
-    );
-    let count = gather_lengths(NUMBERS, silent, &mut standing_boards);
-    let also = gather_lengths(rows, silent, &mut standing_lengths);
-    let listed = parts::stamps(count, &standing_boards);
-    let measured = parts::stamps(also, &standing_lengths);
-    with_boards(
-        kept,
-        load,
-        load.boards,
-        tonight,
-        boards,
-        lengths,
-        &bytes[..size],
-        &standing_boards[..listed],
-        &standing_lengths[..measured],
-    )
-}
-
-// The corrections of the load, over the messages that stand in it.
-fn overlaid(kept: &mut [u8], load: Load) -> Load {
-    let mut bytes = [0u8; BYTES];
-    let mut boards = [0u32; MAX_MASTERS];
-    let mut lengths = [0u32; MAX_MASTERS];
-    let standing = load.standing;
-    let rows = load.tonight;
-    let size = gather(
-        kept::part(kept, TONIGHT_AT, BYTES),
-        rows,
-        standing,
-        &mut bytes,
-    );
-    let count = gather_lengths(NUMBERS, standing, &mut boards);
-    let also = gather_lengths(rows, standing, &mut lengths);
-    let listed = parts::stamps(count, &boards);
-    let measured = parts::stamps(also, &lengths);
-    over_standing(
-        kept,
-        load,
-        &bytes[..size],
+        kept::part(&bytes, 0, standing.size),
         &boards[..listed],
         &lengths[..measured],
     )
 }
 
+fn located(board: usize, tonight: List, standing: List) -> Located {
+    let bytes = tonight.bytes;
+    let boards = tonight.boards;
+    let lengths = tonight.lengths;
+    let listed = parts::stamps(tonight.count, &boards);
+    let measured = parts::stamps(tonight.count, &lengths);
+    located_in(
+        board,
+        kept::part(&bytes, 0, tonight.size),
+        &boards[..listed],
+        &lengths[..measured],
+        standing,
+    )
+}
+
+// A message of tonight's, in the row of a board.
+fn keep_message(kept: &mut [u8; ROOM], board: usize, tonight: List, place: Located) {
+    let bytes = tonight.bytes;
+    let message = kept::part(&bytes, place.offset, place.length as usize);
+    put_bytes(kept, kept::row_of(board), message);
+}
+
+// What it says of a board: a correction takes the place of what stands, and no bytes are silence.
+fn with_board(
+    kept: &mut [u8; ROOM],
+    load: Load,
+    board: usize,
+    tonight: List,
+    standing: List,
+) -> Load {
+    let place = located(board, tonight, standing);
+    if (place.number != 0) & (place.number != ABSENT) {
+        return load.refused_by(place.number);
+    }
+    if (place.number == ABSENT) | (place.corrected & (place.length == 0)) {
+        return load.without_message(board);
+    }
+    if !place.corrected {
+        return load;
+    }
+    keep_message(kept, board, tonight, place);
+    load.with_message(board, place.length)
+}
+
+// What it says of each board.
+fn with_boards(
+    kept: &mut [u8; ROOM],
+    begun: Load,
+    boards: usize,
+    tonight: List,
+    standing: List,
+) -> Load {
+    let mut load = begun;
+    let mut board: usize = 0;
+    while board < boards {
+        load = with_board(kept, load, board, tonight, standing);
+        board += 1;
+    }
+    load
+}
+
+// The corrections of the load, over the messages that stand in it.
+fn overlaid(kept: &mut [u8; ROOM], load: Load) -> Load {
+    let standing = load.standing;
+    let silent = load.silent;
+    let rows = load.lengths;
+    let cut = cut_all(rows);
+    let corrections = load.tonight;
+    let tonight = listed(kept::part(kept, TONIGHT_AT, BYTES), corrections, standing);
+    let before = listed(kept::part(kept, MESSAGES_AT, BYTES), cut, silent);
+    with_boards(kept, load, load.boards, tonight, before)
+}
+
 // What the load comes to with its corrections, where it has some and none is wrong.
-fn over_load(kept: &mut [u8], load: Load) -> Load {
+fn over_load(kept: &mut [u8; ROOM], load: Load) -> Load {
     if load.broken | !load.corrected {
         return load;
     }
     overlaid(kept, load)
 }
 
-fn over_state(page: &mut [u8], kept: &mut [u8], state: State) -> State {
+fn over_state(page: &mut [u8; PAGE], kept: &mut [u8; ROOM], state: State) -> State {
     let next = with_corrections(page, kept, state, state.corrections);
-    let load = next.load;
-    let over = over_load(kept, load);
+    let over = over_load(kept, next.load);
     next.with_load(over)
 }
 
 // Lays the corrections over the load that ends, unless it is in error.
-pub(crate) fn laid(page: &mut [u8], kept: &mut [u8], state: State) -> State {
-    let load = state.load;
-    if !load.named {
+pub(crate) fn laid(page: &mut [u8; PAGE], kept: &mut [u8; ROOM], state: State) -> State {
+    if !state.load.named {
         return state;
     }
     meet(kept, state.corrections);
-    if load.broken {
+    if state.load.broken {
         return state;
     }
     over_state(page, kept, state)
@@ -289,14 +285,15 @@ fn is_first(kept: &[u8], correction: usize) -> bool {
     slots::load_line(kept, before) != slots::load_line(kept, correction)
 }
 
-fn put_without_load(page: &mut [u8], at: usize, kept: &[u8], correction: usize) -> usize {
-    let line = slots::load_line(kept, correction);
-    let place = put_place(page, at, line, slots::load(kept, correction));
-    put_bytes(page, place, b" is in none of the files\n")
+fn put_without_load(page: &mut [u8; PAGE], at: usize, kept: &[u8], correction: usize) -> usize {
+    let numbers = [slots::load_line(kept, correction), 0, 0, 0];
+    let place = phrase::put_line(page, at, kept, b"! corrections line #: load ", 0, numbers);
+    let name = put_bytes(page, place, slots::load(kept, correction));
+    put_bytes(page, name, b" is in none of the files\n")
 }
 
 // The fault that a load was in none of the files.
-fn without_load(page: &mut [u8], kept: &[u8], state: State, correction: usize) -> State {
+fn without_load(page: &mut [u8; PAGE], kept: &[u8], state: State, correction: usize) -> State {
     if slots::is_met(kept, correction) | !is_first(kept, correction) {
         return state;
     }
@@ -305,7 +302,7 @@ fn without_load(page: &mut [u8], kept: &[u8], state: State, correction: usize) -
 }
 
 // The loads that were in none of the files.
-pub(crate) fn unmet(page: &mut [u8], kept: &[u8], begun: State, count: usize) -> State {
+pub(crate) fn unmet(page: &mut [u8; PAGE], kept: &[u8], begun: State, count: usize) -> State {
     let mut state = begun;
     let mut correction: usize = 0;
     while correction < count {
@@ -317,7 +314,7 @@ pub(crate) fn unmet(page: &mut [u8], kept: &[u8], begun: State, count: usize) ->
 
 // A corrected board in the list of them.
 fn put_board(
-    page: &mut [u8],
+    page: &mut [u8; PAGE],
     from: usize,
     at: usize,
     kept: &[u8],
@@ -328,11 +325,10 @@ fn put_board(
         return at;
     }
     let next = put_between(page, from, at);
-    let number = put_form(page, next, b"# ", &[board as u64]);
-    put_bytes(page, number, kept::board_name(kept, board))
+    phrase::put(page, next, kept, b"# $", board, [board as u64, 0, 0, 0])
 }
 
-fn put_boards(page: &mut [u8], from: usize, kept: &[u8], load: Load) -> usize {
+fn put_boards(page: &mut [u8; PAGE], from: usize, kept: &[u8], load: Load) -> usize {
     let mut next = from;
     let mut board: usize = 0;
     while board < MAX_MASTERS {
@@ -343,12 +339,11 @@ fn put_boards(page: &mut [u8], from: usize, kept: &[u8], load: Load) -> usize {
 }
 
 // `corrected 1 thermal, 3 radio`, where there are corrections.
-pub(crate) fn put(page: &mut [u8], at: usize, kept: &[u8], load: Load) -> usize {
+pub(crate) fn put(page: &mut [u8; PAGE], at: usize, kept: &[u8], load: Load) -> usize {
     if !load.corrected {
         return at;
     }
-    let start = begin(page, at);
-    let from = put_bytes(page, start, b"  corrected ");
+    let from = phrase::put_line(page, at, kept, b"  corrected ", 0, [0; 4]);
     let end = put_boards(page, from, kept, load);
     put_byte(page, end, b'\n')
 }

@@ -1,31 +1,31 @@
 // The file of tonight's corrections. Whatever is wrong with it, nothing is rehearsed.
-use crate::complaints::put_words;
 use crate::ending;
+use crate::forms;
 use crate::kept;
 use crate::kept::NAME_AT;
+use crate::kept::ROOM;
 use crate::kept::SLOTS;
 use crate::load;
+use crate::phrase::put_numbers;
+use crate::reading;
 use crate::slots;
 use crate::sources;
 use crate::state::State;
+use crate::statements;
+use crate::statements::Statement;
 use crate::words;
 use crate::words::Kind;
 use arbitration_rules::MAX_LENGTH;
-use check::same;
-use libc::STDIN_FILENO;
 use load_text::LOAD_NAME;
 use load_text::is_board_name;
 use load_text::is_load_name;
+use rig_lines::console::PAGE;
 use rig_lines::console::begin;
-use rig_lines::console::put_count;
-use rig_lines::console::put_form;
 use rig_lines::files;
 use rig_lines::files::Opened;
 use rig_lines::input;
 use rig_lines::input::Line;
-use rig_lines::input::Source;
 use rig_lines::input::Taken;
-use rig_lines::numbers::is_number;
 use rig_lines::numbers::least_number;
 use rig_lines::numbers::more;
 use rig_lines::numbers::value;
@@ -36,100 +36,98 @@ use text::put_bytes;
 const BYTES: u64 = MAX_LENGTH as u64;
 
 // The fault that ends the reading, of which all but the last words stand on the page.
-fn failed(page: &mut [u8], state: State, at: usize) -> State {
+fn failed(page: &mut [u8; PAGE], state: State, at: usize) -> State {
     let end = put_bytes(page, at, b"; nothing is rehearsed\n");
     state.moved(end).faulted().done()
 }
 
-fn put_place(page: &mut [u8], at: usize, line: u64) -> usize {
+// The line that is wrong; line 0: none in particular.
+fn put_place(page: &mut [u8; PAGE], at: usize, line: u64) -> usize {
     let start = begin(page, at);
-    put_form(page, start, b"! corrections line #: ", &[line])
+    if line == 0 {
+        return put_bytes(page, start, b"! corrections: ");
+    }
+    put_numbers(page, start, b"! corrections line #: ", [line, 0, 0, 0])
 }
 
-// A line is wrong.
-fn wrong_on(
-    page: &mut [u8],
-    state: State,
-    line: u64,
-    form: &[u8],
-    word: &[u8],
-    number: u64,
-) -> State {
-    let place = put_place(page, state.at, line);
-    let words = put_words(page, place, form, word, number);
-    failed(page, state, words)
+// Says what is wrong with the line that was followed, where something is.
+fn said(page: &mut [u8; PAGE], state: State) -> State {
+    if state.problem.is_none() {
+        return state;
+    }
+    let place = put_place(page, state.at, state.problem.line);
+    let words = state.problem.put(page, place);
+    failed(page, state.without_problem(), words)
 }
 
-// The line that is read.
-fn wrong(page: &mut [u8], state: State, form: &[u8], word: &[u8], number: u64) -> State {
-    let source = state.source;
-    wrong_on(page, state, source.line, form, word, number)
+// The line that is read is wrong.
+fn wrong(state: State, form: usize, word: &[u8], number: u64) -> State {
+    state.with_problem(state.source.line, form, word, number)
 }
 
-fn plainly_wrong(page: &mut [u8], state: State, words: &[u8]) -> State {
-    wrong(page, state, words, b"", 0)
+// The same without a word.
+fn wrong_by(state: State, form: usize, number: u64) -> State {
+    wrong(state, form, b"", number)
+}
+
+fn plainly_wrong(state: State, form: usize) -> State {
+    wrong_by(state, form, 0)
 }
 
 // The load that is read has no board line yet.
 fn lacks_board(kept: &[u8], state: State) -> bool {
-    let load = state.load;
     let count = state.corrections;
-    load.open & (slots::find_load(kept, count, kept::name(kept)) == count)
+    state.load.open & (slots::find_load(kept, count, kept::name(kept)) == count)
 }
 
-fn without_board(page: &mut [u8], kept: &[u8], state: State) -> State {
-    let load = state.load;
-    let form = b"load @ has no board line";
-    wrong_on(page, state, load.line, form, kept::name(kept), 0)
+fn without_board(kept: &[u8], state: State) -> State {
+    state.with_problem(state.load.line, forms::WITHOUT_BOARD, kept::name(kept), 0)
 }
 
 // A load is begun.
 fn opened(mut state: State) -> State {
-    let source = state.source;
-    let mut file = state.file;
-    let mut load = load::none();
-    file.loads = more(file.loads);
-    load.open = true;
-    load.line = source.line;
-    state.file = file;
-    state.load = load;
+    let loads = more(state.file.loads);
+    let line = state.source.line;
+    state.file.loads = loads;
+    state.load = load::begun(line, false, 0, 0);
     state
 }
 
 // A name that no load before it has.
-fn with_name(page: &mut [u8], kept: &mut [u8], state: State, name: &[u8]) -> State {
+fn with_name(kept: &mut [u8; ROOM], state: State, name: &[u8]) -> State {
     let first = slots::find_load(kept, state.corrections, name);
     if first < state.corrections {
         let taken = slots::load_line(kept, first);
-        return wrong(page, state, b"this name was taken on line #", b"", taken);
+        return wrong(state, forms::TAKEN, name, taken);
     }
     kept::keep(kept, NAME_AT, LOAD_NAME, name);
     opened(state)
 }
 
 // `load NAME`
-fn with_load(page: &mut [u8], kept: &mut [u8], state: State, rest: &[u8]) -> State {
+fn with_load(kept: &mut [u8; ROOM], state: State, rest: &[u8]) -> State {
     let name = first_word(rest);
     let extra = first_word(after_word(rest));
-    if lacks_board(kept, state) {
-        return without_board(page, kept, state);
-    }
     if name.len() == 0 {
-        return plainly_wrong(page, state, b"expected a name of 1 to 32 bytes");
+        return plainly_wrong(state, forms::NO_NAME);
     }
     if !is_load_name(name) {
-        let form = b"expected a name of 1 to 32 bytes, not $";
-        return wrong(page, state, form, name, 0);
+        return wrong(state, forms::LOAD_NAME, name, 0);
     }
     if extra.len() > 0 {
-        let form = b"expected load NAME, one word, not $";
-        return wrong(page, state, form, extra, 0);
+        return wrong(state, forms::ONE_WORD, extra, 0);
     }
-    with_name(page, kept, state, name)
+    with_name(kept, state, name)
 }
 
 // A correction of so many bytes is kept.
-fn corrected(kept: &mut [u8], mut state: State, name: &[u8], bytes: &[u8], count: u64) -> State {
+fn corrected(
+    kept: &mut [u8; ROOM],
+    mut state: State,
+    name: &[u8],
+    bytes: &[u8],
+    count: u64,
+) -> State {
     let mut row = [0u8; MAX_LENGTH];
     let source = state.source;
     let load = state.load;
@@ -144,257 +142,223 @@ fn corrected(kept: &mut [u8], mut state: State, name: &[u8], bytes: &[u8], count
 }
 
 // The bytes of a board.
-fn with_bytes(page: &mut [u8], kept: &mut [u8], state: State, name: &[u8], bytes: &[u8]) -> State {
+fn with_bytes(kept: &mut [u8; ROOM], state: State, name: &[u8], bytes: &[u8]) -> State {
     let other = words::first_other(Kind::Byte, bytes);
-    if other.len() > 0 {
-        let form = b"expected bytes of two hexadecimal digits, not $";
-        return wrong(page, state, form, other, 0);
-    }
     let count = words::count(bytes);
+    if other.len() > 0 {
+        return wrong(state, forms::BYTES, other, 0);
+    }
     if count == 0 {
-        let words = b"expected board NAME and its bytes, or - for none";
-        return plainly_wrong(page, state, words);
+        return plainly_wrong(state, forms::NO_BOARD);
     }
     if count > BYTES {
-        let form = b"board @ has # bytes, and at most 32 may be sent";
-        return wrong(page, state, form, name, count);
+        return wrong(state, forms::LONG_MESSAGE, name, count);
     }
     corrected(kept, state, name, bytes, count)
 }
 
 // What a board sends, after its name.
-fn with_message(
-    page: &mut [u8],
-    kept: &mut [u8],
-    state: State,
-    name: &[u8],
-    bytes: &[u8],
-) -> State {
-    if !same(first_word(bytes), b"-") {
-        return with_bytes(page, kept, state, name, bytes);
+fn with_message(kept: &mut [u8; ROOM], state: State, name: &[u8], bytes: &[u8]) -> State {
+    if !words::is_dash(first_word(bytes)) {
+        return with_bytes(kept, state, name, bytes);
     }
     let extra = first_word(after_word(bytes));
     if extra.len() > 0 {
-        return wrong(page, state, b"expected nothing after -, not $", extra, 0);
+        return wrong(state, forms::AFTER_DASH, extra, 0);
     }
-    corrected(kept, state, name, b"", 0)
+    corrected(kept, state, name, extra, 0)
 }
 
 // A board that has no line in this load yet.
-fn with_board_name(
-    page: &mut [u8],
-    kept: &mut [u8],
-    state: State,
-    name: &[u8],
-    bytes: &[u8],
-) -> State {
-    let first = slots::find(kept, state.corrections, kept::name(kept), name);
+fn with_board_name(kept: &mut [u8; ROOM], state: State, rest: &[u8]) -> State {
+    let name = first_word(rest);
+    let first = slots::find(kept, state.corrections, name);
     if first < state.corrections {
-        let form = b"a second line for board @, the first is line #";
-        return wrong(page, state, form, name, slots::line(kept, first));
+        let form = forms::SECOND_BOARD;
+        return wrong(state, form, name, slots::line(kept, first));
     }
-    with_message(page, kept, state, name, bytes)
+    with_message(kept, state, name, after_word(rest))
 }
 
 // `board NAME HH HH ..` or `board NAME -`
-fn with_board(page: &mut [u8], kept: &mut [u8], state: State, rest: &[u8]) -> State {
+fn with_board(kept: &mut [u8; ROOM], state: State, rest: &[u8]) -> State {
     let name = first_word(rest);
     if state.corrections >= SLOTS {
-        return plainly_wrong(page, state, b"more than 256 corrections");
+        return plainly_wrong(state, forms::MANY_CORRECTIONS);
     }
     if name.len() == 0 {
-        let words = b"expected board NAME and its bytes, or - for none";
-        return plainly_wrong(page, state, words);
+        return plainly_wrong(state, forms::NO_BOARD);
     }
     if !is_board_name(name) {
-        let form =
-            b"expected a name of 1 to 16 bytes that begins with a letter and is no byte, not $";
-        return wrong(page, state, form, name, 0);
+        let form = forms::BOARD_NAME;
+        return wrong(state, form, name, 0);
     }
-    with_board_name(page, kept, state, name, after_word(rest))
-}
-
-fn put_counted(page: &mut [u8], at: usize, line: u64, said: u64, loads: u64) -> usize {
-    let place = put_place(page, at, line);
-    let says = put_form(page, place, b"end says #, and the file has ", &[said]);
-    put_count(page, says, loads, b"load")
+    with_board_name(kept, state, rest)
 }
 
 fn with_end_line(mut state: State) -> State {
-    let source = state.source;
-    let mut file = state.file;
-    file.end_line = source.line;
-    state.file = file;
+    let line = state.source.line;
+    state.file.end_line = line;
     state
 }
 
 // The number of loads that `end` says, against those that there are.
-fn counted(page: &mut [u8], state: State, said: u64) -> State {
-    let source = state.source;
-    let file = state.file;
-    if said == file.loads {
+fn counted(state: State, said: u64) -> State {
+    if said == state.file.loads {
         return with_end_line(state);
     }
-    let has = put_counted(page, state.at, source.line, said, file.loads);
-    failed(page, state, has)
+    wrong_by(state, forms::CORRECTIONS_COUNTED, said)
 }
 
 // `end N`
-fn with_end(page: &mut [u8], kept: &[u8], state: State, rest: &[u8]) -> State {
-    let word = first_word(rest);
-    let extra = first_word(after_word(rest));
-    if lacks_board(kept, state) {
-        return without_board(page, kept, state);
+fn with_end(state: State, rest: &[u8]) -> State {
+    let other = ending::other(rest);
+    if first_word(rest).len() == 0 {
+        return plainly_wrong(state, forms::NO_COUNT);
     }
+    if other.len() > 0 {
+        return wrong(state, forms::COUNT, other, 0);
+    }
+    counted(state, value(text::decimal(first_word(rest))))
+}
+
+fn after_end(state: State) -> State {
+    wrong_by(state, forms::AFTER_CORRECTIONS, state.file.end_line)
+}
+
+// What a line does: `load` and `end` end the load before them, which then has a board line.
+enum Deed {
+    Nothing,
+    Ended,
+    Lacking,
+    Load,
+    End,
+    Board,
+    // with these words
+    Wrong(usize),
+}
+
+// A statement in a load or before the first, where it is no `load` and no `end`.
+fn in_load(open: bool, statement: Statement) -> Deed {
+    if !open {
+        return Deed::Wrong(forms::OUTSIDE);
+    }
+    match statement {
+        Statement::Board => Deed::Board,
+        _ => Deed::Wrong(forms::IN_CORRECTIONS),
+    }
+}
+
+fn stated(open: bool, lacking: bool, word: &[u8]) -> Deed {
+    let statement = statements::named(word);
+    match statement {
+        Statement::Load => after_load(lacking, Deed::Load),
+        Statement::End => after_load(lacking, Deed::End),
+        _ => in_load(open, statement),
+    }
+}
+
+fn after_load(lacking: bool, deed: Deed) -> Deed {
+    if lacking {
+        return Deed::Lacking;
+    }
+    deed
+}
+
+fn deed_of(kept: &[u8], state: State, word: &[u8]) -> Deed {
     if word.len() == 0 {
-        return plainly_wrong(page, state, b"expected end N, the number of loads");
+        return Deed::Nothing;
     }
-    let form = b"expected end N, the number of loads, not $";
-    let number = text::decimal(word);
-    if !is_number(number) {
-        return wrong(page, state, form, word, 0);
+    if state.file.end_line > 0 {
+        return Deed::Ended;
     }
-    if extra.len() > 0 {
-        return wrong(page, state, form, extra, 0);
-    }
-    counted(page, state, value(number))
-}
-
-fn after_end(page: &mut [u8], state: State) -> State {
-    let file = state.file;
-    wrong(page, state, b"after end (line #)", b"", file.end_line)
-}
-
-// A statement in a load or before the first.
-fn in_load(page: &mut [u8], kept: &mut [u8], state: State, word: &[u8], rest: &[u8]) -> State {
-    let load = state.load;
-    if !load.open {
-        return wrong(page, state, b"expected load or end, not $", word, 0);
-    }
-    if same(word, b"board") {
-        return with_board(page, kept, state, rest);
-    }
-    wrong(page, state, b"expected load, board or end, not $", word, 0)
+    stated(state.load.open, lacks_board(kept, state), word)
 }
 
 // A line of text, without its comment.
-fn with_text(page: &mut [u8], kept: &mut [u8], state: State, line: &[u8]) -> State {
-    let file = state.file;
+fn with_text(kept: &mut [u8; ROOM], state: State, line: &[u8]) -> State {
     let word = first_word(line);
     let rest = after_word(line);
-    if word.len() == 0 {
-        return state;
+    let deed = deed_of(kept, state, word);
+    match deed {
+        Deed::Nothing => state,
+        Deed::Ended => after_end(state),
+        Deed::Lacking => without_board(kept, state),
+        Deed::Load => with_load(kept, state, rest),
+        Deed::End => with_end(state, rest),
+        Deed::Board => with_board(kept, state, rest),
+        Deed::Wrong(form) => wrong(state, form, word, 0),
     }
-    if file.end_line > 0 {
-        return after_end(page, state);
-    }
-    if same(word, b"load") {
-        return with_load(page, kept, state, rest);
-    }
-    if same(word, b"end") {
-        return with_end(page, kept, state, rest);
-    }
-    in_load(page, kept, state, word, rest)
 }
 
 // A line that is too long or no text.
-fn without_text(page: &mut [u8], state: State, words: &[u8]) -> State {
-    let file = state.file;
-    if file.end_line > 0 {
-        return after_end(page, state);
+fn without_text(state: State, form: usize) -> State {
+    if state.file.end_line > 0 {
+        return after_end(state);
     }
-    plainly_wrong(page, state, words)
+    plainly_wrong(state, form)
 }
 
 // The end of the input.
-fn ended(page: &mut [u8], kept: &[u8], state: State) -> State {
-    let file = state.file;
-    if file.end_line > 0 {
+fn ended(kept: &[u8], state: State) -> State {
+    if state.file.end_line > 0 {
         return state.done();
     }
     if lacks_board(kept, state) {
-        return without_board(page, kept, state);
+        return without_board(kept, state);
     }
-    let start = begin(page, state.at);
-    let words = b"! corrections: the file ends without an end line";
-    let said = put_bytes(page, start, words);
-    failed(page, state, said)
+    state.with_problem(0, forms::NO_END, kept, 0)
 }
 
 // `cannot open` or `cannot read`, and why.
-fn unread(page: &mut [u8], state: State, words: &[u8], argument: usize, errno: u64) -> State {
-    let named = ending::put_failed(page, state.at, words, argument);
-    let colon = put_bytes(page, named, b": ");
-    let reason = files::put_reason(page, colon, errno);
+fn unread(page: &mut [u8; PAGE], state: State, reads: bool, argument: usize, errno: u64) -> State {
+    let named = ending::put_failed(page, state.at, reads, argument);
+    let reason = files::put_reason(page, named, errno);
     failed(page, state, reason)
 }
 
 // Follows what taking a line found.
-fn followed(page: &mut [u8], kept: &mut [u8], state: State, taken: Taken, line: &[u8]) -> State {
+fn followed(
+    page: &mut [u8; PAGE],
+    kept: &mut [u8; ROOM],
+    state: State,
+    taken: Taken,
+    line: &[u8],
+) -> State {
     let found = taken.line;
-    let source = taken.source;
-    let next = state.with_source(source);
     match found {
-        Line::Text(n) => with_text(page, kept, next, input::content(line, n)),
-        Line::TooLong => without_text(page, next, b"longer than 4096 bytes"),
-        Line::NoText => without_text(page, next, b"a byte that is no text"),
-        Line::End => ended(page, kept, next),
-        Line::Failed => unread(page, next, b"cannot read ", source.argument, source.errno),
+        Line::Text(n) => with_text(kept, state, input::content(line, n)),
+        Line::TooLong => without_text(state, forms::LONG_LINE),
+        Line::NoText => without_text(state, forms::NO_TEXT),
+        Line::End => ended(kept, state),
+        Line::Failed => unread(page, state, true, taken.source.argument, taken.source.errno),
     }
 }
 
 // The next line.
-fn with_line(
-    page: &mut [u8],
-    kept: &mut [u8],
+pub(crate) fn with_line(
+    page: &mut [u8; PAGE],
+    kept: &mut [u8; ROOM],
     state: State,
-    piece: &mut [u8],
-    line: &mut [u8],
+    taken: Taken,
+    line: &[u8],
 ) -> State {
-    let source = state.source;
-    let taken = input::next_line(piece, line, source);
-    followed(page, kept, state, taken, line)
-}
-
-// The lines, one after another.
-fn run_lines(
-    page: &mut [u8],
-    kept: &mut [u8],
-    begun: State,
-    piece: &mut [u8],
-    line: &mut [u8],
-) -> State {
-    let mut state = begun;
-    let mut turns = u64::MAX;
-    while turns > 0 {
-        let file = state.file;
-        if !file.more {
-            return state;
-        }
-        state = with_line(page, kept, state, piece, line);
-        turns -= 1;
-    }
-    state
-}
-
-fn run_source(page: &mut [u8], kept: &mut [u8], state: State, source: Source) -> State {
-    let mut piece = io::buffer();
-    let mut line = [0u8; input::ROOM];
-    let begun = state.with_file(source);
-    let done = run_lines(page, kept, begun, &mut piece, &mut line);
-    if source.fd != STDIN_FILENO {
-        libc::close(source.fd);
-    }
-    done
+    let next = followed(page, kept, state, taken, line);
+    said(page, next)
 }
 
 // Keeps the corrections of the file that an argument names; argument 0: there are none.
-pub(crate) fn read(page: &mut [u8], kept: &mut [u8], state: State, argument: usize) -> State {
+pub(crate) fn read(
+    page: &mut [u8; PAGE],
+    kept: &mut [u8; ROOM],
+    state: State,
+    argument: usize,
+) -> State {
     if argument == 0 {
         return state;
     }
     match sources::open(argument) {
-        Opened::Source(source) => run_source(page, kept, state, source),
-        Opened::Failed(errno) => unread(page, state, b"cannot open ", argument, errno),
+        Opened::Source(source) => reading::run_source(page, kept, state, source, true),
+        Opened::Failed(errno) => unread(page, state, false, argument, errno),
     }
 }

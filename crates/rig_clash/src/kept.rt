@@ -4,6 +4,7 @@ use arbitration_rules::MAX_LENGTH;
 use arbitration_rules::MAX_MASTERS;
 use load_text::BOARD_NAME;
 use load_text::LOAD_NAME;
+use rig_lines::numbers::value;
 use rig_lines::parts;
 use text::put_bytes;
 
@@ -11,6 +12,9 @@ use text::put_bytes;
 pub(crate) const TITLE: usize = 64;
 
 pub(crate) const SEEN: usize = 60;
+
+// The longest number as text.
+pub(crate) const NUMBER: usize = 20;
 
 // Room for one acknowledge more than there may be, so that the library sees that they are too many.
 pub(crate) const ACKS: usize = MAX_LENGTH + 1;
@@ -40,7 +44,14 @@ pub(crate) const SLOTS: usize = 256;
 
 pub(crate) const SLOT: usize = 122;
 
-pub(crate) const ROOM: usize = SLOTS_AT + SLOTS * SLOT;
+// The names of the file's loads, each in a slot with its line.
+pub(crate) const NAMES_AT: usize = SLOTS_AT + SLOTS * SLOT;
+
+pub(crate) const NAMES: usize = 8192;
+
+pub(crate) const NAMED: usize = LOAD_NAME + NUMBER;
+
+pub(crate) const ROOM: usize = NAMES_AT + NAMES * NAMED;
 
 // Zeros for the longest cell.
 const ZEROS: [u8; TITLE] = [0; TITLE];
@@ -72,9 +83,14 @@ pub(crate) fn text_in(kept: &[u8], from: usize, width: usize) -> &[u8] {
 }
 
 // A text put into a cell, as much of it as there is room for.
-pub(crate) fn keep(kept: &mut [u8], from: usize, width: usize, text: &[u8]) {
+pub(crate) fn keep(kept: &mut [u8; ROOM], from: usize, width: usize, text: &[u8]) {
     put_bytes(kept, from, part(&ZEROS, 0, width));
     put_bytes(kept, from, part(text, 0, width));
+}
+
+// The number in a cell.
+pub(crate) fn number_in(kept: &[u8], from: usize) -> u64 {
+    value(text::decimal(text_in(kept, from, NUMBER)))
 }
 
 pub(crate) fn name(kept: &[u8]) -> &[u8] {
@@ -114,7 +130,7 @@ pub(crate) fn board_name(kept: &[u8], board: usize) -> &[u8] {
     text_in(kept, cell_of(board), BOARD_NAME)
 }
 
-pub(crate) fn keep_board_name(kept: &mut [u8], board: usize, name: &[u8]) {
+pub(crate) fn keep_board_name(kept: &mut [u8; ROOM], board: usize, name: &[u8]) {
     keep(kept, cell_of(board), BOARD_NAME, name);
 }
 

@@ -60,6 +60,17 @@ pub(crate) fn none() -> Load {
     }
 }
 
+// A load that begins on a line: whether its boards have names, how many there are, and the longest name.
+pub(crate) fn begun(line: u64, named: bool, boards: usize, widest: usize) -> Load {
+    let mut load = none();
+    load.open = true;
+    load.line = line;
+    load.named = named;
+    load.boards = boards;
+    load.widest = widest;
+    load
+}
+
 impl Load {
     // The line of a board.
     pub(crate) fn line_of(self, board: usize) -> u64 {
@@ -117,6 +128,14 @@ impl Load {
             self.standing[board] = false;
             self.corrected = true;
         }
+        self
+    }
+
+    // A board is expected to win, with so many of its bytes carried.
+    pub(crate) fn with_expected(mut self, board: usize, carried: u64, length: u64) -> Load {
+        self.winner = board;
+        self.carried = carried;
+        self.length = length;
         self
     }
 

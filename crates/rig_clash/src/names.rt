@@ -1,16 +1,18 @@
 // The names of a file's loads, each with the line that took it: slots that are found by a number made of the name.
+use crate::kept::NAMED;
+use crate::kept::NAMES;
+use crate::kept::NAMES_AT;
+use crate::kept::ROOM;
 use crate::kept::keep;
+use crate::kept::number_in;
 use crate::kept::text_in;
 use check::same;
 use load_text::LOAD_NAME;
-use rig_lines::store;
+use text::put_byte;
+use text::put_decimal;
 
-// Twice as many slots as a file has loads, so that a free one is near.
+// Half as many as there are slots, so that a free one is near.
 pub(crate) const LOADS: u64 = 4096;
-
-pub(crate) const SLOTS: usize = 8192;
-
-pub(crate) const ROOM: usize = SLOTS * LOAD_NAME;
 
 const PRIME: u64 = 4294967291;
 
@@ -26,31 +28,44 @@ fn slot_of(name: &[u8]) -> usize {
         number = mixed(number, name[i]);
         i += 1;
     }
-    number as usize % SLOTS
+    number as usize % NAMES
 }
 
 fn after(slot: usize) -> usize {
-    if slot < SLOTS - 1 { slot + 1 } else { 0 }
+    if slot < NAMES - 1 { slot + 1 } else { 0 }
 }
 
-// Where the name of a slot is kept.
+// Where the name of a slot is kept, and its line.
 fn cell_of(slot: usize) -> usize {
-    if slot < SLOTS { slot * LOAD_NAME } else { 0 }
+    if slot < NAMES {
+        NAMES_AT + slot * NAMED
+    } else {
+        NAMES_AT
+    }
+}
+
+fn line_of(slot: usize) -> usize {
+    if slot < NAMES {
+        NAMES_AT + slot * NAMED + LOAD_NAME
+    } else {
+        NAMES_AT
+    }
+}
+
+fn is_free(kept: &[u8], slot: usize) -> bool {
+    text_in(kept, cell_of(slot), LOAD_NAME).len() == 0
 }
 
 // The slot is free, or has this name.
-fn suits(names: &[u8], lines: &[u64], slot: usize, name: &[u8]) -> bool {
-    if store::line_at(lines, slot) == 0 {
-        return true;
-    }
-    same(text_in(names, cell_of(slot), LOAD_NAME), name)
+fn suits(kept: &[u8], slot: usize, name: &[u8]) -> bool {
+    is_free(kept, slot) | same(text_in(kept, cell_of(slot), LOAD_NAME), name)
 }
 
-fn find(names: &[u8], lines: &[u64], name: &[u8]) -> usize {
+fn find(kept: &[u8], name: &[u8]) -> usize {
     let mut slot = slot_of(name);
-    let mut left = SLOTS;
+    let mut left = NAMES;
     while left > 0 {
-        if suits(names, lines, slot, name) {
+        if suits(kept, slot, name) {
             return slot;
         }
         slot = after(slot);
@@ -60,21 +75,21 @@ fn find(names: &[u8], lines: &[u64], name: &[u8]) -> usize {
 }
 
 // Takes a name for the load of a line, where it is free; else answers the line that took it.
-pub(crate) fn take(names: &mut [u8], lines: &mut [u64], name: &[u8], line: u64) -> u64 {
-    let slot = find(names, lines, name);
-    let before = store::line_at(lines, slot);
-    if before == 0 {
-        keep(names, cell_of(slot), LOAD_NAME, name);
-        store::line(lines, slot, line);
+pub(crate) fn take(kept: &mut [u8; ROOM], name: &[u8], line: u64) -> u64 {
+    let slot = find(kept, name);
+    if !is_free(kept, slot) {
+        return number_in(kept, line_of(slot));
     }
-    before
+    keep(kept, cell_of(slot), NAMED, name);
+    put_decimal(kept, line_of(slot), line);
+    0
 }
 
 // Every name is free.
-pub(crate) fn clear(lines: &mut [u64]) {
-    let mut i = 0;
-    while i < lines.len() {
-        lines[i] = 0;
-        i += 1;
+pub(crate) fn clear(kept: &mut [u8; ROOM]) {
+    let mut slot: usize = 0;
+    while slot < NAMES {
+        put_byte(kept, cell_of(slot), 0);
+        slot += 1;
     }
 }

@@ -1,11 +1,10 @@
 // The statement `load`, which begins a load.
-use crate::complaints::plainly_wrong;
-use crate::complaints::wrong;
-use crate::finish::finish;
+use crate::forms;
 use crate::kept;
 use crate::kept::ACKS;
 use crate::kept::ACKS_AT;
 use crate::kept::NAME_AT;
+use crate::kept::ROOM;
 use crate::kept::TITLE;
 use crate::kept::TITLE_AT;
 use crate::load;
@@ -40,14 +39,14 @@ fn put_joined(room: &mut [u8], words: &[u8]) -> usize {
 }
 
 // The title is kept; answers whether it is too long.
-fn keep_title(kept: &mut [u8], words: &[u8]) -> bool {
+fn keep_title(kept: &mut [u8; ROOM], words: &[u8]) -> bool {
     let mut room = [0u8; TITLE + 1];
     let length = put_joined(&mut room, words);
     kept::keep(kept, TITLE_AT, TITLE, kept::part(&room, 0, length));
     length > TITLE
 }
 
-fn keep_name(kept: &mut [u8], name: &[u8]) {
+fn keep_name(kept: &mut [u8; ROOM], name: &[u8]) {
     if name.len() == 0 {
         kept::keep(kept, NAME_AT, LOAD_NAME, b"?");
     } else {
@@ -57,146 +56,80 @@ fn keep_name(kept: &mut [u8], name: &[u8]) {
 
 // A load of which nothing but its first line is read.
 fn opened(mut state: State) -> State {
-    let source = state.source;
-    let mut file = state.file;
-    let mut load = load::none();
-    let tally = state.tally;
-    file.loads = more(file.loads);
-    load.open = true;
-    load.line = source.line;
-    load.named = file.named;
-    load.boards = file.boards;
-    load.widest = file.widest;
-    state.file = file;
-    state.load = load;
-    state.with_tally(tally.with_load())
+    let loads = more(state.file.loads);
+    state.load = load::begun(
+        state.source.line,
+        state.file.named,
+        state.file.boards,
+        state.file.widest,
+    );
+    state.file.loads = loads;
+    state.with_tally(state.tally.with_load())
 }
 
 // What is wrong with the name of a load.
-fn with_name(page: &mut [u8], kept: &[u8], state: State, name: &[u8]) -> State {
+fn with_name(state: State, name: &[u8]) -> State {
     if name.len() == 0 {
-        return plainly_wrong(page, kept, state, b"expected a name of 1 to 32 bytes");
+        return state.plainly_wrong(forms::NO_NAME);
     }
-    if !is_load_name(name) {
-        let form = b"expected a name of 1 to 32 bytes, not $";
-        return wrong(page, kept, state, form, name, 0);
-    }
-    state
+    state.wrong(forms::LOAD_NAME, name, 0)
 }
 
 // What is wrong with a title that may be too long, and a name that may be taken on a line.
-fn judged(page: &mut [u8], kept: &[u8], state: State, long: bool, taken: u64) -> State {
+fn judged(state: State, long: bool, taken: u64) -> State {
     if long {
-        return plainly_wrong(page, kept, state, b"the title is longer than 64 bytes");
+        return state.plainly_wrong(forms::LONG_TITLE);
     }
     if taken > 0 {
-        return wrong(
-            page,
-            kept,
-            state,
-            b"this name was taken on line #",
-            b"",
-            taken,
-        );
+        return state.wrong_by(forms::TAKEN, taken);
     }
     state
 }
 
-// Takes the name, where it is one; answers the line that took it before.
-fn take(names: &mut [u8], lines: &mut [u64], name: &[u8], line: u64) -> u64 {
-    if !is_load_name(name) {
-        return 0;
+// With boards the words after the name are its title; answers whether it is too long.
+fn with_title(kept: &mut [u8; ROOM], named: bool, words: &[u8]) -> bool {
+    if named {
+        return keep_title(kept, after_word(words));
     }
-    names::take(names, lines, name, line)
-}
-
-// With boards the words after the name are its title, and the name is this load's alone.
-fn with_title(
-    page: &mut [u8],
-    kept: &mut [u8],
-    names: &mut [u8],
-    lines: &mut [u64],
-    state: State,
-    words: &[u8],
-) -> State {
-    let source = state.source;
-    let name = first_word(words);
-    let long = keep_title(kept, after_word(words)) & is_load_name(name);
-    let taken = take(names, lines, name, source.line);
-    judged(page, kept, state, long, taken)
+    false
 }
 
 // In the old form there is no word after the name.
-fn without_title(page: &mut [u8], kept: &[u8], state: State, words: &[u8]) -> State {
+fn without_title(state: State, words: &[u8]) -> State {
     let extra = first_word(after_word(words));
-    if is_load_name(first_word(words)) & (extra.len() > 0) {
-        let form = b"expected load NAME, one word, not $: a title needs a boards line";
-        return wrong(page, kept, state, form, extra, 0);
+    if extra.len() > 0 {
+        let form = forms::TITLE;
+        return state.wrong(form, extra, 0);
     }
     state
 }
 
 // Nothing is kept of the load before.
-fn keep_first(kept: &mut [u8], name: &[u8]) {
+fn keep_first(kept: &mut [u8; ROOM], name: &[u8]) {
     keep_name(kept, name);
     kept::keep(kept, TITLE_AT, TITLE, b"");
     kept::keep(kept, ACKS_AT, ACKS, b"");
 }
 
-fn titled(
-    page: &mut [u8],
-    kept: &mut [u8],
-    names: &mut [u8],
-    lines: &mut [u64],
-    state: State,
-    words: &[u8],
-) -> State {
-    let file = state.file;
-    if file.named {
-        return with_title(page, kept, names, lines, state, words);
+// With boards the name is this load's alone.
+fn begun(kept: &mut [u8; ROOM], state: State, words: &[u8]) -> State {
+    let name = first_word(words);
+    let long = with_title(kept, state.file.named, words);
+    if !is_load_name(name) {
+        return with_name(state, name);
     }
-    without_title(page, kept, state, words)
+    if !state.file.named {
+        return without_title(state, words);
+    }
+    judged(state, long, names::take(kept, name, state.source.line))
 }
 
-fn begun(
-    page: &mut [u8],
-    kept: &mut [u8],
-    names: &mut [u8],
-    lines: &mut [u64],
-    state: State,
-    words: &[u8],
-) -> State {
-    let next = with_name(page, kept, state, first_word(words));
-    titled(page, kept, names, lines, next, words)
-}
-
-// The next load of a file.
-fn next_load(
-    page: &mut [u8],
-    kept: &mut [u8],
-    names: &mut [u8],
-    lines: &mut [u64],
-    state: State,
-    words: &[u8],
-) -> State {
-    let file = state.file;
-    if file.named & (file.loads >= names::LOADS) {
-        let many = b"more than 4096 loads; the rest of the file is not read";
-        return plainly_wrong(page, kept, state, many).done();
+// The next load of a file: `load NAME TITLE`.
+pub(crate) fn with_load(kept: &mut [u8; ROOM], state: State, words: &[u8]) -> State {
+    if state.file.named & (state.file.loads >= names::LOADS) {
+        let many = forms::MANY_LOADS;
+        return state.plainly_wrong(many).done();
     }
     keep_first(kept, first_word(words));
-    begun(page, kept, names, lines, opened(state), words)
-}
-
-// `load NAME TITLE`: the load before it is finished first.
-pub(crate) fn with_load(
-    page: &mut [u8],
-    kept: &mut [u8],
-    names: &mut [u8],
-    lines: &mut [u64],
-    state: State,
-    words: &[u8],
-) -> State {
-    let before = finish(page, kept, state);
-    next_load(page, kept, names, lines, before, words)
+    begun(kept, opened(state), words)
 }

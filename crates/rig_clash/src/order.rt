@@ -55,7 +55,7 @@ fn comes_after(message: &[u8], other: &[u8]) -> bool {
     byte_at(message, front) > byte_at(other, front)
 }
 
-fn message(kept: &[u8], load: Load, board: usize) -> &[u8] {
+pub(crate) fn message(kept: &[u8], load: Load, board: usize) -> &[u8] {
     kept::message(kept, board, load.length_of(board))
 }
 

@@ -1,11 +1,13 @@
 // The levels of a load as a trace, a sample a line, which rig decode and rig dump read.
 use crate::kept;
+use crate::kept::part;
 use crate::outcome::LEVELS;
+use crate::outcome::Outcome;
 use crate::outcome::recorded;
+use crate::phrase::put_numbers;
 use check::same;
+use rig_lines::console::PAGE;
 use rig_lines::console::begin;
-use rig_lines::console::put_form;
-use rig_lines::parts;
 
 // From one sample to the next.
 const GAP: u64 = 50;
@@ -25,12 +27,12 @@ fn stamp(sample: usize) -> u64 {
     }
 }
 
-fn put_sample(page: &mut [u8], at: usize, sample: usize, level: u8) -> usize {
+fn put_sample(page: &mut [u8; PAGE], at: usize, sample: usize, level: u8) -> usize {
     let start = begin(page, at);
-    put_form(page, start, b"# #\n", &[stamp(sample), level as u64])
+    put_numbers(page, start, b"# #\n", [stamp(sample), level as u64, 0, 0])
 }
 
-fn put_samples(page: &mut [u8], at: usize, levels: &[u8]) -> usize {
+fn put_samples(page: &mut [u8; PAGE], at: usize, levels: &[u8]) -> usize {
     let mut next = at;
     let mut i = 0;
     while i < levels.len() {
@@ -40,8 +42,10 @@ fn put_samples(page: &mut [u8], at: usize, levels: &[u8]) -> usize {
     next
 }
 
-// What was recorded of a rehearsal of so many bytes.
-pub(crate) fn put(page: &mut [u8], at: usize, levels: &[u8], count: usize) -> usize {
-    let size = parts::bytes(recorded(count), levels);
-    put_samples(page, at, &levels[..size])
+// What was recorded of a rehearsal, unless it was refused.
+pub(crate) fn put(page: &mut [u8; PAGE], at: usize, levels: &[u8], outcome: Outcome) -> usize {
+    if outcome.is_refused() {
+        return at;
+    }
+    put_samples(page, at, part(levels, 0, recorded(outcome.count)))
 }

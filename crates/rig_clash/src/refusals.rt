@@ -5,160 +5,195 @@ use crate::kept::ACKS;
 use crate::kept::ACKS_AT;
 use crate::load::Load;
 use crate::order;
+use crate::phrase;
+use crate::phrase::either;
+use crate::phrase::line_of;
+use crate::phrase::put_numbers;
 use load_text::board_of;
-use rig_lines::console::begin;
-use rig_lines::console::put_count;
-use rig_lines::console::put_form;
-use text::put_byte;
+use rig_lines::console::PAGE;
 use text::put_bytes;
-use text::put_decimal;
 
 // A board, by its name or as `board N`; with its line, unless it is for the table.
 fn put_board(
-    page: &mut [u8],
+    page: &mut [u8; PAGE],
     at: usize,
     kept: &[u8],
     load: Load,
     board: usize,
     brief: bool,
 ) -> usize {
-    let who = put_who(page, at, kept, load, board);
-    if brief {
-        return who;
-    }
-    put_form(page, who, b" (line #)", &[load.line_of(board)])
+    let who = put_who(page, at, kept, load.named, board);
+    let words = line_of(b" (line #)", brief as usize);
+    put_numbers(page, who, words, [load.line_of(board), 0, 0, 0])
 }
 
-fn put_who(page: &mut [u8], at: usize, kept: &[u8], load: Load, board: usize) -> usize {
+fn put_who(page: &mut [u8; PAGE], at: usize, kept: &[u8], named: bool, board: usize) -> usize {
+    let words = line_of(b"board #\n$", named as usize);
+    phrase::put(page, at, kept, words, board, [board as u64, 0, 0, 0])
+}
+
+// 12: there is no master, or there are too many: which words say so.
+fn masters_form(load: Load, brief: bool) -> usize {
     if load.named {
-        return put_bytes(page, at, kept::board_name(kept, board));
-    }
-    put_form(page, at, b"board #", &[board as u64])
-}
-
-// Words that the table leaves out.
-fn put_more(page: &mut [u8], at: usize, words: &[u8], brief: bool) -> usize {
-    if brief {
-        return at;
-    }
-    put_bytes(page, at, words)
-}
-
-// 12: there is no master, or there are too many.
-fn put_masters(page: &mut [u8], at: usize, load: Load, brief: bool) -> usize {
-    if load.named {
-        return put_bytes(page, at, b"every board is silent");
+        return 0;
     }
     if load.rows == 0 {
-        return put_bytes(page, at, b"no board");
+        return 1;
     }
-    let count = put_form(page, at, b"# boards", &[load.rows]);
-    put_more(page, count, b", and at most 8 may start together", brief)
+    either(brief, 3, 2)
 }
 
-// 13: a message of no bytes or too many.
-fn put_length(
-    page: &mut [u8],
-    at: usize,
-    kept: &[u8],
-    load: Load,
-    board: usize,
-    brief: bool,
-) -> usize {
-    let length = load.length_of(board) as u64;
-    let who = put_board(page, at, kept, load, board, brief);
+fn put_masters(page: &mut [u8; PAGE], at: usize, load: Load, brief: bool) -> usize {
+    let words =
+        b"every board is silent\nno board\n# boards, and at most 8 may start together\n# boards";
+    let form = line_of(words, masters_form(load, brief));
+    put_numbers(page, at, form, [load.rows, 0, 0, 0])
+}
+
+// 13 and 14: a message of no bytes or too many, or one that begins with a read.
+fn message_form(number: u8, length: u32, brief: bool) -> usize {
+    if number == 14 {
+        return either(brief, 4, 3);
+    }
     if length == 0 {
-        return put_bytes(page, who, b" has no bytes");
+        return 0;
     }
-    let count = put_form(page, who, b" has # bytes", &[length]);
-    put_more(page, count, b", and at most 32 may be sent", brief)
+    either(brief, 2, 1)
 }
 
-// 14: a message that begins with a read.
-fn put_read(
-    page: &mut [u8],
+fn message_number(number: u8, length: u32, first: u8) -> u64 {
+    if number == 14 {
+        first as u64
+    } else {
+        length as u64
+    }
+}
+
+fn put_message_of(
+    page: &mut [u8; PAGE],
     at: usize,
     kept: &[u8],
     load: Load,
+    number: u8,
     board: usize,
     brief: bool,
 ) -> usize {
-    let message = kept::message(kept, board, load.length_of(board));
+    let length = load.length_of(board);
+    let first = order::byte_at(kept::message(kept, board, length), 0);
+    let words = b" has no bytes\n has # bytes, and at most 32 may be sent\n has # bytes\n\
+        \x20begins with %, which is odd, a read\n begins with %";
     let who = put_board(page, at, kept, load, board, brief);
-    let begins = put_form(
+    let form = line_of(words, message_form(number, length, brief));
+    put_numbers(
         page,
         who,
-        b" begins with %",
-        &[order::byte_at(message, 0) as u64],
-    );
-    put_more(page, begins, b", which is odd, a read", brief)
+        form,
+        [message_number(number, length, first), 0, 0, 0],
+    )
 }
 
 // 15: acknowledges that are not as many as the longest message has bytes.
-fn put_acks(page: &mut [u8], at: usize, kept: &[u8], load: Load, brief: bool) -> usize {
+fn put_acks(page: &mut [u8; PAGE], at: usize, kept: &[u8], load: Load, brief: bool) -> usize {
     let board = order::longest(load);
     let length = load.length_of(board) as u64;
-    let count = put_count(page, at, load.acks as u64, b"acknowledge");
+    let words = b"# acknowledge~ (line #) for the # byte~ of \n# acknowledge~ for #";
+    let numbers = [load.acks as u64, acks_line(load, length, brief), length, 0];
+    let of = put_numbers(page, at, line_of(words, brief as usize), numbers);
+    put_longest(page, of, kept, load, board, brief)
+}
+
+// The second number of the words: the table has no line.
+fn acks_line(load: Load, length: u64, brief: bool) -> u64 {
     if brief {
-        return put_form(page, count, b" for #", &[length]);
+        return length;
     }
-    let line = put_form(page, count, b" (line #) for the ", &[load.ack_line]);
-    let bytes = put_count(page, line, length, b"byte");
-    let of = put_bytes(page, bytes, b" of ");
-    let who = put_board(page, of, kept, load, board, brief);
+    load.ack_line
+}
+
+fn put_longest(
+    page: &mut [u8; PAGE],
+    at: usize,
+    kept: &[u8],
+    load: Load,
+    board: usize,
+    brief: bool,
+) -> usize {
+    if brief {
+        return at;
+    }
+    let who = put_board(page, at, kept, load, board, brief);
     put_bytes(page, who, b", the longest")
 }
 
 // 15: an acknowledge above 1.
-fn put_ack(page: &mut [u8], at: usize, kept: &[u8], load: Load, brief: bool) -> usize {
+fn put_ack(page: &mut [u8; PAGE], at: usize, kept: &[u8], load: Load, brief: bool) -> usize {
     let acks = kept::part(kept, ACKS_AT, ACKS);
     let place = order::first_above_one(acks);
-    let value = order::byte_at(acks, place);
-    let word = put_form(page, at, b"acknowledge #", &[place as u64]);
-    if brief {
-        return put_form(page, word, b" is #", &[value as u64]);
-    }
-    let numbers = [load.ack_line, value as u64];
-    put_form(page, word, b" (line #) is #, neither 0 nor 1", &numbers)
+    let value = order::byte_at(acks, place) as u64;
+    let words = b"acknowledge # (line #) is #, neither 0 nor 1\nacknowledge # is #";
+    let numbers = [place as u64, acks_line(load, value, brief), value, 0];
+    put_numbers(page, at, line_of(words, brief as usize), numbers)
 }
 
-fn put_acknowledges(page: &mut [u8], at: usize, kept: &[u8], load: Load, brief: bool) -> usize {
+fn put_acknowledges(
+    page: &mut [u8; PAGE],
+    at: usize,
+    kept: &[u8],
+    load: Load,
+    brief: bool,
+) -> usize {
     if load.acks == load.longest() as usize {
         return put_ack(page, at, kept, load, brief);
     }
     put_acks(page, at, kept, load, brief)
 }
 
-// 16: the least message is acknowledged to its end, and begins another.
-fn put_beginning(page: &mut [u8], at: usize, kept: &[u8], load: Load, brief: bool) -> usize {
-    let board = order::least(kept, load);
-    let message = kept::message(kept, board, load.length_of(board));
-    let other = order::begun_by(kept, load, board);
-    let longer = kept::message(kept, other, load.length_of(other));
-    let who = put_board(page, at, kept, load, board, brief);
-    if brief {
-        let begins = put_bytes(page, who, b" begins ");
-        return put_board(page, begins, kept, load, other, brief);
-    }
-    let ends = put_bytes(page, who, b" ends with ");
+// A message that ends, acknowledged, where another goes on.
+fn put_end(page: &mut [u8; PAGE], at: usize, message: &[u8]) -> usize {
+    let ends = put_bytes(page, at, b" ends with ");
     let bytes = put_message(page, ends, message);
-    let acked = put_bytes(page, bytes, b", acknowledged, where ");
-    let whom = put_board(page, acked, kept, load, other, brief);
-    let next = order::byte_at(longer, message.len()) as u64;
-    put_form(page, whom, b" goes on with %", &[next])
+    put_bytes(page, bytes, b", acknowledged, where ")
 }
 
-// 8: the buffers are too short.
-fn put_room(page: &mut [u8], at: usize, brief: bool) -> usize {
+// What stands between two boards: that the message of the first begins the other, or how it ends.
+fn put_begins(page: &mut [u8; PAGE], at: usize, message: &[u8], brief: bool) -> usize {
     if brief {
-        return put_bytes(page, at, b"too little room");
+        return put_bytes(page, at, b" begins ");
     }
-    put_bytes(page, at, b"the reply needs more room than was lent")
+    put_end(page, at, message)
+}
+
+// 16: the least message is acknowledged to its end, and begins another.
+fn put_beginning(page: &mut [u8; PAGE], at: usize, kept: &[u8], load: Load, brief: bool) -> usize {
+    let board = order::least(kept, load);
+    let other = order::begun_by(kept, load, board);
+    let message = order::message(kept, load, board);
+    let next = order::byte_at(order::message(kept, load, other), message.len()) as u64;
+    let who = put_board(page, at, kept, load, board, brief);
+    let begins = put_begins(page, who, message, brief);
+    let whom = put_board(page, begins, kept, load, other, brief);
+    let words = line_of(b" goes on with %", brief as usize);
+    put_numbers(page, whom, words, [next, 0, 0, 0])
+}
+
+// 40, 41, and 8: the buffers are too short.
+fn other_form(number: u8, brief: bool) -> usize {
+    match number {
+        40 => 0,
+        41 => 1,
+        _ => either(brief, 3, 2),
+    }
+}
+
+fn put_other(page: &mut [u8; PAGE], at: usize, number: u8, brief: bool) -> usize {
+    let words = b"the boards do not rise\nthe lengths do not fit\n\
+        the reply needs more room than was lent\ntoo little room";
+    put_bytes(page, at, line_of(words, other_form(number, brief)))
 }
 
 // What a refusal says; place: the master that it is about.
 pub(crate) fn put_words(
-    page: &mut [u8],
+    page: &mut [u8; PAGE],
     at: usize,
     kept: &[u8],
     load: Load,
@@ -170,27 +205,25 @@ pub(crate) fn put_words(
     let board = board_of(silent, place);
     match number {
         12 => put_masters(page, at, load, brief),
-        13 => put_length(page, at, kept, load, board, brief),
-        14 => put_read(page, at, kept, load, board, brief),
+        13 => put_message_of(page, at, kept, load, number, board, brief),
+        14 => put_message_of(page, at, kept, load, number, board, brief),
         15 => put_acknowledges(page, at, kept, load, brief),
         16 => put_beginning(page, at, kept, load, brief),
-        40 => put_bytes(page, at, b"the boards do not rise"),
-        41 => put_bytes(page, at, b"the lengths do not fit"),
-        _ => put_room(page, at, brief),
+        _ => put_other(page, at, number, brief),
     }
 }
 
 // The line of a refused load.
 pub(crate) fn put_line(
-    page: &mut [u8],
+    page: &mut [u8; PAGE],
     at: usize,
     kept: &[u8],
     load: Load,
     number: u8,
     place: usize,
 ) -> usize {
-    let start = begin(page, at);
-    let front = put_form(page, start, b"  refused #: ", &[number as u64]);
+    let numbers = [number as u64, 0, 0, 0];
+    let front = phrase::put_line(page, at, kept, b"  refused #: ", 0, numbers);
     let words = put_words(page, front, kept, load, number, place, false);
-    put_byte(page, words, b'\n')
+    put_bytes(page, words, b"\n")
 }

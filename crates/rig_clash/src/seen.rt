@@ -1,5 +1,6 @@
 // The names of the loads to see, kept one after another with a space before each, as long as there is room.
 use crate::kept;
+use crate::kept::ROOM;
 use crate::kept::SEEN;
 use crate::kept::SEEN_AT;
 use text::put_byte;
@@ -19,7 +20,7 @@ pub(crate) fn fits(kept: &[u8]) -> bool {
 }
 
 // Its name is kept.
-pub(crate) fn keep(kept: &mut [u8]) {
+pub(crate) fn keep(kept: &mut [u8; ROOM]) {
     let mut space = [0u8; SEEN];
     let before = put_bytes(&mut space, 0, names(kept));
     let blank = put_byte(&mut space, before, b' ');

@@ -1,6 +1,8 @@
 // The corrections as they are kept, each in a slot: a mark once its load was met, the load's name and line, the board's
 // name and line, and its message. Lines are kept as text.
 use crate::kept;
+use crate::kept::NUMBER;
+use crate::kept::ROOM;
 use crate::kept::SLOT;
 use crate::kept::SLOTS;
 use crate::kept::SLOTS_AT;
@@ -9,13 +11,9 @@ use arbitration_rules::MAX_LENGTH;
 use check::same;
 use load_text::BOARD_NAME;
 use load_text::LOAD_NAME;
-use rig_lines::numbers::value;
 use text::put_byte;
 use text::put_bytes;
 use text::put_decimal;
-
-// The longest number as text.
-const NUMBER: usize = 20;
 
 // Where each stands in a slot; the mark is first, and the end of a slot is where the next begins.
 const LOAD_AT: usize = 1;
@@ -54,13 +52,11 @@ pub(crate) fn board(kept: &[u8], correction: usize) -> &[u8] {
 
 // The line of its `load`, and its own.
 pub(crate) fn load_line(kept: &[u8], correction: usize) -> u64 {
-    let number = kept::text_in(slot(kept, correction), LOAD_LINE_AT, NUMBER);
-    value(text::decimal(number))
+    kept::number_in(slot(kept, correction), LOAD_LINE_AT)
 }
 
 pub(crate) fn line(kept: &[u8], correction: usize) -> u64 {
-    let number = kept::text_in(slot(kept, correction), LINE_AT, NUMBER);
-    value(text::decimal(number))
+    kept::number_in(slot(kept, correction), LINE_AT)
 }
 
 pub(crate) fn length(kept: &[u8], correction: usize) -> u8 {
@@ -77,8 +73,13 @@ pub(crate) fn is_met(kept: &[u8], correction: usize) -> bool {
     byte_at(slot(kept, correction), 0) == MET
 }
 
-pub(crate) fn meet(kept: &mut [u8], correction: usize) {
+pub(crate) fn meet(kept: &mut [u8; ROOM], correction: usize) {
     put_byte(kept, slot_of(correction), MET);
+}
+
+// It is for the load whose name is kept.
+pub(crate) fn is_current(kept: &[u8], correction: usize) -> bool {
+    same(load(kept, correction), kept::name(kept))
 }
 
 // The first of so many corrections that is for a load, else their number.
@@ -93,15 +94,15 @@ pub(crate) fn find_load(kept: &[u8], count: usize, name: &[u8]) -> usize {
     count
 }
 
-fn is_for(kept: &[u8], correction: usize, name: &[u8], board_name: &[u8]) -> bool {
-    same(load(kept, correction), name) & same(board(kept, correction), board_name)
+fn is_for(kept: &[u8], correction: usize, board_name: &[u8]) -> bool {
+    is_current(kept, correction) & same(board(kept, correction), board_name)
 }
 
-// The one that is for a board of a load, else their number.
-pub(crate) fn find(kept: &[u8], count: usize, name: &[u8], board_name: &[u8]) -> usize {
+// The one that is for a board of the load whose name is kept, else their number.
+pub(crate) fn find(kept: &[u8], count: usize, board_name: &[u8]) -> usize {
     let mut correction: usize = 0;
     while correction < count {
-        if is_for(kept, correction, name, board_name) {
+        if is_for(kept, correction, board_name) {
             return correction;
         }
         correction += 1;
@@ -111,7 +112,7 @@ pub(crate) fn find(kept: &[u8], count: usize, name: &[u8], board_name: &[u8]) ->
 
 // Keeps the correction of a board of the load whose name is kept; row: its bytes, so many.
 pub(crate) fn keep(
-    kept: &mut [u8],
+    kept: &mut [u8; ROOM],
     correction: usize,
     load_line: u64,
     board_name: &[u8],

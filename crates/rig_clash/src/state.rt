@@ -1,6 +1,9 @@
 // What is known while the files are read.
+use crate::forms;
 use crate::load;
 use crate::load::Load;
+use crate::problem;
+use crate::problem::Problem;
 use crate::tally;
 use crate::tally::Tally;
 use rig_lines::input;
@@ -20,6 +23,8 @@ pub(crate) struct Options {
 pub(crate) struct File {
     // whether there is more to read
     pub(crate) more: bool,
+    // it is the file of corrections
+    pub(crate) corrects: bool,
     // the first statement was `boards`, or it was `load`, as in the old form; neither: there was none yet
     pub(crate) named: bool,
     pub(crate) numbered: bool,
@@ -43,11 +48,14 @@ pub(crate) struct State {
     // how many corrections are kept
     pub(crate) corrections: usize,
     pub(crate) tally: Tally,
+    // what is wrong with the line that is being read
+    pub(crate) problem: Problem,
 }
 
-fn unread() -> File {
+fn unread(corrects: bool) -> File {
     File {
         more: true,
+        corrects,
         named: false,
         numbered: false,
         boards: 0,
@@ -63,10 +71,11 @@ pub(crate) fn begun(options: Options) -> State {
         at: 0,
         options,
         source: input::begin(0, 0),
-        file: unread(),
+        file: unread(false),
         load: load::none(),
         corrections: 0,
         tally: tally::none(),
+        problem: problem::none(),
     }
 }
 
@@ -77,9 +86,9 @@ impl State {
     }
 
     // A file is opened.
-    pub(crate) fn with_file(mut self, source: Source) -> State {
+    pub(crate) fn with_file(mut self, source: Source, corrects: bool) -> State {
         self.source = source;
-        self.file = unread();
+        self.file = unread(corrects);
         self.load = load::none();
         self
     }
@@ -101,26 +110,73 @@ impl State {
 
     // No more of the file is read.
     pub(crate) fn done(mut self) -> State {
-        let mut file = self.file;
-        file.more = false;
-        self.file = file;
+        self.file.more = false;
+        self
+    }
+
+    // The load that is being read is in error.
+    pub(crate) fn broken(mut self) -> State {
+        self.load.broken = true;
         self
     }
 
     // The load that is being read is in error, or, where there is none, a fault is counted.
     pub(crate) fn blamed(self) -> State {
-        let mut load = self.load;
-        if load.open {
-            load.broken = true;
-            return self.with_load(load);
+        if self.load.open {
+            return self.broken();
         }
-        let tally = self.tally;
-        self.with_tally(tally.with_fault())
+        self.with_tally(self.tally.with_fault())
     }
 
     // A fault, whether a load is being read or not.
     pub(crate) fn faulted(self) -> State {
-        let tally = self.tally;
-        self.with_tally(tally.with_fault())
+        self.with_tally(self.tally.with_fault())
+    }
+
+    // Nothing is wrong, or what was is said.
+    pub(crate) fn without_problem(mut self) -> State {
+        self.problem = problem::none();
+        self
+    }
+
+    // A line is wrong, in words with their marks: a word that was met, and a number.
+    pub(crate) fn with_problem(
+        mut self,
+        line: u64,
+        form: usize,
+        word: &[u8],
+        number: u64,
+    ) -> State {
+        let loads = self.file.loads;
+        self.problem = problem::of(line, form, word, number, loads, self.load.line);
+        self
+    }
+
+    // The line that is read is wrong: it costs the load that is being read, and is a fault where there is none.
+    pub(crate) fn wrong(self, form: usize, word: &[u8], number: u64) -> State {
+        self.with_problem(self.source.line, form, word, number)
+            .blamed()
+    }
+
+    // The same without a word.
+    pub(crate) fn wrong_by(self, form: usize, number: u64) -> State {
+        self.wrong(form, b"", number)
+    }
+
+    // The same without a word or a number.
+    pub(crate) fn plainly_wrong(self, form: usize) -> State {
+        self.wrong_by(form, 0)
+    }
+
+    // No board of the file has that name.
+    pub(crate) fn unknown_board(self, name: &[u8]) -> State {
+        self.wrong(forms::UNKNOWN_BOARD, name, self.file.boards_line)
+    }
+
+    // A fault before the first load, for which nothing of the file is read.
+    pub(crate) fn unread(self, form: usize, word: &[u8]) -> State {
+        let mut next = self.wrong(form, word, 0);
+        next.problem.unread = true;
+        next.done()
     }
 }

@@ -1,21 +1,23 @@
 // The statements of a file of loads, each by its first word.
 use crate::boards;
-use crate::complaints::plainly_wrong;
-use crate::complaints::unread;
-use crate::complaints::wrong;
 use crate::ending;
+use crate::finish;
+use crate::forms;
+use crate::kept::ROOM;
 use crate::lines;
 use crate::opening;
+use crate::phrase::place_of;
+use crate::sources;
+use crate::state::File;
 use crate::state::State;
-use check::same;
+use rig_lines::console::PAGE;
 use rig_lines::console::begin;
 use rig_lines::console::note;
-use rig_lines::files;
 use text::after_word;
 use text::first_word;
 use text::put_bytes;
 
-enum Statement {
+pub(crate) enum Statement {
     Boards,
     Load,
     Board,
@@ -25,180 +27,165 @@ enum Statement {
     Other,
 }
 
-fn named(word: &[u8]) -> Statement {
-    if same(word, b"board") {
-        return Statement::Board;
+pub(crate) fn named(word: &[u8]) -> Statement {
+    let place = place_of(b"boards\nload\nboard\nack\nexpect\nend", word);
+    match place {
+        0 => Statement::Boards,
+        1 => Statement::Load,
+        2 => Statement::Board,
+        3 => Statement::Ack,
+        4 => Statement::Expect,
+        5 => Statement::End,
+        _ => Statement::Other,
     }
-    if same(word, b"ack") {
-        return Statement::Ack;
-    }
-    if same(word, b"load") {
-        return Statement::Load;
-    }
-    if same(word, b"expect") {
-        return Statement::Expect;
-    }
-    if same(word, b"boards") {
-        return Statement::Boards;
-    }
-    if same(word, b"end") {
-        return Statement::End;
-    }
-    Statement::Other
 }
 
 // A note that a file is in the old form; answers where the page goes on.
-fn put_numbered(page: &mut [u8], at: usize, argument: usize) -> usize {
+fn put_numbered(page: &mut [u8; PAGE], at: usize, argument: usize) -> usize {
     let start = begin(page, at);
-    let word = put_bytes(page, start, b"rig: ");
-    let name = files::put_name(page, word, argument);
+    let name = sources::put_line(page, start, sources::NOTE, argument);
     let words = b": no boards line, so boards are numbered by their rows\n";
     let said = put_bytes(page, name, words);
     note(page, start, said)
 }
 
-fn numbered(page: &mut [u8], mut state: State) -> State {
-    let source = state.source;
-    let mut file = state.file;
-    file.numbered = true;
-    state.file = file;
-    let at = put_numbered(page, state.at, source.argument);
+fn without_boards(page: &mut [u8; PAGE], mut state: State) -> State {
+    state.file.numbered = true;
+    let at = put_numbered(page, state.at, state.source.argument);
     state.moved(at)
 }
 
+// `load`: the load before it is finished first.
+fn with_load(page: &mut [u8; PAGE], kept: &mut [u8; ROOM], state: State, rest: &[u8]) -> State {
+    let before = finish::finish(page, kept, state);
+    opening::with_load(kept, before, rest)
+}
+
+// What a line of a file does. In the old form the first load and a board differ from those of a file with boards.
+enum Deed {
+    Nothing,
+    Ended,
+    Boards,
+    Load,
+    FirstLoad,
+    End,
+    Board,
+    NumberedBoard,
+    Ack,
+    Expect,
+    SecondBoards,
+    LateBoards,
+    First,
+    // with these words
+    Wrong(usize),
+}
+
 // The first statement of a file.
-fn first(
-    page: &mut [u8],
-    kept: &mut [u8],
-    names: &mut [u8],
-    lines: &mut [u64],
-    state: State,
-    word: &[u8],
-    rest: &[u8],
-) -> State {
-    match named(word) {
-        Statement::Boards => boards::with_boards(page, kept, state, rest),
-        Statement::Load => {
-            let next = numbered(page, state);
-            opening::with_load(page, kept, names, lines, next, rest)
-        }
-        _ => unread(
-            page,
-            kept,
-            state,
-            b"expected boards or load first, not $",
-            word,
-        ),
+fn first(statement: Statement) -> Deed {
+    match statement {
+        Statement::Boards => Deed::Boards,
+        Statement::Load => Deed::FirstLoad,
+        _ => Deed::First,
     }
 }
 
-// A statement in a load, or between `boards` and the first load.
-fn in_load(page: &mut [u8], kept: &mut [u8], state: State, word: &[u8], rest: &[u8]) -> State {
-    let load = state.load;
-    if !load.open {
-        return wrong(page, kept, state, b"expected load or end, not $", word, 0);
-    }
-    match named(word) {
-        Statement::Board => lines::with_board(page, kept, state, rest),
-        Statement::Ack => lines::with_ack(page, kept, state, rest),
-        Statement::Expect => lines::with_expect(page, kept, state, rest),
-        _ => {
-            let form = b"expected load, board, ack, expect or end, not $";
-            wrong(page, kept, state, form, word, 0)
-        }
+// A statement in a load of a file with boards.
+fn inside(statement: Statement) -> Deed {
+    match statement {
+        Statement::Load => Deed::Load,
+        Statement::End => Deed::End,
+        Statement::Boards => Deed::SecondBoards,
+        Statement::Board => Deed::Board,
+        Statement::Ack => Deed::Ack,
+        Statement::Expect => Deed::Expect,
+        Statement::Other => Deed::Wrong(forms::INSIDE),
     }
 }
 
-// A statement of a file with boards.
-fn with_names(
-    page: &mut [u8],
-    kept: &mut [u8],
-    names: &mut [u8],
-    lines: &mut [u64],
-    state: State,
-    word: &[u8],
-    rest: &[u8],
-) -> State {
-    let file = state.file;
-    match named(word) {
-        Statement::Load => opening::with_load(page, kept, names, lines, state, rest),
-        Statement::End => ending::with_end(page, kept, state, rest),
-        Statement::Boards => {
-            let form = b"a second boards line, the first is line #";
-            wrong(page, kept, state, form, b"", file.boards_line)
-        }
-        _ => in_load(page, kept, state, word, rest),
+// A statement between `boards` and the first load.
+fn outside(statement: Statement) -> Deed {
+    match statement {
+        Statement::Load => Deed::Load,
+        Statement::End => Deed::End,
+        Statement::Boards => Deed::SecondBoards,
+        _ => Deed::Wrong(forms::OUTSIDE),
     }
 }
 
 // A statement of a file in the old form.
-fn with_numbers(
-    page: &mut [u8],
-    kept: &mut [u8],
-    names: &mut [u8],
-    lines: &mut [u64],
-    state: State,
-    word: &[u8],
-    rest: &[u8],
-) -> State {
-    match named(word) {
-        Statement::Load => opening::with_load(page, kept, names, lines, state, rest),
-        Statement::Board => lines::with_numbered(page, kept, state, rest),
-        Statement::Ack => lines::with_ack(page, kept, state, rest),
-        Statement::Boards => {
-            plainly_wrong(
-                page,
-                kept,
-                state,
-                b"boards must stand before the first load",
-            )
-        }
-        _ => wrong(
-            page,
-            kept,
-            state,
-            b"expected load, board or ack, not $",
-            word,
-            0,
-        ),
+fn numbered(statement: Statement) -> Deed {
+    match statement {
+        Statement::Load => Deed::Load,
+        Statement::Board => Deed::NumberedBoard,
+        Statement::Ack => Deed::Ack,
+        Statement::Boards => Deed::LateBoards,
+        _ => Deed::Wrong(forms::NUMBERED),
     }
+}
+
+// A statement, where `end` was none before.
+fn stated(file: File, open: bool, word: &[u8]) -> Deed {
+    let statement = named(word);
+    if file.numbered {
+        return numbered(statement);
+    }
+    if !file.named {
+        return first(statement);
+    }
+    if open {
+        return inside(statement);
+    }
+    outside(statement)
+}
+
+fn deed_of(state: State, word: &[u8]) -> Deed {
+    if word.len() == 0 {
+        return Deed::Nothing;
+    }
+    if state.file.end_line > 0 {
+        return Deed::Ended;
+    }
+    stated(state.file, state.load.open, word)
 }
 
 // A line of text, without its comment.
 pub(crate) fn with_line(
-    page: &mut [u8],
-    kept: &mut [u8],
-    names: &mut [u8],
-    lines: &mut [u64],
+    page: &mut [u8; PAGE],
+    kept: &mut [u8; ROOM],
     state: State,
     line: &[u8],
 ) -> State {
-    let file = state.file;
     let word = first_word(line);
     let rest = after_word(line);
-    if word.len() == 0 {
-        return state;
+    let deed = deed_of(state, word);
+    match deed {
+        Deed::Nothing => state,
+        Deed::Ended => ending::after_end(state),
+        Deed::Boards => boards::with_boards(kept, state, rest),
+        Deed::Load => with_load(page, kept, state, rest),
+        Deed::FirstLoad => {
+            let next = without_boards(page, state);
+            opening::with_load(kept, next, rest)
+        }
+        Deed::End => ending::with_end(page, kept, state, rest),
+        Deed::Board => lines::with_board(kept, state, rest),
+        Deed::NumberedBoard => lines::with_numbered(kept, state, rest),
+        Deed::Ack => lines::with_ack(kept, state, rest),
+        Deed::Expect => lines::with_expect(kept, state, rest),
+        Deed::SecondBoards => state.wrong_by(forms::SECOND_BOARDS, state.file.boards_line),
+        Deed::LateBoards => state.plainly_wrong(forms::LATE_BOARDS),
+        Deed::First => state.unread(forms::FIRST, word),
+        Deed::Wrong(form) => state.wrong(form, word, 0),
     }
-    if file.end_line > 0 {
-        return ending::after_end(page, kept, state);
-    }
-    if file.named {
-        return with_names(page, kept, names, lines, state, word, rest);
-    }
-    if file.numbered {
-        return with_numbers(page, kept, names, lines, state, word, rest);
-    }
-    first(page, kept, names, lines, state, word, rest)
 }
 
 // A line that is too long or no text.
-pub(crate) fn without_text(page: &mut [u8], kept: &mut [u8], state: State, words: &[u8]) -> State {
-    let file = state.file;
-    if file.end_line > 0 {
-        return ending::after_end(page, kept, state);
+pub(crate) fn without_text(state: State, form: usize) -> State {
+    if state.file.end_line > 0 {
+        return ending::after_end(state);
     }
-    if file.named | file.numbered {
-        return plainly_wrong(page, kept, state, words);
+    if state.file.named | state.file.numbered {
+        return state.plainly_wrong(form);
     }
-    unread(page, kept, state, words, b"")
+    state.unread(form, b"")
 }

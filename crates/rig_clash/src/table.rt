@@ -1,4 +1,5 @@
 // The table: a row for each load.
+use crate::board::before;
 use crate::columns::cut;
 use crate::columns::fit;
 use crate::contenders;
@@ -6,27 +7,29 @@ use crate::contenders::Style;
 use crate::kept;
 use crate::load::Load;
 use crate::outcome::Outcome;
+use crate::phrase;
+use crate::phrase::either;
+use crate::phrase::line_of;
+use crate::phrase::put_numbers;
 use crate::refusals;
+use rig_lines::console::PAGE;
 use rig_lines::console::begin;
-use rig_lines::console::put_form;
 use rig_lines::console::put_padded;
 use rig_lines::console::put_spaces;
 use text::put_byte;
 use text::put_bytes;
 use verdict::Verdict;
 
-// The columns: a load's name, its name and title, the winner, the bytes, the verdict.
+// The columns: a load's name, its name and title, the winner, the verdict.
 const NAME: usize = 10;
 
 const LOAD: usize = 25;
 
 const WINNER: usize = 9;
 
-const BYTES: usize = 5;
-
 const VERDICT: usize = 36;
 
-pub(crate) fn put_header(page: &mut [u8], at: usize) -> usize {
+pub(crate) fn put_header(page: &mut [u8; PAGE], at: usize) -> usize {
     put_bytes(
         page,
         at,
@@ -35,7 +38,7 @@ pub(crate) fn put_header(page: &mut [u8], at: usize) -> usize {
 }
 
 // The load's name and title, after the mark of a load to see.
-fn put_load(page: &mut [u8], at: usize, kept: &[u8], marked: bool) -> usize {
+fn put_load(page: &mut [u8; PAGE], at: usize, kept: &[u8], marked: bool) -> usize {
     let start = put_mark(page, at, marked);
     let name = put_padded(page, start, kept::name(kept), NAME);
     let title = put_title(page, name, kept::title(kept));
@@ -43,14 +46,11 @@ fn put_load(page: &mut [u8], at: usize, kept: &[u8], marked: bool) -> usize {
     put_byte(page, fitted, b' ')
 }
 
-fn put_mark(page: &mut [u8], at: usize, marked: bool) -> usize {
-    if marked {
-        return put_bytes(page, at, b"! ");
-    }
-    put_bytes(page, at, b"  ")
+fn put_mark(page: &mut [u8; PAGE], at: usize, marked: bool) -> usize {
+    put_bytes(page, at, line_of(b"  \n! ", marked as usize))
 }
 
-fn put_title(page: &mut [u8], at: usize, title: &[u8]) -> usize {
+pub(crate) fn put_title(page: &mut [u8; PAGE], at: usize, title: &[u8]) -> usize {
     if title.len() == 0 {
         return at;
     }
@@ -59,26 +59,38 @@ fn put_title(page: &mut [u8], at: usize, title: &[u8]) -> usize {
 }
 
 // No winner and no bytes.
-fn put_none(page: &mut [u8], at: usize) -> usize {
+fn put_none(page: &mut [u8; PAGE], at: usize) -> usize {
     put_bytes(page, at, b"-             - ")
 }
 
-fn left(used: usize) -> usize {
-    if used < BYTES { BYTES - used } else { 0 }
+// One number less another, and no less than 0.
+fn less(a: usize, b: usize) -> usize {
+    if a > b { a - b } else { 0 }
+}
+
+// The spaces before two numbers of one or two digits, which the column is wide enough for.
+fn indent(count: usize, length: usize) -> usize {
+    if (count > 9) & (length > 9) {
+        return 0;
+    }
+    either((count > 9) | (length > 9), 1, 2)
 }
 
 // The bytes carried, of how many, to the right.
-fn put_ratio(page: &mut [u8], at: usize, outcome: Outcome) -> usize {
-    let mut room = [0u8; BYTES];
-    let numbers = [outcome.count as u64, outcome.length as u64];
-    let used = put_form(&mut room, 0, b"#/#", &numbers);
-    let start = put_spaces(page, at, left(used));
-    let ratio = put_bytes(page, start, &room[..used]);
-    put_byte(page, ratio, b' ')
+fn put_ratio(page: &mut [u8; PAGE], at: usize, outcome: Outcome) -> usize {
+    let start = put_spaces(page, at, indent(outcome.count, outcome.length));
+    let numbers = [outcome.count as u64, outcome.length as u64, 0, 0];
+    put_numbers(page, start, b"#/# ", numbers)
 }
 
 // Who is still in, and how much of the message was carried.
-fn put_winner(page: &mut [u8], at: usize, kept: &[u8], load: Load, outcome: Outcome) -> usize {
+fn put_winner(
+    page: &mut [u8; PAGE],
+    at: usize,
+    kept: &[u8],
+    load: Load,
+    outcome: Outcome,
+) -> usize {
     let style = Style {
         named: load.named,
         spaced: false,
@@ -89,7 +101,13 @@ fn put_winner(page: &mut [u8], at: usize, kept: &[u8], load: Load, outcome: Outc
     put_ratio(page, space, outcome)
 }
 
-fn put_middle(page: &mut [u8], at: usize, kept: &[u8], load: Load, outcome: Outcome) -> usize {
+fn put_middle(
+    page: &mut [u8; PAGE],
+    at: usize,
+    kept: &[u8],
+    load: Load,
+    outcome: Outcome,
+) -> usize {
     let verdict = outcome.verdict;
     match verdict {
         Verdict::Refused(_) => put_none(page, at),
@@ -98,51 +116,57 @@ fn put_middle(page: &mut [u8], at: usize, kept: &[u8], load: Load, outcome: Outc
     }
 }
 
-fn put_sent(page: &mut [u8], at: usize, load: Load) -> usize {
-    let sent = put_bytes(page, at, b"sent");
-    if load.ack_line > 0 {
-        return sent;
-    }
-    put_bytes(page, sent, b", no ack line")
+fn put_sent(page: &mut [u8; PAGE], at: usize, load: Load) -> usize {
+    put_bytes(
+        page,
+        at,
+        line_of(b"sent, no ack line\nsent", (load.ack_line > 0) as usize),
+    )
 }
 
-fn put_cut(page: &mut [u8], at: usize, outcome: Outcome) -> usize {
-    let numbers = [before(outcome.count), outcome.last as u64];
-    let cut = put_form(page, at, b"CUT at byte # (%), ", &numbers);
-    if outcome.count < outcome.length {
-        let rest = outcome.length - outcome.count;
-        return put_form(page, cut, b"# not sent", &[rest as u64]);
-    }
-    put_bytes(page, cut, b"the last")
+fn put_cut(page: &mut [u8; PAGE], at: usize, outcome: Outcome) -> usize {
+    let rest = less(outcome.length, outcome.count) as u64;
+    let numbers = [before(outcome.count), outcome.last as u64, rest, 0];
+    let words = b"CUT at byte # (%), the last\nCUT at byte # (%), # not sent";
+    put_numbers(page, at, line_of(words, (rest > 0) as usize), numbers)
 }
 
-fn before(count: usize) -> u64 {
-    if count > 0 { (count - 1) as u64 } else { 0 }
-}
-
-fn put_undecided(page: &mut [u8], at: usize, kept: &[u8], load: Load, outcome: Outcome) -> usize {
+fn put_undecided(
+    page: &mut [u8; PAGE],
+    at: usize,
+    kept: &[u8],
+    load: Load,
+    outcome: Outcome,
+) -> usize {
     let style = Style {
         named: load.named,
         spaced: true,
     };
-    let byte = put_form(page, at, b"UNDECIDED at byte #: ", &[before(outcome.count)]);
+    let numbers = [before(outcome.count), 0, 0, 0];
+    let byte = put_numbers(page, at, b"UNDECIDED at byte #: ", numbers);
     contenders::put_all(page, byte, kept, load, outcome, style)
 }
 
 fn put_refused(
-    page: &mut [u8],
+    page: &mut [u8; PAGE],
     at: usize,
     kept: &[u8],
     load: Load,
     number: u8,
     place: usize,
 ) -> usize {
-    let word = put_form(page, at, b"REFUSED #: ", &[number as u64]);
+    let word = put_numbers(page, at, b"REFUSED #: ", [number as u64, 0, 0, 0]);
     refusals::put_words(page, word, kept, load, number, place, true)
 }
 
 // The verdict of a load that went as expected.
-fn put_expected(page: &mut [u8], at: usize, kept: &[u8], load: Load, outcome: Outcome) -> usize {
+fn put_expected(
+    page: &mut [u8; PAGE],
+    at: usize,
+    kept: &[u8],
+    load: Load,
+    outcome: Outcome,
+) -> usize {
     let verdict = outcome.verdict;
     match verdict {
         Verdict::Refused(number) => put_refused(page, at, kept, load, number, outcome.place),
@@ -153,10 +177,15 @@ fn put_expected(page: &mut [u8], at: usize, kept: &[u8], load: Load, outcome: Ou
 }
 
 // What was expected; where it was sent there is no more to say.
-fn put_unexpected(page: &mut [u8], at: usize, kept: &[u8], load: Load, outcome: Outcome) -> usize {
-    let word = put_bytes(page, at, b"EXPECTED ");
-    let name = put_bytes(page, word, kept::board_name(kept, load.winner));
-    let ratio = put_form(page, name, b" #/#", &[load.carried, load.length]);
+fn put_unexpected(
+    page: &mut [u8; PAGE],
+    at: usize,
+    kept: &[u8],
+    load: Load,
+    outcome: Outcome,
+) -> usize {
+    let numbers = [load.carried, load.length, 0, 0];
+    let ratio = phrase::put(page, at, kept, b"EXPECTED $ #/#", load.winner, numbers);
     let verdict = outcome.verdict;
     if let Verdict::Sent(_) = verdict {
         return ratio;
@@ -165,7 +194,13 @@ fn put_unexpected(page: &mut [u8], at: usize, kept: &[u8], load: Load, outcome: 
     put_expected(page, next, kept, load, outcome)
 }
 
-fn put_verdict(page: &mut [u8], at: usize, kept: &[u8], load: Load, outcome: Outcome) -> usize {
+fn put_verdict(
+    page: &mut [u8; PAGE],
+    at: usize,
+    kept: &[u8],
+    load: Load,
+    outcome: Outcome,
+) -> usize {
     if outcome.expected | outcome.is_refused() {
         return put_expected(page, at, kept, load, outcome);
     }
@@ -174,7 +209,7 @@ fn put_verdict(page: &mut [u8], at: usize, kept: &[u8], load: Load, outcome: Out
 
 // The row of a load that was rehearsed.
 pub(crate) fn put_row(
-    page: &mut [u8],
+    page: &mut [u8; PAGE],
     at: usize,
     kept: &[u8],
     load: Load,
@@ -189,7 +224,7 @@ pub(crate) fn put_row(
 }
 
 // The row of a load in error.
-pub(crate) fn put_broken(page: &mut [u8], at: usize, kept: &[u8]) -> usize {
+pub(crate) fn put_broken(page: &mut [u8; PAGE], at: usize, kept: &[u8]) -> usize {
     let start = begin(page, at);
     let front = put_load(page, start, kept, true);
     let middle = put_none(page, front);

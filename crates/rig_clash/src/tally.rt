@@ -1,12 +1,17 @@
 // How the loads went, counted over all files, and the last two lines.
+use crate::kept::ROOM;
+use crate::phrase::line_of;
+use crate::phrase::put_numbers;
 use crate::seen;
+use rig_lines::console::PAGE;
 use rig_lines::console::begin;
-use rig_lines::console::put_count;
-use rig_lines::console::put_form;
 use rig_lines::numbers::more;
 use text::put_byte;
 use text::put_bytes;
 use verdict::Verdict;
+
+// How many items the last line may have.
+const ITEMS: usize = 9;
 
 pub(crate) struct Tally {
     pub(crate) loads: u64,
@@ -78,11 +83,8 @@ impl Tally {
     }
 
     fn with_sent(mut self, expected: bool) -> Tally {
-        if expected {
-            self.sent = more(self.sent);
-        } else {
-            self.unexpected = more(self.unexpected);
-        }
+        self.sent = counted(self.sent, expected);
+        self.unexpected = counted(self.unexpected, !expected);
         self
     }
 
@@ -102,15 +104,15 @@ impl Tally {
         }
     }
 
-    // It had no ack line, and was not refused.
-    pub(crate) fn with_unacked(mut self) -> Tally {
-        self.unacked = more(self.unacked);
+    // It may have had no ack line, where it was not refused.
+    pub(crate) fn with_unacked(mut self, unacked: bool) -> Tally {
+        self.unacked = counted(self.unacked, unacked);
         self
     }
 
-    // Corrections were laid over it.
-    pub(crate) fn with_corrected(mut self) -> Tally {
-        self.corrected = more(self.corrected);
+    // Corrections may have been laid over it.
+    pub(crate) fn with_corrected(mut self, corrected: bool) -> Tally {
+        self.corrected = counted(self.corrected, corrected);
         self
     }
 
@@ -119,7 +121,7 @@ impl Tally {
     }
 
     // A load to see: its name is kept for the last line but one, as long as there is room.
-    pub(crate) fn with_seen(mut self, kept: &mut [u8]) -> Tally {
+    pub(crate) fn with_seen(mut self, kept: &mut [u8; ROOM]) -> Tally {
         if (self.others > 0) | !seen::fits(kept) {
             self.others = more(self.others);
             return self;
@@ -132,24 +134,36 @@ impl Tally {
     fn needs_look(self) -> bool {
         (self.cut > 0) | (self.undecided > 0) | (self.unexpected > 0)
     }
+
+    // How it went, from the best to the worst: well, with something to look at, with a refusal or with an error.
+    fn word(self) -> usize {
+        if (self.broken > 0) | (self.faults > 0) {
+            return 3;
+        }
+        if self.refused > 0 {
+            return 2;
+        }
+        self.needs_look() as usize
+    }
 }
 
-// The first word of the last line.
-fn put_word(page: &mut [u8], at: usize, tally: Tally) -> usize {
-    if (tally.broken > 0) | (tally.faults > 0) {
-        return put_bytes(page, at, b"error ");
+// One more, where it counts.
+fn counted(count: u64, counts: bool) -> u64 {
+    if counts {
+        return more(count);
     }
-    if tally.refused > 0 {
-        return put_form(page, at, b"refused #: ", &[tally.number as u64]);
-    }
-    if tally.needs_look() {
-        return put_bytes(page, at, b"look ");
-    }
-    put_bytes(page, at, b"ok ")
+    count
+}
+
+// The first word of the last line, and the loads.
+fn put_word(page: &mut [u8; PAGE], at: usize, tally: Tally) -> usize {
+    let words = line_of(b"ok \nlook \nrefused #: \nerror ", tally.word());
+    let word = put_numbers(page, at, words, [tally.number as u64, 0, 0, 0]);
+    put_numbers(page, word, b"# load~: ", [tally.loads, 0, 0, 0])
 }
 
 // What stands between the items of a list that begins at a position: nothing in front of the first.
-pub(crate) fn put_between(page: &mut [u8], from: usize, at: usize) -> usize {
+pub(crate) fn put_between(page: &mut [u8; PAGE], from: usize, at: usize) -> usize {
     if at > from {
         return put_bytes(page, at, b", ");
     }
@@ -157,63 +171,57 @@ pub(crate) fn put_between(page: &mut [u8], from: usize, at: usize) -> usize {
 }
 
 // An item of the list, where there is something to count.
-fn put_item(page: &mut [u8], from: usize, at: usize, count: u64, words: &[u8]) -> usize {
+fn put_item(page: &mut [u8; PAGE], from: usize, at: usize, count: u64, words: &[u8]) -> usize {
     if count == 0 {
         return at;
     }
     let next = put_between(page, from, at);
-    put_form(page, next, words, &[count])
+    put_numbers(page, next, words, [count, 0, 0, 0])
 }
 
-fn put_faults(page: &mut [u8], from: usize, at: usize, faults: u64) -> usize {
-    if faults == 0 {
-        return at;
+// The items of the list, each with its words, which stand in a line each.
+fn put_items(page: &mut [u8; PAGE], from: usize, counts: [u64; ITEMS], words: &[u8]) -> usize {
+    let mut next = from;
+    let mut item: usize = 0;
+    while item < ITEMS {
+        next = put_item(page, from, next, counts[item], line_of(words, item));
+        item += 1;
     }
-    let next = put_between(page, from, at);
-    let count = put_count(page, next, faults, b"fault");
-    put_bytes(page, count, b" outside the loads")
+    next
 }
 
-// What was rehearsed and not refused.
-fn put_rehearsed(page: &mut [u8], from: usize, tally: Tally) -> usize {
-    let sent = put_item(page, from, from, tally.sent, b"# sent");
-    let cut = put_item(page, from, sent, tally.cut, b"# cut");
-    let undecided = put_item(page, from, cut, tally.undecided, b"# undecided");
-    put_item(
+// What was rehearsed, and what else there was.
+fn put_counts(page: &mut [u8; PAGE], from: usize, tally: Tally) -> usize {
+    let counts = [
+        tally.sent,
+        tally.cut,
+        tally.undecided,
+        tally.unexpected,
+        tally.refused,
+        tally.broken,
+        tally.unacked,
+        tally.corrected,
+        tally.faults,
+    ];
+    put_items(
         page,
         from,
-        undecided,
-        tally.unexpected,
-        b"# not as expected",
+        counts,
+        b"# sent\n# cut\n# undecided\n# not as expected\n# refused\n# in error\n\
+        # without an ack line\n# corrected\n# fault~ outside the loads",
     )
 }
 
-// And what else there was.
-fn put_others(page: &mut [u8], from: usize, at: usize, tally: Tally) -> usize {
-    let refused = put_item(page, from, at, tally.refused, b"# refused");
-    let broken = put_item(page, from, refused, tally.broken, b"# in error");
-    let unacked = put_item(page, from, broken, tally.unacked, b"# without an ack line");
-    let corrected = put_item(page, from, unacked, tally.corrected, b"# corrected");
-    put_faults(page, from, corrected, tally.faults)
-}
-
-fn put_loads(page: &mut [u8], at: usize, tally: Tally) -> usize {
-    let start = begin(page, at);
-    let word = put_word(page, start, tally);
-    let loads = put_count(page, word, tally.loads, b"load");
-    put_bytes(page, loads, b": ")
-}
-
 // The last line.
-pub(crate) fn put_last(page: &mut [u8], at: usize, tally: Tally) -> usize {
-    let from = put_loads(page, at, tally);
-    let rehearsed = put_rehearsed(page, from, tally);
-    let end = put_others(page, from, rehearsed, tally);
+pub(crate) fn put_last(page: &mut [u8; PAGE], at: usize, tally: Tally) -> usize {
+    let start = begin(page, at);
+    let from = put_word(page, start, tally);
+    let end = put_counts(page, from, tally);
     put_byte(page, end, b'\n')
 }
 
 // The line before it, where there are loads to see.
-pub(crate) fn put_seen(page: &mut [u8], at: usize, kept: &[u8], tally: Tally) -> usize {
+pub(crate) fn put_seen(page: &mut [u8; PAGE], at: usize, kept: &[u8], tally: Tally) -> usize {
     let names = seen::names(kept);
     if names.len() == 0 {
         return at;
@@ -221,13 +229,12 @@ pub(crate) fn put_seen(page: &mut [u8], at: usize, kept: &[u8], tally: Tally) ->
     let start = begin(page, at);
     let word = put_bytes(page, start, b"see");
     let all = put_bytes(page, word, names);
-    let end = put_more(page, all, tally.others);
-    put_byte(page, end, b'\n')
+    put_more(page, all, tally.others)
 }
 
-fn put_more(page: &mut [u8], at: usize, others: u64) -> usize {
+fn put_more(page: &mut [u8; PAGE], at: usize, others: u64) -> usize {
     if others == 0 {
-        return at;
+        return put_byte(page, at, b'\n');
     }
-    put_form(page, at, b" and # more", &[others])
+    put_numbers(page, at, b" and # more\n", [others, 0, 0, 0])
 }

@@ -5,30 +5,39 @@ use crate::kept::ACKS;
 use crate::kept::ACKS_AT;
 use crate::order::byte_at;
 use crate::outcome::recorded;
+use crate::phrase;
+use crate::phrase::either;
+use crate::phrase::line_of;
+use rig_lines::console::PAGE;
 use rig_lines::console::begin;
 use rig_lines::parts;
 use text::put_byte;
 use text::put_bytes;
-use text::put_hex_byte;
 
-fn put_between(page: &mut [u8], at: usize, first: bool) -> usize {
-    if first {
-        return at;
+// The words about a byte with an acknowledge: all but the first have a comma.
+fn form_of(ack: u8, i: usize) -> usize {
+    if i > 0 {
+        return either(ack == 0, 3, 2);
     }
-    put_bytes(page, at, b", ")
+    either(ack == 0, 1, 0)
 }
 
 // A byte that was carried, and its acknowledge.
-fn put_byte_at(page: &mut [u8], at: usize, carried: &[u8], acks: &[u8], i: usize) -> usize {
-    let next = put_between(page, at, i == 0);
-    let byte = put_hex_byte(page, next, byte_at(carried, i));
-    if byte_at(acks, i) == 0 {
-        return put_bytes(page, byte, b" ACK");
-    }
-    put_bytes(page, byte, b" NACK")
+fn put_byte_at(page: &mut [u8; PAGE], at: usize, carried: &[u8], acks: &[u8], i: usize) -> usize {
+    let words = line_of(
+        b"% NACK\n% ACK\n, % NACK\n, % ACK",
+        form_of(byte_at(acks, i), i),
+    );
+    phrase::put_numbers(page, at, words, [byte_at(carried, i) as u64, 0, 0, 0])
 }
 
-fn put_carried(page: &mut [u8], at: usize, carried: &[u8], acks: &[u8], count: usize) -> usize {
+fn put_carried(
+    page: &mut [u8; PAGE],
+    at: usize,
+    carried: &[u8],
+    acks: &[u8],
+    count: usize,
+) -> usize {
     let mut next = at;
     let mut i: usize = 0;
     while i < count {
@@ -72,7 +81,7 @@ fn mark_at(levels: &[u8], at: usize, sda: bool) -> u8 {
     b'?'
 }
 
-fn put_marks(page: &mut [u8], at: usize, levels: &[u8], sda: bool) -> usize {
+fn put_marks(page: &mut [u8; PAGE], at: usize, levels: &[u8], sda: bool) -> usize {
     let mut next = at;
     let mut i = 0;
     while i < levels.len() {
@@ -83,7 +92,7 @@ fn put_marks(page: &mut [u8], at: usize, levels: &[u8], sda: bool) -> usize {
 }
 
 // A line of the bus.
-fn put_signal(page: &mut [u8], at: usize, name: &[u8], levels: &[u8], sda: bool) -> usize {
+fn put_signal(page: &mut [u8; PAGE], at: usize, name: &[u8], levels: &[u8], sda: bool) -> usize {
     let start = begin(page, at);
     let word = put_bytes(page, start, name);
     let marks = put_marks(page, word, levels, sda);
@@ -92,7 +101,7 @@ fn put_signal(page: &mut [u8], at: usize, name: &[u8], levels: &[u8], sda: bool)
 
 // What the bus carried in a rehearsal of so many bytes.
 pub(crate) fn put(
-    page: &mut [u8],
+    page: &mut [u8; PAGE],
     at: usize,
     kept: &[u8],
     count: usize,
@@ -100,8 +109,7 @@ pub(crate) fn put(
     levels: &[u8],
 ) -> usize {
     let acks = kept::part(kept, ACKS_AT, ACKS);
-    let start = begin(page, at);
-    let word = put_bytes(page, start, b"  carried ");
+    let word = phrase::put_line(page, at, kept, b"  carried ", 0, [0; 4]);
     let bytes = put_carried(page, word, carried, acks, count);
     let next = put_byte(page, bytes, b'\n');
     let size = parts::bytes(recorded(count), levels);

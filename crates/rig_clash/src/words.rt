@@ -1,4 +1,5 @@
 // The bytes and the acknowledges of a load's lines.
+use check::same;
 use load_text::Byte;
 use load_text::acknowledge_in;
 use load_text::byte_in;
@@ -36,6 +37,11 @@ fn value(kind: Kind, word: &[u8]) -> u8 {
         Byte::Of(b) => b,
         Byte::No => 0,
     }
+}
+
+// `-` stands for no bytes, or for standard input.
+pub(crate) fn is_dash(word: &[u8]) -> bool {
+    same(word, b"-")
 }
 
 // The first word that is not of the kind, empty where all are.

@@ -2,3 +2,4 @@ pub mod Words
 pub mod Forms
 pub mod Storing
 pub mod Taking
+pub mod Gathering

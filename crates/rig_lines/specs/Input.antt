@@ -8,6 +8,7 @@ use lib.Dec.{eqb, leb}
 use lib.IntN.{ℤ}
 use lib.ListN.{length, getD, take}
 use lib.Seq.{sets}
+use Rattle.laws.specs.Buffer.{filled}
 use Rattle.text.specs.Words.{runLength}
 use Rattle.rig_lines.specs.Bytes.{plain, every}
 use Rattle.rig_lines.specs.Numbers.{largest, oneMore}
@@ -17,6 +18,7 @@ use Rattle.rig_lines.specs.declared.input.Next.{Next}
 use Rattle.rig_lines.specs.declared.input.Next.the-variants.{Byte, End as NoByte}
 use Rattle.rig_lines.specs.declared.input.Source.{Source}
 use Rattle.rig_lines.specs.declared.input.Taken.{Taken}
+use Rattle.rig_lines.specs.declared.input.Gathered.{Gathered}
 
 -- a source that nothing is read from yet
 abbrev pub begun : ℤ → ℕ → Source
@@ -114,6 +116,13 @@ pub data Took (piece line : List ℕ) (s : Source) (piece′ line′ : List ℕ)
   endless : (bytes : List ℕ) → length bytes ≡ largest → line′ ≡ sets line 0 bytes
       → Fed piece (nextNumber s) bytes piece′ (taken .source)
       → taken .line ≡ TooLong → Took piece line s piece′ line′ taken
+
+-- Taking all that is left: the bytes that the source handed on, up to the end of the input or as many as there is room for.
+pub data TookAll (piece text : List ℕ) (s : Source) (piece′ text′ : List ℕ) (r : Gathered) : Type 0 where
+  ended : (bytes : List ℕ) → length bytes ≤ length text → text′ ≡ filled bytes text → r .count ≡ length bytes
+      → Fed piece s bytes piece′ (r .source) → Spent piece′ (r .source) → TookAll piece text s piece′ text′ r
+  full : (bytes : List ℕ) → length bytes ≡ length text → text′ ≡ bytes → r .count ≡ length bytes
+      → Fed piece s bytes piece′ (r .source) → TookAll piece text s piece′ text′ r
 
 -- where a comment begins, or the length of a line that has none
 abbrev pub commentAt : List ℕ → ℕ

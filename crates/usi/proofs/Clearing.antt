@@ -10,12 +10,14 @@ use Rattle.laws.proofs.Search.{all-below}
 use Rattle.usi_registers.specs.Registers.{USICTL0, USICTL1, USICKCTL, USICNT, USISRL, USISRH, USIFLAGS}
 use Rattle.usi_registers.specs.Rules as setUp
 use Rattle.usi_registers.specs.Rules.{cleared}
+use Rattle.usi_spi.specs.Rules.{follows}
 use Rattle.usi.specs.declared.Usi.{Usi}
 use Rattle.usi.specs.declared.Step.{Step}
 use Rattle.usi.specs.declared.Step.the-variants.{Next, Refused}
-use Rattle.usi.specs.Module.{fits, atRest, withUSICTL0, withUSICKCTL, withUSISRL}
-use Rattle.usi.specs.Step.{refusal, moduleOf, andThen, latched, followed, settled, writeByte, odd, writeWord}
-use Rattle.usi.specs.Step.{answered, written, writtenWord}
+use Rattle.usi.specs.Module.{fits, fitsSpi, atRest, withUSICTL0, withUSICKCTL, withUSISRL}
+use Rattle.usi.specs.Spi as spi
+use Rattle.usi.specs.Step.{refusal, moduleOf, andThen, latched, followed, kept, settled, writeByte, odd, writeWord}
+use Rattle.usi.specs.Step.{answered, written, writtenWord, overruns, ticked, tick}
 
 -- what stays is not cleared
 pub same-clears-none : (flags : ℕ) → flags < 256 → cleared flags flags ≡ 0
@@ -28,15 +30,46 @@ pub refused-clears-none : (u : Usi) (number : ℕ) → u .usictl1 < 256
 refused-clears-none u number small = same-clears-none (u .usictl1) small
 
 -- the hidden state settles, USICTL1 stays
-settled-keeps : (u : Usi) → settled u .usictl1 ≡ u .usictl1
-unfolding settled followed
-settled-keeps u = go (fits u) (setUp.transparent (u .usictl0))
-  where
-    go : (fitting follows : Bool)
-        → cond fitting (cond follows (latched u) u) (atRest u) .usictl1 ≡ u .usictl1
-    go true true = refl
-    go true false = refl
-    go false follows = refl
+chosen-keeps : (test : Bool) (u v w : Usi) → v .usictl1 ≡ u .usictl1 → w .usictl1 ≡ u .usictl1
+    → cond test v w .usictl1 ≡ u .usictl1
+chosen-keeps true u v w first second = first
+chosen-keeps false u v w first second = second
+
+kept-keeps : (same : Bool) (u : Usi) → kept same u .usictl1 ≡ u .usictl1
+kept-keeps same u = chosen-keeps same u u (atRest u) refl refl
+
+followed-keeps : (u : Usi) → followed u .usictl1 ≡ u .usictl1
+unfolding followed
+followed-keeps u = chosen-keeps (setUp.transparent (u .usictl0)) u (latched u) u refl refl
+
+followed-spi-keeps : (u : Usi) → spi.followed u .usictl1 ≡ u .usictl1
+unfolding spi.followed
+followed-spi-keeps u =
+    chosen-keeps (follows (u .usictl0) (u .usictl1) (u .usickctl) (u .usicnt) (u .seen) (u .scl)) u (spi.latched u) u
+    refl refl
+
+settled-keeps : (before u : Usi) → settled before u .usictl1 ≡ u .usictl1
+unfolding settled
+settled-keeps before u =
+    chosen-keeps (fits u) u _ _
+    (followed-keeps (kept (fits before) u) ∙ kept-keeps (fits before) u)
+    (chosen-keeps (fitsSpi u) u _ _
+    (followed-spi-keeps (kept (fitsSpi before) u) ∙ kept-keeps (fitsSpi before) u) refl)
+
+-- a tick sets and clears no flag
+abbrev Keeps : Usi → Step → Type 0
+Keeps u step = moduleOf step .usictl1 ≡ u .usictl1
+
+either-keeps : (test : Bool) (u : Usi) (one two : Step) → Keeps u one → Keeps u two → Keeps u (cond test one two)
+either-keeps true u one two first second = first
+either-keeps false u one two first second = second
+
+pub tick-flags : (u : Usi) → Keeps u (tick u)
+unfolding tick
+tick-flags u =
+    either-keeps (fits u) u _ _
+    (either-keeps (overruns u) u (Refused 17 u) (Next (ticked u)) refl (followed-keeps _))
+    (either-keeps (fitsSpi u) u (Next (spi.ticked u)) (Refused 3 u) (followed-spi-keeps _) refl)
 
 -- a low byte that leaves USICTL1 as it was adds nothing
 joined : (first middle last : ℕ) → first < 256 → middle ≡ first
@@ -61,9 +94,9 @@ pub word-joins : (u : Usi) (value : ℕ) → u .usictl1 < 256
     → Joins u USICTL0 value × Joins u USICKCTL value × Joins u USISRL value
 unfolding writeWord writeByte
 word-joins u value small = (
-  joined (u .usictl1) _ _ small (settled-keeps (withUSICTL0 (value % 256) u)),
-  joined (u .usictl1) _ _ small (settled-keeps (withUSICKCTL (value % 256) u)),
-  joined (u .usictl1) _ _ small (settled-keeps (withUSISRL (value % 256) u)),
+  joined (u .usictl1) _ _ small (settled-keeps u (withUSICTL0 (value % 256) u)),
+  joined (u .usictl1) _ _ small (settled-keeps u (withUSICKCTL (value % 256) u)),
+  joined (u .usictl1) _ _ small (settled-keeps u (withUSISRL (value % 256) u)),
 )
 
 -- the answer's numbers are small: a refusal of a write is 1 or 2, and four flags can be cleared

@@ -1,6 +1,6 @@
 pub mod Registers
 pub mod Cases
 pub mod SetUp
-pub mod Following
+pub mod SpiSetUp
 pub mod Resting
 pub mod Clearing

@@ -1,4 +1,4 @@
--- While the set-up doesn't fit the hidden state rests, after power-up and after every step; a refused step changes nothing.
+-- While neither set-up fits the hidden state rests, after power-up and after every step; a refused step changes nothing.
 -- (That reading changes nothing follows from the types: a read answers a `Read`, which holds no module.)
 use mathlib.Core.Path.{_≡_, refl, _∙_, sym, ap, subst}
 use mathlib.Core.Bool.{Bool, true, false, cond, true≢false}
@@ -10,17 +10,19 @@ use Rattle.usi_registers.specs.Registers.{USICTL0, USICTL1, USICKCTL, USICNT, U
 use Rattle.usi.specs.declared.Usi.{Usi}
 use Rattle.usi.specs.declared.Step.{Step}
 use Rattle.usi.specs.declared.Step.the-variants.{Next, Refused}
-use Rattle.usi.specs.Module.{powerUp, atRest, fits}
-use Rattle.usi.specs.Step.{refusal, moduleOf, andThen, followed, settled, writeByte, odd, writeWord, sampled}
-use Rattle.usi.specs.Step.{sample, ticked, overruns, tick}
+use Rattle.usi.specs.Module.{powerUp, atRest, fits, fitsSpi}
+use Rattle.usi.specs.Spi as spiSteps
+use Rattle.usi.specs.Step.{refusal, moduleOf, andThen, followed, kept, settled, writeByte, odd, writeWord, sampled}
+use Rattle.usi.specs.Step.{sample, ticked, overruns, tickI2c, tick}
 use Rattle.usi.proofs.Registers.{writes-nothing}
 use Rattle.usi.proofs.SetUp.{followed-fits, sampled-fits, ticked-fits}
+use Rattle.usi.proofs.SpiSetUp.{alike-fits, followed-alike, sampled-alike, ticked-alike}
 
--- where the set-up doesn't fit, the hidden state is at rest
+-- where neither set-up fits, the hidden state is at rest
 abbrev pub Resting : Usi → Type 0
-Resting u = fits u ≡ false → atRest u ≡ u
+Resting u = fits u ≡ false → fitsSpi u ≡ false → atRest u ≡ u
 
--- a step from u that, refused, hands back u, and leaves the hidden state at rest where the set-up doesn't fit
+-- a step from u that, refused, hands back u, and leaves the hidden state at rest where neither set-up fits
 pub record Sound (u : Usi) (s : Step) : Type 0 where
   pub kept : (refusal s ≡ 0 → ⊥) → moduleOf s ≡ u
   pub rests : Resting u → Resting (moduleOf s)
@@ -36,29 +38,47 @@ sound-cond u true s t p q = p
 sound-cond u false s t p q = q
 
 pub powerUp-rests : (low high : ℕ) → Resting (powerUp low high)
-powerUp-rests low high = λ _. refl
+powerUp-rests low high = λ _ _. refl
 
 -- a module that fits rests vacuously
 fitting-rests : (u : Usi) → fits u ≡ true → Resting u
-fitting-rests u fitting = λ unfit. absurd (true≢false (sym fitting ∙ unfit))
+fitting-rests u fitting = λ unfit _. absurd (true≢false (sym fitting ∙ unfit))
 
-settled-rests : (u : Usi) → Resting (settled u)
+fitting-spi-rests : (u : Usi) → fitsSpi u ≡ true → Resting u
+fitting-spi-rests u fitting = λ _ unfit. absurd (true≢false (sym fitting ∙ unfit))
+
+pub kept-fits : (same : Bool) (u : Usi) → fits (kept same u) ≡ fits u
+kept-fits true u = refl
+kept-fits false u = refl
+
+kept-fits-spi : (same : Bool) (u : Usi) → fitsSpi (kept same u) ≡ fitsSpi u
+kept-fits-spi true u = refl
+kept-fits-spi false u = refl
+
+settled-rests : (before u : Usi) → Resting (settled before u)
 unfolding settled
-settled-rests u = either (fits u) refl
+settled-rests before u = either (fits u) (fitsSpi u) refl refl
   where
-    either : (fitting : Bool) → fits u ≡ fitting → Resting (cond fitting (followed u) (atRest u))
-    either true e = fitting-rests (followed u) (followed-fits u ∙ e)
-    either false e = λ _. refl
+    either : (i2c spi : Bool) → fits u ≡ i2c → fitsSpi u ≡ spi
+        → Resting (cond i2c (followed (kept (fits before) u))
+        (cond spi (spiSteps.followed (kept (fitsSpi before) u)) (atRest u)))
+    either true spi e f =
+        fitting-rests (followed (kept (fits before) u))
+        (followed-fits (kept (fits before) u) ∙ kept-fits (fits before) u ∙ e)
+    either false true e f =
+        fitting-spi-rests (spiSteps.followed (kept (fitsSpi before) u))
+        (alike-fits (followed-alike (kept (fitsSpi before) u)) ∙ kept-fits-spi (fitsSpi before) u ∙ f)
+    either false false e f = λ _ _. refl
 
 pub write-sound : (u : Usi) (address value : ℕ) → Sound u (writeByte u address value)
 unfolding writeByte
 write-sound u address value =
-    sound-cond u (eqb address USICTL0) _ _ (sound-next u _ (settled-rests _))
-    (sound-cond u (eqb address USICTL1) _ _ (sound-next u _ (settled-rests _))
-    (sound-cond u (eqb address USICKCTL) _ _ (sound-next u _ (settled-rests _))
-    (sound-cond u (eqb address USICNT) _ _ (sound-next u _ (settled-rests _))
-    (sound-cond u (eqb address USISRL) _ _ (sound-next u _ (settled-rests _))
-    (sound-cond u (eqb address USISRH) _ _ (sound-next u _ (settled-rests _)) (sound-refused u 1))))))
+    sound-cond u (eqb address USICTL0) _ _ (sound-next u _ (settled-rests _ _))
+    (sound-cond u (eqb address USICTL1) _ _ (sound-next u _ (settled-rests _ _))
+    (sound-cond u (eqb address USICKCTL) _ _ (sound-next u _ (settled-rests _ _))
+    (sound-cond u (eqb address USICNT) _ _ (sound-next u _ (settled-rests _ _))
+    (sound-cond u (eqb address USISRL) _ _ (sound-next u _ (settled-rests _ _))
+    (sound-cond u (eqb address USISRH) _ _ (sound-next u _ (settled-rests _ _)) (sound-refused u 1))))))
 
 -- the two writes of a word
 abbrev both : Usi → ℕ → ℕ → Step
@@ -76,7 +96,7 @@ both-sound u address value even =
 
     third : (address ≡ USICTL0 → ⊥) → (address ≡ USICKCTL → ⊥) → (test : Bool) → eqb address USISRL ≡ test → Sound u
         (both u address value)
-    third p q true e = at USISRL (sound-next u _ (settled-rests _)) (eqb-true address USISRL e)
+    third p q true e = at USISRL (sound-next u _ (settled-rests _ _)) (eqb-true address USISRL e)
     third p q false e =
         subst (λ (s : Step). Sound u (andThen s (λ v. writeByte v (address + 1) (value / 256))))
         (sym (writes-nothing address (eqb-false (address % 2) 1 even) p q (eqb-false address USISRL e) u
@@ -84,11 +104,11 @@ both-sound u address value even =
         (sound-refused u 1)
 
     second : (address ≡ USICTL0 → ⊥) → (test : Bool) → eqb address USICKCTL ≡ test → Sound u (both u address value)
-    second p true e = at USICKCTL (sound-next u _ (settled-rests _)) (eqb-true address USICKCTL e)
+    second p true e = at USICKCTL (sound-next u _ (settled-rests _ _)) (eqb-true address USICKCTL e)
     second p false e = third p (eqb-false address USICKCTL e) (eqb address USISRL) refl
 
     first : (test : Bool) → eqb address USICTL0 ≡ test → Sound u (both u address value)
-    first true e = at USICTL0 (sound-next u _ (settled-rests _)) (eqb-true address USICTL0 e)
+    first true e = at USICTL0 (sound-next u _ (settled-rests _ _)) (eqb-true address USICTL0 e)
     first false e = second (eqb-false address USICTL0 e) (eqb address USICKCTL) refl
 
 pub write-word-sound : (u : Usi) (address value : ℕ) → Sound u (writeWord u address value)
@@ -99,14 +119,16 @@ write-word-sound u address value = either (odd address) refl
     either true e = sound-refused u 2
     either false e = both-sound u address value e
 
--- a step on a fitting set-up, refused by number on another
-fitting-sound : (u v : Usi) (number : ℕ) → (fits u ≡ true → fits v ≡ true) → Sound u
-    (cond (fits u) (Next v) (Refused number u))
-fitting-sound u v number keeps = either (fits u) refl
+-- a step on a module in I2C, one on a module in SPI, and a refusal of any other
+fitting-sound : (u v : Usi) (s : Step) → (fits u ≡ true → Sound u s) → (fitsSpi u ≡ true → fitsSpi v ≡ true) → Sound u
+    (cond (fits u) s (cond (fitsSpi u) (Next v) (Refused 3 u)))
+fitting-sound u v s i2c keeps = either (fits u) (fitsSpi u) refl refl
   where
-    either : (test : Bool) → fits u ≡ test → Sound u (cond test (Next v) (Refused number u))
-    either true e = sound-next u v (fitting-rests v (keeps e))
-    either false e = sound-refused u number
+    either : (one two : Bool) → fits u ≡ one → fitsSpi u ≡ two
+        → Sound u (cond one s (cond two (Next v) (Refused 3 u)))
+    either true two e f = i2c e
+    either false true e f = sound-next u v (fitting-spi-rests v (keeps f))
+    either false false e f = sound-refused u 3
 
 pub sample-sound : (u : Usi) (level : ℕ) → Sound u (sample u level)
 unfolding sample
@@ -114,12 +136,14 @@ sample-sound u level =
     let scl = levels.scl level in
     let sda = levels.sda level in
     sound-cond u (ltb levels.maxLevel level) _ _ (sound-refused u 4)
-    (fitting-sound u (sampled scl sda u) 3 (λ e. sampled-fits scl sda u ∙ e))
+    (fitting-sound u (spiSteps.sampled scl sda u) (Next (sampled scl sda u))
+    (λ e. sound-next u (sampled scl sda u) (fitting-rests (sampled scl sda u) (sampled-fits scl sda u ∙ e)))
+    (λ f. alike-fits (sampled-alike scl sda u) ∙ f))
 
 pub tick-sound : (u : Usi) → Sound u (tick u)
 unfolding tick
-tick-sound u = either (overruns u)
-  where
-    either : (test : Bool) → Sound u (cond (fits u) (cond test (Refused 17 u) (Next (ticked u))) (Refused 3 u))
-    either true = sound-cond u (fits u) (Refused 17 u) (Refused 3 u) (sound-refused u 17) (sound-refused u 3)
-    either false = fitting-sound u (ticked u) 3 (λ e. ticked-fits u ∙ e)
+tick-sound u =
+    fitting-sound u (spiSteps.ticked u) (tickI2c u)
+    (λ e. sound-cond u (overruns u) (Refused 17 u) (Next (ticked u)) (sound-refused u 17)
+    (sound-next u (ticked u) (fitting-rests (ticked u) (ticked-fits u ∙ e))))
+    (λ f. alike-fits (ticked-alike u) ∙ f)

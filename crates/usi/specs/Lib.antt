@@ -1,3 +1,4 @@
 pub mod Module
+pub mod Spi
 pub mod Step
 pub mod Cases

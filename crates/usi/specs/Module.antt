@@ -4,8 +4,11 @@ use mathlib.Core.Bool.{Bool, cond, true, false, _&&_, _||_}
 use Rattle.usi_registers.specs.Registers.{USICTL0-powerUp, USICTL1-powerUp, USICKCTL-powerUp, USICNT-powerUp}
 use Rattle.usi_registers.specs.Rules as setUp
 use Rattle.usi_i2c.specs.Rules as rules
+use Rattle.usi_spi.specs.declared.Driven.the-variants.{Released}
+use Rattle.usi_spi.specs.Rules as spi
 use Rattle.usi.specs.declared.Usi.{Usi}
 use Rattle.usi.specs.declared.Lines.{Lines}
+use Rattle.usi.specs.declared.SpiLines.{SpiLines}
 
 -- Power-up is told the two shift bytes to keep; the hidden state is at rest: latch 1, enable 0, half high, no levels, not caught.
 abbrev pub powerUp : ℕ → ℕ → Usi
@@ -230,9 +233,12 @@ withStretch stretch u =
       stretch = stretch;
     }
 
--- The set-up fits.
+-- The set-up fits I2C, and SPI (02: Ask 1).
 abbrev pub fits : Usi → Bool
 fits u = setUp.fits (u .usictl0) (u .usictl1) (u .usickctl) (u .usicnt)
+
+abbrev pub fitsSpi : Usi → Bool
+fitsSpi u = setUp.fitsSpi (u .usictl0) (u .usictl1)
 
 -- Lines: SDA and SCL pulled low; both released while the set-up doesn't fit.
 abbrev pub pullsSda : Usi → Bool
@@ -245,3 +251,17 @@ pullsScl u =
 
 abbrev pub lines : Usi → Lines
 lines u = record { scl = pullsScl u; sda = pullsSda u }
+
+-- SPI's lines: SCLK and SDO as they are driven; nothing is driven unless the set-up fits SPI.
+abbrev pub released : SpiLines
+released = record { sclk = Released; sdo = Released }
+
+abbrev pub driven : Usi → SpiLines
+driven u =
+    record {
+      sclk = spi.clockLine (u .usictl0) (u .usickctl) (u .phase);
+      sdo = spi.dataLine (u .enable) (u .latch);
+    }
+
+unfoldable pub spiLines : Usi → SpiLines
+spiLines u = cond (fitsSpi u) (driven u) released

@@ -13,7 +13,8 @@ use Rattle.usi.specs.declared.Written.{Written}
 use Rattle.usi.specs.declared.Read.{Read}
 use Rattle.usi.specs.declared.Read.the-variants.{Value, Refused as NoValue}
 use Rattle.usi.specs.Module.{withUSICTL0, withUSICTL1, withUSICKCTL, withUSICNT, withUSISRL, withUSISRH}
-use Rattle.usi.specs.Module.{withLatch, withPhase, withLevels, withStretch, atRest, fits}
+use Rattle.usi.specs.Module.{withLatch, withPhase, withLevels, withStretch, atRest, fits, fitsSpi}
+use Rattle.usi.specs.Spi as spi
 
 -- 01's number for each answer of a step (0: not refused), and the module that it hands back.
 abbrev pub refusal : Step → ℕ
@@ -42,13 +43,19 @@ andThen (Refused number u) next = Refused number u
 abbrev pub latched : Usi → Usi
 latched u = withLatch (rules.firstBit (u .usisrl)) (setUp.outputEnable (u .usictl0)) u
 
--- GE=1: after each step on a fitting set-up the latch and the enable follow.
+-- GE=1: after each step on a set-up that fits I2C the latch and the enable follow.
 unfoldable pub followed : Usi → Usi
 followed u = cond (setUp.transparent (u .usictl0)) (latched u) u
 
--- While the set-up doesn't fit the hidden state rests.
-unfoldable pub settled : Usi → Usi
-settled u = cond (fits u) (followed u) (atRest u)
+-- A write that changes which of none, I2C and SPI the set-up is rests the hidden state (02: Ask 1), and so does one that
+-- leaves none.
+abbrev pub kept : Bool → Usi → Usi
+kept same u = cond same u (atRest u)
+
+unfoldable pub settled : Usi → Usi → Usi
+settled before u =
+    cond (fits u) (followed (kept (fits before) u))
+    (cond (fitsSpi u) (spi.followed (kept (fitsSpi before) u)) (atRest u))
 
 -- Register read; refusal 1 outside 078h to 07Dh.
 unfoldable pub readByte : Usi → ℕ → Read
@@ -64,13 +71,13 @@ readByte u address =
 -- Register write; a write to USICNT acts on the flags of USICTL1 too.
 unfoldable pub writeByte : Usi → ℕ → ℕ → Step
 writeByte u address value =
-    cond (eqb address USICTL0) (Next (settled (withUSICTL0 value u)))
-    (cond (eqb address USICTL1) (Next (settled (withUSICTL1 value u)))
-    (cond (eqb address USICKCTL) (Next (settled (withUSICKCTL value u)))
+    cond (eqb address USICTL0) (Next (settled u (withUSICTL0 value u)))
+    (cond (eqb address USICTL1) (Next (settled u (withUSICTL1 value u)))
+    (cond (eqb address USICKCTL) (Next (settled u (withUSICKCTL value u)))
     (cond (eqb address USICNT)
-    (Next (settled (withUSICNT value (withUSICTL1 (setUp.countFlags (u .usictl1) value) u))))
-    (cond (eqb address USISRL) (Next (settled (withUSISRL value u)))
-    (cond (eqb address USISRH) (Next (settled (withUSISRH value u)))
+    (Next (settled u (withUSICNT value (withUSICTL1 (setUp.countFlags (u .usictl1) value) u))))
+    (cond (eqb address USISRL) (Next (settled u (withUSISRL value u)))
+    (cond (eqb address USISRH) (Next (settled u (withUSISRH value u)))
     (Refused 1 u))))))
 
 -- A word takes an even address (else 2), low byte there, high byte after it; a write is the low byte's, then the high byte's.
@@ -153,13 +160,15 @@ edged scl sda u = cond (u .seen) (stretched scl (fallen scl (risen scl sda (cond
 abbrev pub sampled : Bool → Bool → Usi → Usi
 sampled scl sda u = followed (recorded scl sda (edged scl sda u))
 
--- Sample: the level byte is SCL + 2·SDA. Refusals 4, 3.
+-- Sample: the level byte is SCL + 2·SDA, in SPI SCLK + 2·SDI. Refusals 4, 3; 3 where neither set-up fits (02: Ask 1).
 unfoldable pub sample : Usi → ℕ → Step
 sample u level =
     cond (ltb levels.maxLevel level) (Refused 4 u)
-    (cond (fits u) (Next (sampled (levels.scl level) (levels.sda level) u)) (Refused 3 u))
+    (cond (fits u) (Next (sampled (levels.scl level) (levels.sda level) u))
+    (cond (fitsSpi u) (Next (spi.sampled (levels.scl level) (levels.sda level) u))
+    (Refused 3 u)))
 
--- Tick. Refusals 3, 17 (02: Ask 5).
+-- Tick. Refusals 3, and in I2C 17 (02: Ask 5).
 abbrev pub ticked : Usi → Usi
 ticked u =
     followed (withPhase (rules.phaseAfter (rules.clocks (u .usictl0) (u .usictl1) (u .usicnt)) (u .phase) (u .seen)
@@ -169,8 +178,13 @@ abbrev pub overruns : Usi → Bool
 overruns u =
     rules.overruns (u .usickctl) (rules.clocks (u .usictl0) (u .usictl1) (u .usicnt)) (u .phase) (u .seen) (u .scl)
 
+abbrev pub tickI2c : Usi → Step
+tickI2c u = cond (overruns u) (Refused 17 u) (Next (ticked u))
+
 unfoldable pub tick : Usi → Step
-tick u = cond (fits u) (cond (overruns u) (Refused 17 u) (Next (ticked u))) (Refused 3 u)
+tick u =
+    cond (fits u) (tickI2c u)
+    (cond (fitsSpi u) (Next (spi.ticked u)) (Refused 3 u))
 
 -- A sample and then, where asked, a tick, each with the module that it hands back.
 abbrev pub sampleThen : ℕ → Bool → Usi → Usi

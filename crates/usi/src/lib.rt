@@ -1,16 +1,22 @@
-// The USI module in I2C mode: six register bytes and a hidden state, stepped by writes, samples and ticks.
+// The USI module in I2C mode and in SPI: six register bytes and a hidden state, stepped by writes, samples and ticks.
 ghost use mathlib.Core.Path.{_≡_};
 ghost use mathlib.Core.Bool.{true};
 ghost use Prim.Native.Nat.{_+_, _*_};
-ghost use Rattle.usi.specs.Module.{powerUp, atRest, fits as fitsRule, pullsSda, pullsScl, lines as linesRule};
+ghost use Rattle.usi.specs.Module.{powerUp, atRest, fits as fitsRule, fitsSpi, pullsSda, pullsScl};
+ghost use Rattle.usi.specs.Module.{lines as linesRule, spiLines};
 ghost use Rattle.usi.specs.Cases.{stretchedBy, conditionSeen, riseSeen, fallSeen};
 ghost use Rattle.usi.specs.Step.{refusal as refusalOf, moduleOf, latched as latchedRule};
-ghost use Rattle.usi.specs.Step.{followed as followedRule, settled as settledRule, readByte, writeByte};
+ghost use Rattle.usi.specs.Step.{followed as followedRule, kept as keptRule, settled as settledRule};
+ghost use Rattle.usi.specs.Step.{readByte, writeByte};
 ghost use Rattle.usi.specs.Step.{answered as answeredBy, written, writtenWord};
 ghost use Rattle.usi.specs.Step.{readWord, writeWord, arbitrated as arbitratedRule, clocked as clockedRule};
 ghost use Rattle.usi.specs.Step.{bitTaken, recorded as recordedRule, edged as edgedRule, sampled as sampledRule};
 ghost use Rattle.usi.specs.Step.{sample as sampleRule, ticked as tickedRule, tick as tickRule, sampleThen};
-ghost use Rattle.usi.specs.Step.{overruns as overrunsRule};
+ghost use Rattle.usi.specs.Step.{overruns as overrunsRule, tickI2c};
+
+mod spi; // spi.rt: SPI on the module
+
+use usi_spi::Driven;
 
 pub struct Usi {
     pub usictl0: u8,
@@ -22,9 +28,9 @@ pub struct Usi {
     // the output latch and the latched output enable
     pub latch: bool,
     pub enable: bool,
-    // the clock phase, true when high (01: clock half)
+    // the clock phase, true when high (01: clock half); in SPI true when idle
     pub phase: bool,
-    // whether levels are remembered, and the levels last seen
+    // whether levels are remembered, and the levels last seen; in SPI those of SCLK and SDI
     pub seen: bool,
     pub scl: bool,
     pub sda: bool,
@@ -56,6 +62,12 @@ pub enum Read {
 pub struct Lines {
     pub scl: bool,
     pub sda: bool,
+}
+
+// What a module drives in SPI.
+pub struct SpiLines {
+    pub sclk: Driven,
+    pub sdo: Driven,
 }
 
 impl Step {
@@ -141,6 +153,13 @@ impl Usi {
         usi_registers::fits(self.usictl0, self.usictl1, self.usickctl, self.usicnt)
     }
 
+    // The set-up fits SPI.
+    pub fn fits_spi(self) -> bool
+        ensures { λ r. ⌜ r ≡ fitsSpi self ⌝ }
+    {
+        usi_registers::fits_spi(self.usictl0, self.usictl1)
+    }
+
     // The hidden state at rest.
     fn at_rest(mut self) -> Usi
         ensures { λ r. ⌜ r ≡ atRest self ⌝ }
@@ -176,12 +195,25 @@ impl Usi {
         self
     }
 
-    // The hidden state after a write.
-    fn settled(self) -> Usi
-        ensures { λ r. ⌜ r ≡ settledRule self ⌝ }
+    // The hidden state is kept where the set-up was the same before.
+    fn kept(self, same: bool) -> Usi
+        ensures { λ r. ⌜ r ≡ keptRule same self ⌝ }
+    {
+        if same {
+            return self;
+        }
+        self.at_rest()
+    }
+
+    // The hidden state after a write, told the module before it.
+    fn settled(self, before: Usi) -> Usi
+        ensures { λ r. ⌜ r ≡ settledRule before self ⌝ }
     {
         if self.fits() {
-            return self.followed();
+            return self.kept(before.fits()).followed();
+        }
+        if self.fits_spi() {
+            return spi::followed(self.kept(before.fits_spi()));
         }
         self.at_rest()
     }
@@ -227,31 +259,32 @@ impl Usi {
     fn stored(mut self, address: u16, value: u8) -> Step
         ensures { λ r. ⌜ r ≡ writeByte self address value ⌝ }
     {
+        let before = self;
         match address {
             Usi::USICTL0 => {
                 self.usictl0 = value;
-                Step::Next(self.settled())
+                Step::Next(self.settled(before))
             }
             Usi::USICTL1 => {
                 self.usictl1 = value;
-                Step::Next(self.settled())
+                Step::Next(self.settled(before))
             }
             Usi::USICKCTL => {
                 self.usickctl = value;
-                Step::Next(self.settled())
+                Step::Next(self.settled(before))
             }
             Usi::USICNT => {
                 self.usictl1 = usi_registers::count_flags(self.usictl1, value);
                 self.usicnt = value;
-                Step::Next(self.settled())
+                Step::Next(self.settled(before))
             }
             Usi::USISRL => {
                 self.usisrl = value;
-                Step::Next(self.settled())
+                Step::Next(self.settled(before))
             }
             Usi::USISRH => {
                 self.usisrh = value;
-                Step::Next(self.settled())
+                Step::Next(self.settled(before))
             }
             _ => Step::Refused(1, self),
         }
@@ -394,19 +427,22 @@ impl Usi {
         self.edged(scl, sda).recorded(scl, sda).followed()
     }
 
-    // A sample of both lines: SCL + 2 SDA.
+    // A sample of both lines: SCL + 2 SDA, in SPI SCLK + 2 SDI.
     pub fn sample(self, level: u8) -> Step
         ensures { λ r. ⌜ r ≡ sampleRule self level ⌝ }
     {
         if level > levels::MAX_LEVEL {
             return Step::Refused(4, self);
         }
-        if !self.fits() {
-            return Step::Refused(3, self);
-        }
         let scl = levels::scl(level);
         let sda = levels::sda(level);
-        Step::Next(self.sampled(scl, sda))
+        if self.fits() {
+            return Step::Next(self.sampled(scl, sda));
+        }
+        if self.fits_spi() {
+            return Step::Next(spi::sampled(self, scl, sda));
+        }
+        Step::Refused(3, self)
     }
 
     fn ticked(mut self) -> Usi
@@ -429,58 +465,73 @@ impl Usi {
         usi_i2c::overruns(self.usickctl, clocking, self.phase, self.seen, self.scl)
     }
 
-    // A tick of the module's clock.
-    pub fn tick(self) -> Step
-        ensures { λ r. ⌜ r ≡ tickRule self ⌝ }
+    // A tick of the module's clock in I2C.
+    fn tick_i2c(self) -> Step
+        ensures { λ r. ⌜ r ≡ tickI2c self ⌝ }
     {
-        if !self.fits() {
-            return Step::Refused(3, self);
-        }
         if self.overruns() {
             return Step::Refused(17, self);
         }
         Step::Next(self.ticked())
     }
 
+    // A tick of the module's clock.
+    pub fn tick(self) -> Step
+        ensures { λ r. ⌜ r ≡ tickRule self ⌝ }
+    {
+        if self.fits() {
+            return self.tick_i2c();
+        }
+        if self.fits_spi() {
+            return Step::Next(spi::ticked(self));
+        }
+        Step::Refused(3, self)
+    }
+
     // The module after a tick; a refused one leaves it as it was.
     pub fn next_tick(self) -> Usi
         ensures { λ r. ⌜ r ≡ moduleOf (tickRule self) ⌝ }
     {
-        if !self.fits() {
-            return self;
+        if self.fits() {
+            if self.overruns() {
+                return self;
+            }
+            return self.ticked();
         }
-        if self.overruns() {
-            return self;
+        if self.fits_spi() {
+            return spi::ticked(self);
         }
-        self.ticked()
+        self
     }
 
-    // A sample of a module whose set-up fits; a level above 3 changes nothing.
-    fn observed(self, level: u8) -> Usi
-        requires { ⌜ fitsRule self ≡ true ⌝ }
+    // The module after a sample; a refused one leaves it as it was.
+    fn next_sample(self, level: u8) -> Usi
         ensures { λ r. ⌜ r ≡ moduleOf (sampleRule self level) ⌝ }
     {
         if level > levels::MAX_LEVEL {
             return self;
         }
-        self.sampled(levels::scl(level), levels::sda(level))
+        if self.fits() {
+            return self.sampled(levels::scl(level), levels::sda(level));
+        }
+        if self.fits_spi() {
+            return spi::sampled(self, levels::scl(level), levels::sda(level));
+        }
+        self
     }
 
     // The module after a sample and then, where asked, a tick; a refused step leaves it as it was.
     pub fn sample_tick(self, level: u8, ticks: bool) -> Usi
         ensures { λ r. ⌜ r ≡ sampleThen level ticks self ⌝ }
     {
-        if !self.fits() {
-            return self;
-        }
-        let seen = self.observed(level);
+        let seen = self.next_sample(level);
         if ticks {
             return seen.next_tick();
         }
         seen
     }
 
-    // Both lines.
+    // I2C's two lines.
     pub fn lines(self) -> Lines
         ensures { λ r. ⌜ r ≡ linesRule self ⌝ }
     {
@@ -495,6 +546,22 @@ impl Usi {
         Lines {
             scl: driven | held,
             sda: usi_i2c::pulls_sda(true, self.enable, self.latch),
+        }
+    }
+
+    // SPI's lines.
+    pub fn spi_lines(self) -> SpiLines
+        ensures { λ r. ⌜ r ≡ spiLines self ⌝ }
+    {
+        if self.fits_spi() {
+            return SpiLines {
+                sclk: usi_spi::clock_line(self.usictl0, self.usickctl, self.phase),
+                sdo: usi_spi::data_line(self.enable, self.latch),
+            };
+        }
+        SpiLines {
+            sclk: Driven::Released,
+            sdo: Driven::Released,
         }
     }
 

@@ -3,8 +3,8 @@ use Prim.Native.Nat.{ℕ, _+_}
 use mathlib.Core.Bool.{Bool, cond, not, _&&_}
 use lib.Bits.{bitAnd}
 use Rattle.bits.specs.Positions.{on, off, raise, clear, field}
-use Rattle.usi_registers.specs.Registers.{USIPE7, USIPE6, USILSB, USIGE, USIOE, USISWRST, USICKPH, USII2C}
-use Rattle.usi_registers.specs.Registers.{USISTP, USIIFG, USIFLAGS}
+use Rattle.usi_registers.specs.Registers.{USIPE7, USIPE6, USIPE5, USILSB, USIGE, USIOE, USISWRST}
+use Rattle.usi_registers.specs.Registers.{USICKPH, USII2C, USISTP, USIIFG, USIFLAGS}
 use Rattle.usi_registers.specs.Registers.{USIDIV-position, USIDIV-width, USISSEL-position, USISSEL-width}
 use Rattle.usi_registers.specs.Registers.{USICKPL, USI16B, USIIFGCC, USICNTx}
 
@@ -34,6 +34,11 @@ abbrev pub fits : ℕ → ℕ → ℕ → ℕ → Bool
 fits usictl0 usictl1 usickctl usicnt =
     on usictl1 USII2C && on usickctl USICKPL && off usictl1 USICKPH && off usictl0 USILSB && off usicnt USI16B
     && on usictl0 USIPE6 && on usictl0 USIPE7 && off usictl0 USISWRST
+
+-- The set-up fits SPI (02: Ask 1): I2C=0, SWRST=0, PE5=PE6=PE7=1.
+abbrev pub fitsSpi : ℕ → ℕ → Bool
+fitsSpi usictl0 usictl1 =
+    off usictl1 USII2C && off usictl0 USISWRST && on usictl0 USIPE5 && on usictl0 USIPE6 && on usictl0 USIPE7
 
 -- Write to USICNT, its effect on USICTL1: CNT above 0 with IFGCC=0 clears IFG and STP; CNT=0 sets IFG; otherwise flags stay.
 unfoldable pub countFlags : ℕ → ℕ → ℕ

@@ -1,8 +1,8 @@
 // The USI's registers: their bits and fields by position, the set-up, and what a write to USICNT does to the flags.
-// Crate usi_i2c has the rules of edges, ticks and lines, and crate usi composes them.
+// Crates usi_i2c and usi_spi have the rules of edges, ticks and lines, and crate usi composes them.
 ghost use mathlib.Core.Path.{_≡_};
 ghost use Rattle.usi_registers.specs.Rules.{divider, counting as countingRule};
-ghost use Rattle.usi_registers.specs.Rules.{fits as fitsRule, countFlags, cleared as clearedRule};
+ghost use Rattle.usi_registers.specs.Rules.{fits as fitsRule, fitsSpi, countFlags, cleared as clearedRule};
 ghost use Rattle.usi_registers.specs.Rules.{outputEnable, transparent as transparentRule};
 
 // USICTL0
@@ -84,6 +84,17 @@ pub fn fits(usictl0: u8, usictl1: u8, usickctl: u8, usicnt: u8) -> bool
         & (usictl0 & USIPE6 == USIPE6)
         & (usictl0 & USIPE7 == USIPE7)
         & (usictl0 & USISWRST == 0)
+}
+
+// The set-up is that of SPI, out of reset.
+pub fn fits_spi(usictl0: u8, usictl1: u8) -> bool
+    ensures { λ r. ⌜ r ≡ fitsSpi usictl0 usictl1 ⌝ }
+{
+    let released = usictl0 & USISWRST == 0;
+    let pe5 = usictl0 & USIPE5 == USIPE5;
+    let pe6 = usictl0 & USIPE6 == USIPE6;
+    let pe7 = usictl0 & USIPE7 == USIPE7;
+    (usictl1 & USII2C == 0) & released & pe5 & pe6 & pe7
 }
 
 // USICTL1 after a value is written to USICNT.

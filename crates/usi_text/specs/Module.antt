@@ -4,7 +4,9 @@ use mathlib.Core.List.{List, [], _∷_, _++_}
 use Prim.Native.Nat.{ℕ, _+_}
 use Rattle.text.specs.Output.{hexText}
 use Rattle.usi.specs.declared.Usi.{Usi}
-use Rattle.usi.specs.Module.{pullsScl, pullsSda}
+use Rattle.usi_spi.specs.declared.Driven.{Driven}
+use Rattle.usi_spi.specs.declared.Driven.the-variants.{Released, Low, High}
+use Rattle.usi.specs.Module.{fitsSpi, pullsScl, pullsSda, spiLines}
 
 -- a bit as a digit
 abbrev pub flagByte : Bool → ℕ
@@ -13,6 +15,12 @@ flagByte on = cond on 49 48
 -- the lines pulled low as a digit: 1 for SCL, and 2 for SDA
 abbrev pub linesByte : Bool → Bool → ℕ
 linesByte scl sda = 48 + (cond scl 1 0 + cond sda 2 0)
+
+-- a driven line as its level, a released one as `-`
+abbrev pub drivenByte : Driven → ℕ
+drivenByte Released = 45
+drivenByte Low = 48
+drivenByte High = 49
 
 -- a label and a bit
 abbrev pub flagText : List ℕ → Bool → List ℕ
@@ -64,6 +72,14 @@ stretchLabel = 32 ∷ 115 ∷ 116 ∷ 114 ∷ 101 ∷ 116 ∷ 99 ∷ 104 ∷ 61 
 abbrev pub pullLabel : List ℕ
 pullLabel = 32 ∷ 112 ∷ 117 ∷ 108 ∷ 108 ∷ 61 ∷ []
 
+-- " sclk="
+abbrev pub sclkLabel : List ℕ
+sclkLabel = 32 ∷ 115 ∷ 99 ∷ 108 ∷ 107 ∷ 61 ∷ []
+
+-- " sdo="
+abbrev pub sdoLabel : List ℕ
+sdoLabel = 32 ∷ 115 ∷ 100 ∷ 111 ∷ 61 ∷ []
+
 -- the hidden state of the outputs
 unfoldable pub outputText : Usi → List ℕ
 outputText u = flagText latchLabel (u .latch) ++ flagText enableLabel (u .enable) ++ flagText phaseLabel (u .phase)
@@ -77,9 +93,20 @@ inputText u =
     ++ flagText stretchLabel (u .stretch)
 
 -- the lines pulled low
-abbrev pub linesText : Usi → List ℕ
-linesText u = pullLabel ++ (linesByte (pullsScl u) (pullsSda u) ∷ [])
+abbrev pub pullsText : Usi → List ℕ
+pullsText u = pullLabel ++ (linesByte (pullsScl u) (pullsSda u) ∷ [])
 
--- the module: registers, hidden state, lines pulled low
+-- the lines driven in SPI
+abbrev pub drivenText : List ℕ → Driven → List ℕ
+drivenText label line = label ++ (drivenByte line ∷ [])
+
+unfoldable pub drivesText : Usi → List ℕ
+drivesText u = drivenText sclkLabel (spiLines u .sclk) ++ drivenText sdoLabel (spiLines u .sdo)
+
+-- what the module does to its lines, by the set-up
+unfoldable pub linesText : Usi → List ℕ
+linesText u = cond (fitsSpi u) (drivesText u) (pullsText u)
+
+-- the module: registers, hidden state, lines
 unfoldable pub moduleText : Usi → List ℕ
 moduleText u = registersText u ++ outputText u ++ inputText u ++ linesText u

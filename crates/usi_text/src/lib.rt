@@ -1,12 +1,14 @@
-// A USI module as text: its registers, its hidden state and the lines that it pulls low.
+// A USI module as text: its registers, its hidden state and the lines that it pulls low or, in SPI, drives.
 ghost use mathlib.Core.Path.{_≡_};
 ghost use Rattle.text.specs.Output.{Put};
-ghost use Rattle.usi_text.specs.Module.{flagByte, linesByte, spacedText, flagText};
-ghost use Rattle.usi_text.specs.Module.{registersText, outputText, inputText, linesText, moduleText};
+ghost use Rattle.usi_text.specs.Module.{flagByte, linesByte, drivenByte, spacedText, flagText};
+ghost use Rattle.usi_text.specs.Module.{registersText, outputText, inputText, pullsText, drivenText};
+ghost use Rattle.usi_text.specs.Module.{drivesText, linesText, moduleText};
 use text::put_byte;
 use text::put_bytes;
 use text::put_hex_byte;
 use usi::Usi;
+use usi_spi::Driven;
 
 fn put_spaced(out: &mut [u8], at: usize, register: u8) -> usize
     ensures { λ r. ⌜ Put (now (out .entry)) at (spacedText register) (now (out .exit)) r ⌝ }
@@ -71,8 +73,8 @@ fn lines_byte(scl: bool, sda: bool) -> u8
 }
 
 // The lines pulled low.
-fn put_lines(out: &mut [u8], at: usize, device: Usi) -> usize
-    ensures { λ r. ⌜ Put (now (out .entry)) at (linesText device) (now (out .exit)) r ⌝ }
+fn put_pulls(out: &mut [u8], at: usize, device: Usi) -> usize
+    ensures { λ r. ⌜ Put (now (out .entry)) at (pullsText device) (now (out .exit)) r ⌝ }
 {
     let past_label = put_bytes(out, at, b" pull=");
     put_byte(
@@ -82,7 +84,46 @@ fn put_lines(out: &mut [u8], at: usize, device: Usi) -> usize
     )
 }
 
-// The whole module: registers, hidden state, lines pulled low.
+// The level of a line that is driven; of one that is released a dash.
+fn driven_byte(line: Driven) -> u8
+    ensures { λ r. ⌜ r ≡ drivenByte line ⌝ }
+{
+    match line {
+        Driven::Released => b'-',
+        Driven::Low => b'0',
+        Driven::High => b'1',
+    }
+}
+
+fn put_driven(out: &mut [u8], at: usize, label: &[u8], line: Driven) -> usize
+    ensures { λ r. ⌜ Put (now (out .entry)) at (drivenText (now (label .entry)) line) (now (out .exit)) r ⌝ }
+{
+    let next = put_bytes(out, at, label);
+    put_byte(out, next, driven_byte(line))
+}
+
+// The lines driven in SPI.
+fn put_drives(out: &mut [u8], at: usize, device: Usi) -> usize
+    ensures { λ r. ⌜ Put (now (out .entry)) at (drivesText device) (now (out .exit)) r ⌝ }
+{
+    let lines = device.spi_lines();
+    let sclk = lines.sclk;
+    let sdo = lines.sdo;
+    let past_sclk = put_driven(out, at, b" sclk=", sclk);
+    put_driven(out, past_sclk, b" sdo=", sdo)
+}
+
+// The lines, by the set-up.
+fn put_lines(out: &mut [u8], at: usize, device: Usi) -> usize
+    ensures { λ r. ⌜ Put (now (out .entry)) at (linesText device) (now (out .exit)) r ⌝ }
+{
+    if device.fits_spi() {
+        return put_drives(out, at, device);
+    }
+    put_pulls(out, at, device)
+}
+
+// The whole module: registers, hidden state, lines.
 pub fn put_module(out: &mut [u8], at: usize, device: Usi) -> usize
     ensures { λ r. ⌜ Put (now (out .entry)) at (moduleText device) (now (out .exit)) r ⌝ }
 {

@@ -114,7 +114,9 @@ impl Options {
             "--wave" if clash => self.wave = true,
             "--standard" if self.command == Command::Decode => self.standard = true,
             "--fast" if self.command == Command::Decode => self.fast = true,
-            "--room" if !matches!(self.command, Command::Dump | Command::Session) => self.room = Some(room(rest.next())?),
+            "--room" if !matches!(self.command, Command::Dump | Command::Session) => {
+                self.room = Some(room(rest.next())?)
+            }
             "--corrections" if clash => {
                 let file = short(rest.next().ok_or(NO_CORRECTIONS)?)?;
                 self.corrections = Some(self.file(file)?);
@@ -160,7 +162,8 @@ impl Options {
 pub fn parse(arguments: &[String]) -> Result<Options, String> {
     let mut rest = arguments.iter();
     let first = short(rest.next().ok_or(NO_COMMAND)?)?;
-    let unknown = || format!("unknown command {}: expected clash, decode, dump, encode or session", quoted(first));
+    let unknown =
+        || format!("unknown command {}: expected clash, decode, dump, encode or session", quoted(first));
     let mut options = Options::new(Command::from_word(first).ok_or_else(unknown)?);
     while let Some(word) = rest.next() {
         options.word(word, &mut rest)?;

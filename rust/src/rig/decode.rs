@@ -1,4 +1,4 @@
-//! `rig decode`: a record of stamps and levels in, its events out.
+//! `rig decode`: a record of stamps and levels, or a Value Change Dump, in, its events out.
 
 use super::arguments::Options;
 use super::files::Contents;
@@ -10,9 +10,11 @@ use crate::phases::decode_in;
 use crate::refusal::{Reason, Refusal};
 use gaps::Gaps;
 
+mod capture;
 mod gaps;
 
 const LOOKS_LIKE_A_LIST: &str = "; this looks like an event list: did you mean rig encode?";
+const LOOKS_LIKE_A_DUMP: &str = "; this looks like a Value Change Dump: did you mean rig decode?";
 
 /// The record as the file lends it, with the line of each stamp.
 #[derive(Default)]
@@ -25,15 +27,16 @@ pub struct Record {
 }
 
 pub fn decode(contents: &Contents, options: &Options) -> String {
-    let record = match Record::read(contents) {
-        Ok(record) => record,
-        Err(error) => return error + "\n",
-    };
-    let mut events = vec![0; options.room(SAMPLES)];
-    match decode_in(options.mode(), &record.stamps, &record.levels, &mut events) {
-        Ok(reply) => record.report(&events[..reply.count], &reply),
-        Err(refusal) => record.refused(refusal) + "\n",
-    }
+    let read = if capture::is_dump(&contents.text) { capture::decode } else { decode_lines };
+    read(contents, options).unwrap_or_else(|line| line + "\n")
+}
+
+/// All that is printed of a record in lines, or the one line where there is nothing else.
+fn decode_lines(contents: &Contents, options: &Options) -> Result<String, String> {
+    let record = Record::read(contents)?;
+    let (events, reply) = record.events(options).map_err(|refusal| record.refused(refusal))?;
+    let gaps = Gaps::new(&record.stamps, &bus::frame_open_after(&record.levels));
+    Ok(record.report(&events, &reply, &gaps))
 }
 
 impl Record {
@@ -75,10 +78,17 @@ impl Record {
         }
     }
 
-    fn report(&self, events: &[u16], reply: &Decoded) -> String {
-        let gaps = Gaps::new(&self.stamps, &bus::frame_open_after(&self.levels));
+    /// What the library reads in it, in the room that is lent.
+    fn events(&self, options: &Options) -> Result<(Vec<u16>, Decoded), Refusal> {
+        let mut events = vec![0; options.room(SAMPLES)];
+        let reply = decode_in(options.mode(), &self.stamps, &self.levels, &mut events)?;
+        events.truncate(reply.count);
+        Ok((events, reply))
+    }
+
+    fn report(&self, events: &[u16], reply: &Decoded, gaps: &Gaps) -> String {
         let settings = self.settings();
-        let listed = self.listed(events, &gaps);
+        let listed = self.listed(events, gaps);
         format!("{settings}{listed}{}\n", self.summary(events, reply, gaps.long_count()))
     }
 
@@ -155,6 +165,7 @@ fn looks_like(word: &str) -> &'static str {
         "START" | "STOP" | "repeated" | "cut" | "start" | "gap" => LOOKS_LIKE_A_LIST,
         _ if word.ends_with(':') => LOOKS_LIKE_A_LIST,
         _ if WORDS_OF_LOADS.contains(&word) => LOOKS_LIKE_LOADS,
+        _ if word.starts_with('$') => LOOKS_LIKE_A_DUMP,
         _ => "",
     }
 }

@@ -125,7 +125,11 @@ impl Differ {
     fn program_for(&self, case: &Case) -> PathBuf {
         let clash = self.program.with_file_name("rig_clash");
         let is_clash = case.arguments.first().is_some_and(|word| word == b"clash");
-        if is_clash && clash.exists() { clash } else { self.program.clone() }
+        if is_clash && clash.exists() {
+            clash
+        } else {
+            self.program.clone()
+        }
     }
 
     /// What is wrong with a run, if anything is.

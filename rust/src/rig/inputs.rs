@@ -8,6 +8,7 @@ mod arguments;
 mod clash;
 mod damage;
 mod decode;
+mod dump;
 mod encode;
 mod page;
 mod session;
@@ -25,7 +26,7 @@ pub struct Kind {
 pub const KINDS: [Kind; 10] = [
     Kind { word: "clash", command: "clash", text: |random| damage::some(random, clash::text) },
     Kind { word: "decode", command: "decode", text: |random| damage::some(random, decode::text) },
-    Kind { word: "dump", command: "dump", text: |random| damage::some(random, decode::text) },
+    Kind { word: "dump", command: "dump", text: |random| damage::some(random, decode::lines) },
     Kind { word: "encode", command: "encode", text: |random| damage::some(random, encode::text) },
     Kind { word: "session", command: "session", text: |random| damage::some(random, session::text) },
     Kind { word: "clash-bytes", command: "clash", text: damage::bytes },

@@ -4,7 +4,7 @@ use super::files::Contents;
 use super::refusals;
 use super::text::{counted, hexadecimal, lines, quoted, Words};
 use crate::cases::module_text;
-use crate::module::Module;
+use crate::module::{Driven, Module, SetUp};
 use crate::refusal::Refusal;
 
 const REGISTERS: [&str; 6] = ["USICTL0", "USICTL1", "USICKCTL", "USICNT", "USISRL", "USISRH"];
@@ -130,10 +130,23 @@ fn expected(command: &str) -> Option<&'static str> {
     })
 }
 
+/// The lines pulled low, or in SPI those driven.
 fn lines_text(module: &Module) -> String {
+    if module.set_up() == SetUp::Spi {
+        let lines = module.spi_lines();
+        return format!("sclk={} sdo={}", driven(lines.sclk), driven(lines.sdo));
+    }
     let state = |low: bool| if low { "low" } else { "released" };
     let lines = module.lines();
     format!("scl={} sda={}", state(lines.scl), state(lines.sda))
+}
+
+fn driven(line: Driven) -> &'static str {
+    match line {
+        Driven::Released => "released",
+        Driven::Low => "low",
+        Driven::High => "high",
+    }
 }
 
 fn byte(word: &str) -> Option<u8> {

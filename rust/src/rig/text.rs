@@ -84,6 +84,11 @@ fn words(line: &str) -> Result<Words<'_>, Fault> {
     Ok(statement.split([' ', '\t', '\r']).filter(|word| !word.is_empty()).collect())
 }
 
+/// A byte that parts the words of a dump.
+pub fn is_parting(letter: char) -> bool {
+    matches!(letter, '\t' | '\n' | '\r' | ' ')
+}
+
 fn is_control(letter: char) -> bool {
     letter < ' ' || letter == '\u{7F}'
 }

@@ -16,11 +16,13 @@ struct Mutant {
 }
 
 /// The sources of each case program.
-const USI: &[&str] = &["refusal", "module", "cases", "cases/usi"];
-const BUS: &[&str] = &["refusal", "module", "bus", "cases", "cases/bus"];
+const USI: &[&str] = &["refusal", "module", "module/i2c", "module/spi", "cases", "cases/usi"];
+const BUS: &[&str] = &["refusal", "module", "module/i2c", "module/spi", "bus", "cases", "cases/bus"];
 const ARBITRATION: &[&str] = &[
     "refusal",
     "module",
+    "module/i2c",
+    "module/spi",
     "bus",
     "arbitration",
     "arbitration/outcome",
@@ -78,6 +80,7 @@ fn mutant(edit: &str) -> Mutant {
 fn write_sources(folder: &Path, program: &str, sources: &[&str], index: usize, mutant: &Mutant) {
     create_dir_all(folder.join("arbitration")).unwrap();
     create_dir_all(folder.join("cases")).unwrap();
+    create_dir_all(folder.join("module")).unwrap();
     let mut modules = String::new();
     for name in sources {
         let file = format!("{name}.rs");

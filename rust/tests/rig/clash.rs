@@ -94,7 +94,8 @@ fn one_board_alone_draws_p7() {
 
 #[test]
 fn the_trace_of_a_load() {
-    let night = "boards p q\nload one\nboard p a0\nboard q -\nack all\nload two\nboard p 50\nboard q 50 22\nend 2\n";
+    let night =
+        "boards p q\nload one\nboard p a0\nboard q -\nack all\nload two\nboard p 50\nboard q 50 22\nend 2\n";
     let drawn = rig("encode", "512 160 514");
     let samples = drawn.strip_suffix("ok 23 samples\n").unwrap();
     assert_eq!(rig("clash - --trace one", night), format!("{samples}ok 1 load: 1 sent\n"));

@@ -112,6 +112,20 @@ fn decode_inputs_reach_every_answer() {
 }
 
 #[test]
+fn dumps_reach_every_answer() {
+    let texts =
+        "# a Value Change Dump whose stamps count 1|whose stamps count 100 ns\n|count 10 ps\n|count 1 fs\n\
+        |count 100 s\n|count 1 us\n|with no timescale\n|; capture from where|: export the capture again\
+        |; dump only the two wires|; the file may be cut|; declare SCL, then SDA|; choose a coarser\
+        |: more than 4096 samples; dump a shorter|60000 bytes; dump a shorter|; export a Value Change Dump\
+        |'; declare SCL|at its first stamp; declare SCL|(line 1): |(line 7): |..'; dump only|'??'; export\
+        | (stamp |--standard needs stamps that count 100 ns, and this dump counts |--fast needs\
+        |and this dump has no timescale|looks like a Value Change Dump|: longer than";
+    check_reach("decode", &texts.split('|').collect::<Vec<_>>());
+    check_reach("dump", &["looks like a Value Change Dump"]);
+}
+
+#[test]
 fn encode_inputs_reach_every_answer() {
     let texts = "refused 6: |refused 8: |refused 9: |refused 10: |refused 11: |: expected start N\
         |: expected gap N|: an even address|: more than 4096 events|: expected START|: longer than\
@@ -126,6 +140,12 @@ fn session_inputs_reach_every_answer() {
         |expected lines|expected help|unknown command|longer than|a byte that is no\
         |commands refused, the|not understood, the|ok 0 commands|ok 1 command\n|scl=low|sda=low\
         |stretch=1|pull=3|ok power [";
+    check_reach("session", &texts.split('|').collect::<Vec<_>>());
+    let texts = "sclk=low sdo=low|sclk=low sdo=high|sclk=low sdo=released|sclk=high sdo=low\
+        |sclk=high sdo=high|sclk=high sdo=released|sclk=released sdo=low|sclk=released sdo=high\
+        |sclk=released sdo=released|sclk=0 sdo=0|sclk=0 sdo=1|sclk=0 sdo=-|sclk=1 sdo=0|sclk=1 sdo=1\
+        |sclk=1 sdo=-|sclk=- sdo=0|sclk=- sdo=1|sclk=- sdo=-|phase=0 seen=1 scl=1 sda=1 stretch=0 sclk=1\
+        |\nrefused 17: a";
     check_reach("session", &texts.split('|').collect::<Vec<_>>());
 }
 

@@ -1,6 +1,7 @@
 //! The mirror of the program `rig`: its text, its refusals and errors, its inputs and the comparison.
 
 mod arguments;
+mod captures;
 mod clash;
 mod clash_files;
 mod clash_table;

@@ -25,8 +25,8 @@ fn of_the_module() {
         ("writew 7E 0", "1: the address is outside 078h to 07Dh"),
         ("readw 77", "2: a word access needs an even address"),
         ("writew 7F 0", "2: a word access needs an even address"),
-        ("sample 3", "3: the set-up does not fit I2C mode"),
-        ("tick", "3: the set-up does not fit I2C mode"),
+        ("sample 3", "3: the set-up fits neither I2C nor SPI"),
+        ("tick", "3: the set-up fits neither I2C nor SPI"),
         ("sample 4", "4: a level is above 3"),
     ];
     for (command, words) in cases {
@@ -48,6 +48,47 @@ fn of_the_reader() {
     ];
     for (arguments, input, words) in cases {
         assert_eq!(run(arguments, input), format!("refused {words}\n"), "{words}");
+    }
+}
+
+#[test]
+fn of_the_dump_reader() {
+    let wires = "$var wire 1 ! scl $end\n$var wire 1 \" sda $end\n$enddefinitions $end\n#5 1! 1\"\n";
+    let long = " ".repeat(60_000);
+    let cases = [
+        ("x!\n", "20 byte 76 (line 5): a value is x or z: 'x!'; capture from where both lines have a level"),
+        (
+            "#5\n",
+            "21 byte 76 (line 5): a stamp is not above the one before it: '#5'; packets may have crossed: \
+             export the capture again",
+        ),
+        (
+            "0%\n",
+            "22 byte 76 (line 5): a value of a wire that is not declared: '0%'; dump only the two wires",
+        ),
+        (
+            "#6",
+            "23 byte 78 (line 5): the text ends inside a line, a command or a section; the file may be cut: \
+             copy it again",
+        ),
+        (
+            "$var\n",
+            "24 byte 76 (line 5): a dump needs just two wires of one bit, and a value for each at its first \
+             stamp: '$var'; declare SCL, then SDA, each as wire 1, and dump only these two",
+        ),
+        (
+            "#9876543210\n",
+            "25 byte 76 (line 5): a stamp is above 4294967295: '#9876543210'; choose a coarser timescale",
+        ),
+        (&long, "26: the text is longer than 60000 bytes; dump a shorter time"),
+        (
+            "r0 !\n",
+            "27 byte 76 (line 5): this is not of the form of a dump with two wires: 'r0'; export a Value \
+             Change Dump of SCL and SDA alone",
+        ),
+    ];
+    for (values, words) in cases {
+        assert_eq!(run("decode -", &format!("{wires}{values}")), format!("refused {words}\n"), "{words}");
     }
 }
 

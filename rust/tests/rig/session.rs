@@ -36,6 +36,29 @@ fn p4_to_p6() {
 }
 
 #[test]
+fn spi_shows_what_is_driven() {
+    let fit = "power A5 0\nwrite USICKCTL 0\nwrite USICTL1 0\nwrite USICTL0 EA\nwrite USICNT 8\n";
+    assert_eq!(answer(&format!("{fit}lines")), "ok sclk=low sdo=released");
+    assert_eq!(answer(&format!("{fit}tick\nlines")), "ok sclk=high sdo=released");
+    let bit = format!("{fit}sample 0\ntick\nsample 1\n");
+    assert_eq!(answer(&format!("{bit}lines")), "ok sclk=high sdo=high");
+    let module = "ok EA 00 00 08 A5 00 latch=1 enable=1 phase=0 seen=1 scl=1 sda=0 stretch=0 sclk=1 sdo=1";
+    assert_eq!(answer(&bit), module);
+    let taken = "ok EA 00 00 07 4B 00 latch=1 enable=1 phase=1 seen=1 scl=0 sda=1 stretch=0 sclk=0 sdo=1";
+    assert_eq!(answer(&format!("{bit}tick\nsample 2")), taken);
+    assert_eq!(answer(&format!("{bit}tick\nsample 2\ntick\nsample 1\nlines")), "ok sclk=high sdo=low");
+    assert_eq!(answer(&format!("{bit}write USICTL0 E2\nlines")), "ok sclk=released sdo=high");
+    let slave =
+        "ok E2 00 00 08 A5 00 latch=1 enable=1 phase=0 seen=1 scl=1 sda=0 stretch=0 sclk=- sdo=1 cleared=00";
+    assert_eq!(answer(&format!("{bit}write USICTL0 E2")), slave);
+    assert_eq!(answer(&format!("{bit}write USICTL0 CA\nlines")), "ok scl=released sda=released");
+    assert_eq!(
+        answer(&format!("{bit}write USICTL0 CA\ntick")),
+        "refused 3: the set-up fits neither I2C nor SPI"
+    );
+}
+
+#[test]
 fn every_line_is_answered() {
     let input = "\n # comment\npower\npower 5a A5\nreadw 7C\nread 7D\nwritew USISRL 12\nhelp\n";
     let shifted = POWERED.replacen("00 00 00 00", "00 00 5A A5", 1);
@@ -86,7 +109,7 @@ fn an_error_or_a_refusal_changes_nothing() {
         "error expected write AAA VV",
         "refused 1: the address is outside 078h to 07Dh",
         "refused 4: a level is above 3",
-        "refused 3: the set-up does not fit I2C mode",
+        "refused 3: the set-up fits neither I2C nor SPI",
         "ok 01",
         "ok 02",
     ];

@@ -1,20 +1,13 @@
 -- `rig_clash::run_files` is safe and ends: the turns that are left fall.
-use mathlib.Core.Path.{_≡_}
-use native.Mathlib.Omega.{arith}
-use lib.ListN.{length}
 use borrow.Author.Needs.{needs}
 use Rattle.rig_clash.proofs.run_files.Statement.{statement}
 use Rattle.rig_clash.proofs.run_files.Tie as tie
 
 abbrev Inv-loop : tie.InvT-loop
-Inv-loop page₀ kept₀ names₀ lines₀ first several state₀ argument₀ turns₀ page kept names lines state argument turns =
-    (length page ≡ length page₀)
-    × (length kept ≡ length kept₀)
-    × (length names ≡ length names₀)
-    × (length lines ≡ length lines₀)
+Inv-loop page₀ kept₀ first several state₀ argument₀ turns₀ page kept state argument turns = Unit {0}
 
 abbrev μ-loop : tie.MeasureT-loop
-μ-loop page₀ kept₀ names₀ lines₀ first several state₀ argument₀ turns₀ page kept names lines state argument turns = turns
+μ-loop page₀ kept₀ first several state₀ argument₀ turns₀ page kept state argument turns = turns
 
 after-requires : tie.Need-after-requires Inv-loop μ-loop
 after-requires c κs = search needs
@@ -27,18 +20,6 @@ arg-count-requires c κs = search needs
 
 loop-holds : tie.Need-loop-holds Inv-loop μ-loop
 loop-holds c = search needs
-
-same-length : tie.Need-same-length Inv-loop μ-loop
-same-length c = search needs
-
-same-length-2 : tie.Need-same-length-2 Inv-loop μ-loop
-same-length-2 c = search needs
-
-same-length-3 : tie.Need-same-length-3 Inv-loop μ-loop
-same-length-3 c = search needs
-
-same-length-4 : tie.Need-same-length-4 Inv-loop μ-loop
-same-length-4 c = search needs
 
 returns : tie.Need-returns Inv-loop μ-loop
 returns c = search needs
@@ -61,18 +42,6 @@ loop-less c = search needs
 loop-again : tie.Need-loop-again Inv-loop μ-loop
 loop-again c = search needs
 
-same-length-5 : tie.Need-same-length-5 Inv-loop μ-loop
-same-length-5 c = search needs
-
-same-length-6 : tie.Need-same-length-6 Inv-loop μ-loop
-same-length-6 c = search needs
-
-same-length-7 : tie.Need-same-length-7 Inv-loop μ-loop
-same-length-7 c = search needs
-
-same-length-8 : tie.Need-same-length-8 Inv-loop μ-loop
-same-length-8 c = search needs
-
 returns-2 : tie.Need-returns-2 Inv-loop μ-loop
 returns-2 c = search needs
 
@@ -86,10 +55,6 @@ run-files-spec =
     next-file-requires
     arg-count-requires
     loop-holds
-    same-length
-    same-length-2
-    same-length-3
-    same-length-4
     returns
     with-file-requires
     after-requires-2
@@ -97,8 +62,4 @@ run-files-spec =
     sub-turns
     loop-less
     loop-again
-    same-length-5
-    same-length-6
-    same-length-7
-    same-length-8
     returns-2)

@@ -1,48 +1,45 @@
--- `usi_text::put_lines` meets its contract.
-use Rattle.text.proofs.Putting.{put-next}
+-- Each case is that of the test on the set-up.
+use Rattle.laws.proofs.Branches.{call-yes, call-no}
+use Rattle.usi_text.specs.Module.{linesText}
 use borrow.Author.Needs.{needs}
 use Rattle.usi_text.proofs.put_lines.Statement.{statement}
 use Rattle.usi_text.proofs.put_lines.Tie as tie
 
-slice-aggregate-put-bytes : tie.Need-slice-aggregate-put-bytes
-slice-aggregate-put-bytes c = search needs
+fits-spi-requires : tie.Need-fits-spi-requires
+fits-spi-requires c κs = search needs
 
-put-bytes-requires : tie.Need-put-bytes-requires
-put-bytes-requires c κs = search needs
-
-pulls-scl-requires : tie.Need-pulls-scl-requires
-pulls-scl-requires c κs = search needs
-
-pulls-sda-requires : tie.Need-pulls-sda-requires
-pulls-sda-requires c κs = search needs
-
-lines-byte-requires : tie.Need-lines-byte-requires
-lines-byte-requires c κs = search needs
-
-put-byte-requires : tie.Need-put-byte-requires
-put-byte-requires c κs = search needs
+put-drives-requires : tie.Need-put-drives-requires
+put-drives-requires c κs = search needs
 
 same-length : tie.Need-same-length
 same-length c = search needs
 
 returns : tie.Need-returns
+unfolding linesText
 returns c =
-    let digit = c .before .before in
-    let lines = digit .before in
-    let scl = lines .before .before in
-    let label = scl .before .before .before .before in
-    let put = put-next _ _ (label .put-bytes .ensures) (digit .put-byte .ensures) in
-    rw (lines .lines-byte .ensures, scl .pulls-scl .ensures, lines .before .pulls-sda .ensures) at put
+    let tested = c .before .before .before .before in
+    rw (call-yes _ _ (tested .before .fits-spi .ensures) (tested .if1 .taken)) (c .before .before .put-drives .ensures)
+
+put-pulls-requires : tie.Need-put-pulls-requires
+put-pulls-requires c κs = search needs
+
+same-length-2 : tie.Need-same-length-2
+same-length-2 c = search needs
+
+returns-2 : tie.Need-returns-2
+unfolding linesText
+returns-2 c =
+    let tested = c .before .before .before .before in
+    rw (call-no _ _ (tested .before .fits-spi .ensures) (tested .if1 .left)) (c .before .before .put-pulls .ensures)
 
 pub put-lines-spec : {M : Type 1} → statement M
 put-lines-spec =
     tie.close
     (tie.spec
-    slice-aggregate-put-bytes
-    put-bytes-requires
-    pulls-scl-requires
-    pulls-sda-requires
-    lines-byte-requires
-    put-byte-requires
+    fits-spi-requires
+    put-drives-requires
     same-length
-    returns)
+    returns
+    put-pulls-requires
+    same-length-2
+    returns-2)

@@ -33,7 +33,7 @@ pub struct Rehearsal<'a> {
 pub enum Result<'a> {
     InError,
     Refused(Refusal),
-    Rehearsed(Rehearsal<'a>),
+    Rehearsed(Box<Rehearsal<'a>>),
 }
 
 impl<'a> Result<'a> {
@@ -50,7 +50,7 @@ impl<'a> Result<'a> {
         let lengths: Vec<u32> = senders.iter().map(|(_, message)| message.len() as u32).collect();
         let mut levels = vec![0; options.room(LEVELS)];
         match arbitrate(&bytes, &lengths, &acks, &mut [0; MESSAGE_BYTES], &mut levels) {
-            Ok(run) => Result::Rehearsed(Rehearsal::new(load, senders, acks, run)),
+            Ok(run) => Result::Rehearsed(Box::new(Rehearsal::new(load, senders, acks, run))),
             Err(refusal) => Result::Refused(refusal),
         }
     }

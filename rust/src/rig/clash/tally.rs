@@ -69,7 +69,8 @@ impl Tally {
     /// The names to look at, if there are any and they are wanted, and the last line.
     pub fn last_lines(&self, names: bool) -> String {
         let more = if self.more > 0 { format!(" and {} more", self.more) } else { String::new() };
-        let see = if self.see.is_empty() || !names { String::new() } else { format!("see{}{more}\n", self.see) };
+        let see =
+            if self.see.is_empty() || !names { String::new() } else { format!("see{}{more}\n", self.see) };
         let loads = counted(self.loads, "load");
         format!("{see}{}{loads}: {}\n", self.word(), self.counts().join(", "))
     }

@@ -23,6 +23,11 @@ impl Gaps {
         Gaps { inside, usual }
     }
 
+    /// Of so many samples, none of whose gaps is judged.
+    pub fn unjudged(samples: usize) -> Gaps {
+        Gaps { inside: vec![None; samples], usual: 0 }
+    }
+
     /// How many times the usual gap the one before this sample is, if it is long.
     pub fn long(&self, sample: usize) -> Option<u64> {
         self.inside[sample].filter(|&gap| gap > TIMES * self.usual).map(|gap| gap / self.usual)

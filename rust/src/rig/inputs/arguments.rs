@@ -99,6 +99,7 @@ pub fn text(random: &mut Random) -> Vec<u8> {
         "0 3\n5 1\n",
         "START\nA0 ACK\nSTOP\n",
         "tick\nlines\n",
+        "$var wire 1 ! scl $end $var wire 1 \" sda $end $enddefinitions $end\n#0 1! 1\"\n#5 0\"\n",
     ];
     random.pick(&texts).as_bytes().to_vec()
 }
@@ -112,7 +113,9 @@ pub fn any(random: &mut Random, file: &[u8], tonight: &[u8]) -> Vec<Vec<u8>> {
     for _ in 0..random.below(5) {
         arguments.push(match random.below(24) {
             0..=4 => file.to_vec(),
-            5..=7 => random.pick(&["--table", "--table", "--wave", "--registers", "--trace", "--standard", "--fast"]).into(),
+            5..=7 => random
+                .pick(&["--table", "--table", "--wave", "--registers", "--trace", "--standard", "--fast"])
+                .into(),
             8..=9 => b"--room".to_vec(),
             10 => b"--corrections".to_vec(),
             11 => tonight.to_vec(),

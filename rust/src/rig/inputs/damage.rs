@@ -43,7 +43,8 @@ fn insert(bytes: &mut Vec<u8>, place: usize, inserted: &[u8]) {
 fn replace_word(random: &mut Random, bytes: &mut Vec<u8>) {
     const WORDS: &str =
         "load board boards ack expect end all - / ok look note: START STOP repeated cut ACK NACK \
-        start gap tick 0 1 40 256 65536 4294967295 4294967296 18446744073709551616 0x10 -1 +1 1.5 4/4";
+        start gap tick 0 1 40 256 65536 4294967295 4294967296 18446744073709551616 0x10 -1 +1 1.5 4/4 \
+        $end $var $comment $dumpvars wire x! 1! 0% #5 #4294967296";
     let is_blank = |byte: &u8| b" \t\r\n".contains(byte);
     let from = random.below(bytes.len() + 1);
     let Some(skipped) = bytes[from..].iter().position(|byte| !is_blank(byte)) else { return };
@@ -103,11 +104,12 @@ pub fn bytes(random: &mut Random) -> Vec<u8> {
         1 => random.between(4000, 20_000),
         _ => random.below(400),
     };
-    let letters: &[u8] = match random.below(5) {
+    let letters: &[u8] = match random.below(6) {
         0 => b"0123456789 \n",
         1 => b"0123 \t\r\n#abcdefABCDEF:lodk",
         2 => b" \n",
         3 => b"START OPACKNtickloadboardsackendexpect- 0123\n\n\n",
+        4 => b"$$$varendcomt #01!\"xz \n",
         _ => &[],
     };
     (0..length).map(|_| if letters.is_empty() { random.byte() } else { random.pick(letters) }).collect()

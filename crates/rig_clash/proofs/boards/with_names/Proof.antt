@@ -2,16 +2,14 @@
 use Rattle.rig_lines.proofs.Words.{past-word}
 use borrow.Author.Needs.{needs}
 use lib.ListN.{length}
-use mathlib.Core.Path.{_≡_}
 use Rattle.rig_clash.proofs.boards.with_names.Statement.{statement}
 use Rattle.rig_clash.proofs.boards.with_names.Tie as tie
 
 abbrev Inv-loop : tie.InvT-loop
-Inv-loop page₀ kept₀ words state₀ rest₀ page kept state rest =
-    (length page ≡ length page₀) × (length kept ≡ length kept₀)
+Inv-loop kept₀ words state₀ rest₀ kept state rest = Unit {0}
 
 abbrev μ-loop : tie.MeasureT-loop
-μ-loop page₀ kept₀ words state₀ rest₀ page kept state rest = length rest
+μ-loop kept₀ words state₀ rest₀ kept state rest = length rest
 
 loop-holds : tie.Need-loop-holds Inv-loop μ-loop
 loop-holds c = search needs
@@ -25,12 +23,6 @@ first-word-requires-2 c κs = search needs
 with-name-requires : tie.Need-with-name-requires Inv-loop μ-loop
 with-name-requires c κs = search needs
 
-same-length : tie.Need-same-length Inv-loop μ-loop
-same-length c = search needs
-
-same-length-2 : tie.Need-same-length-2 Inv-loop μ-loop
-same-length-2 c = search needs
-
 returns : tie.Need-returns Inv-loop μ-loop
 returns c = search needs
 
@@ -38,18 +30,10 @@ after-word-requires : tie.Need-after-word-requires Inv-loop μ-loop
 after-word-requires c κs = search needs
 
 loop-less : tie.Need-loop-less Inv-loop μ-loop
-loop-less c =
-    let head = c .before .before .before .before .before .before .before .before .before .before .before .before in
-    past-word _ _ _ (head .before .first-word .ensures) (c .after-word .ensures) (head .if1 .taken)
+loop-less c = search (needs, past-word)
 
 loop-again : tie.Need-loop-again Inv-loop μ-loop
 loop-again c = search needs
-
-same-length-3 : tie.Need-same-length-3 Inv-loop μ-loop
-same-length-3 c = search needs
-
-same-length-4 : tie.Need-same-length-4 Inv-loop μ-loop
-same-length-4 c = search needs
 
 returns-2 : tie.Need-returns-2 Inv-loop μ-loop
 returns-2 c = search needs
@@ -64,12 +48,8 @@ with-names-spec =
     first-word-requires
     first-word-requires-2
     with-name-requires
-    same-length
-    same-length-2
     returns
     after-word-requires
     loop-less
     loop-again
-    same-length-3
-    same-length-4
     returns-2)

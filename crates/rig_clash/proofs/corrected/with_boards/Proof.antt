@@ -1,18 +1,14 @@
 -- `rig_clash::corrected::with_boards` is safe and ends.
 use Prim.Native.Nat.{_-_}
 use borrow.Author.Needs.{needs}
-use lib.ListN.{length}
-use mathlib.Core.Path.{_≡_}
 use Rattle.rig_clash.proofs.corrected.with_boards.Statement.{statement}
 use Rattle.rig_clash.proofs.corrected.with_boards.Tie as tie
 
 abbrev Inv-loop : tie.InvT-loop
-Inv-loop kept₀ boards tonight tonight-boards tonight-lengths standing standing-boards standing-lengths load₀ board₀ kept load board =
-    length kept ≡ length kept₀
+Inv-loop kept₀ boards tonight standing load₀ board₀ kept load board = Unit {0}
 
 abbrev μ-loop : tie.MeasureT-loop
-μ-loop kept₀ boards tonight tonight-boards tonight-lengths standing standing-boards standing-lengths load₀ board₀ kept load board =
-    boards - board
+μ-loop kept₀ boards tonight standing load₀ board₀ kept load board = boards - board
 
 loop-holds : tie.Need-loop-holds Inv-loop μ-loop
 loop-holds c = search needs
@@ -29,9 +25,6 @@ loop-less c = search needs
 loop-again : tie.Need-loop-again Inv-loop μ-loop
 loop-again c = search needs
 
-same-length : tie.Need-same-length Inv-loop μ-loop
-same-length c = search needs
-
 returns : tie.Need-returns Inv-loop μ-loop
 returns c = search needs
 
@@ -46,5 +39,4 @@ with-boards-spec =
     add-board
     loop-less
     loop-again
-    same-length
     returns)

@@ -1,14 +1,11 @@
 -- `rig_clash::corrected::with_corrections` is safe and ends.
 use Prim.Native.Nat.{_-_}
 use borrow.Author.Needs.{needs}
-use lib.ListN.{length}
-use mathlib.Core.Path.{_≡_}
 use Rattle.rig_clash.proofs.corrected.with_corrections.Statement.{statement}
 use Rattle.rig_clash.proofs.corrected.with_corrections.Tie as tie
 
 abbrev Inv-loop : tie.InvT-loop
-Inv-loop page₀ kept₀ count state₀ correction₀ page kept state correction =
-    (length page ≡ length page₀) × (length kept ≡ length kept₀)
+Inv-loop page₀ kept₀ count state₀ correction₀ page kept state correction = Unit {0}
 
 abbrev μ-loop : tie.MeasureT-loop
 μ-loop page₀ kept₀ count state₀ correction₀ page kept state correction = count - correction
@@ -28,12 +25,6 @@ loop-less c = search needs
 loop-again : tie.Need-loop-again Inv-loop μ-loop
 loop-again c = search needs
 
-same-length : tie.Need-same-length Inv-loop μ-loop
-same-length c = search needs
-
-same-length-2 : tie.Need-same-length-2 Inv-loop μ-loop
-same-length-2 c = search needs
-
 returns : tie.Need-returns Inv-loop μ-loop
 returns c = search needs
 
@@ -48,6 +39,4 @@ with-corrections-spec =
     add-correction
     loop-less
     loop-again
-    same-length
-    same-length-2
     returns)

@@ -1,39 +1,32 @@
 -- `rig_clash::names::clear` is safe and ends.
-use Prim.Native.Nat.{_-_}
 use borrow.Author.Needs.{needs}
-use lib.ListN.{length}
-use mathlib.Core.Path.{_≡_}
+use Prim.Native.Nat.{_-_}
 use Rattle.rig_clash.proofs.names.clear.Statement.{statement}
 use Rattle.rig_clash.proofs.names.clear.Tie as tie
 
--- `rig_clash::names::clear` is safe and ends.
-
 abbrev Inv-loop : tie.InvT-loop
-Inv-loop lines₀ i₀ lines i = length lines ≡ length lines₀
+Inv-loop kept₀ slot₀ kept slot = Unit {0}
 
 abbrev μ-loop : tie.MeasureT-loop
-μ-loop lines₀ i₀ lines i = length lines₀ - i
+μ-loop kept₀ slot₀ kept slot = 8192 - slot
 
 loop-holds : tie.Need-loop-holds Inv-loop μ-loop
 loop-holds c = search needs
 
-mul-lines : tie.Need-mul-lines Inv-loop μ-loop
-mul-lines c = search needs
+cell-of-requires : tie.Need-cell-of-requires Inv-loop μ-loop
+cell-of-requires c κs = search needs
 
-slice-write-lines : tie.Need-slice-write-lines Inv-loop μ-loop
-slice-write-lines c = search needs
+put-byte-requires : tie.Need-put-byte-requires Inv-loop μ-loop
+put-byte-requires c κs = search needs
 
-add-i : tie.Need-add-i Inv-loop μ-loop
-add-i c = search needs
+add-slot : tie.Need-add-slot Inv-loop μ-loop
+add-slot c = search needs
 
 loop-less : tie.Need-loop-less Inv-loop μ-loop
 loop-less c = search needs
 
 loop-again : tie.Need-loop-again Inv-loop μ-loop
 loop-again c = search needs
-
-same-length : tie.Need-same-length Inv-loop μ-loop
-same-length c = search needs
 
 returns : tie.Need-returns Inv-loop μ-loop
 returns c = search needs
@@ -45,10 +38,9 @@ clear-spec =
     Inv-loop
     μ-loop
     loop-holds
-    mul-lines
-    slice-write-lines
-    add-i
+    cell-of-requires
+    put-byte-requires
+    add-slot
     loop-less
     loop-again
-    same-length
     returns)

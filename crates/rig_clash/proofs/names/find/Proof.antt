@@ -4,10 +4,10 @@ use Rattle.rig_clash.proofs.names.find.Statement.{statement}
 use Rattle.rig_clash.proofs.names.find.Tie as tie
 
 abbrev Inv-loop : tie.InvT-loop
-Inv-loop names lines name slot₀ left₀ slot left = Unit {0}
+Inv-loop kept name slot₀ left₀ slot left = Unit {0}
 
 abbrev μ-loop : tie.MeasureT-loop
-μ-loop names lines name slot₀ left₀ slot left = left
+μ-loop kept name slot₀ left₀ slot left = left
 
 slot-of-requires : tie.Need-slot-of-requires Inv-loop μ-loop
 slot-of-requires c κs = search needs

@@ -1,15 +1,13 @@
 -- `rig_clash::registers::put_flags` is safe and ends.
 use Prim.Native.Nat.{_-_}
 use borrow.Author.Needs.{needs}
-use lib.ListN.{length}
-use mathlib.Core.Path.{_≡_}
 use Rattle.rig_clash.proofs.registers.put_flags.Statement.{statement}
 use Rattle.rig_clash.proofs.registers.put_flags.Tie as tie
 
 -- `rig_clash::registers::put_flags` is safe and ends.
 
 abbrev Inv-loop : tie.InvT-loop
-Inv-loop page₀ at byte names next₀ rest₀ place₀ page next rest place = length page ≡ length page₀
+Inv-loop page₀ at byte names next₀ rest₀ place₀ page next rest place = Unit {0}
 
 abbrev μ-loop : tie.MeasureT-loop
 μ-loop page₀ at byte names next₀ rest₀ place₀ page next rest place = 8 - place
@@ -32,9 +30,6 @@ loop-less c = search needs
 loop-again : tie.Need-loop-again Inv-loop μ-loop
 loop-again c = search needs
 
-same-length : tie.Need-same-length Inv-loop μ-loop
-same-length c = search needs
-
 returns : tie.Need-returns Inv-loop μ-loop
 returns c = search needs
 
@@ -50,5 +45,4 @@ put-flags-spec =
     add-place
     loop-less
     loop-again
-    same-length
     returns)

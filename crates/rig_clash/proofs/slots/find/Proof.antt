@@ -1,14 +1,14 @@
 -- `rig_clash::slots::find` is safe and ends.
-use Prim.Native.Nat.{_-_}
 use borrow.Author.Needs.{needs}
+use Prim.Native.Nat.{_-_}
 use Rattle.rig_clash.proofs.slots.find.Statement.{statement}
 use Rattle.rig_clash.proofs.slots.find.Tie as tie
 
 abbrev Inv-loop : tie.InvT-loop
-Inv-loop kept count name board-name correction₀ correction = Unit {0}
+Inv-loop kept count board-name correction₀ correction = Unit {0}
 
 abbrev μ-loop : tie.MeasureT-loop
-μ-loop kept count name board-name correction₀ correction = count - correction
+μ-loop kept count board-name correction₀ correction = count - correction
 
 loop-holds : tie.Need-loop-holds Inv-loop μ-loop
 loop-holds c = search needs

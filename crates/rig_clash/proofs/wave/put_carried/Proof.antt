@@ -1,15 +1,13 @@
 -- `rig_clash::wave::put_carried` is safe and ends.
 use Prim.Native.Nat.{_-_}
 use borrow.Author.Needs.{needs}
-use lib.ListN.{length}
-use mathlib.Core.Path.{_≡_}
 use Rattle.rig_clash.proofs.wave.put_carried.Statement.{statement}
 use Rattle.rig_clash.proofs.wave.put_carried.Tie as tie
 
 -- `rig_clash::wave::put_carried` is safe and ends.
 
 abbrev Inv-loop : tie.InvT-loop
-Inv-loop page₀ at carried acks count next₀ i₀ page next i = length page ≡ length page₀
+Inv-loop page₀ at carried acks count next₀ i₀ page next i = Unit {0}
 
 abbrev μ-loop : tie.MeasureT-loop
 μ-loop page₀ at carried acks count next₀ i₀ page next i = count - i
@@ -29,9 +27,6 @@ loop-less c = search needs
 loop-again : tie.Need-loop-again Inv-loop μ-loop
 loop-again c = search needs
 
-same-length : tie.Need-same-length Inv-loop μ-loop
-same-length c = search needs
-
 returns : tie.Need-returns Inv-loop μ-loop
 returns c = search needs
 
@@ -46,5 +41,4 @@ put-carried-spec =
     add-i
     loop-less
     loop-again
-    same-length
     returns)

