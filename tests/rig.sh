@@ -526,6 +526,7 @@ dumps_refused() {
 # What is read of a dump, what the options ask of it, and which text is one.
 dumps_read() {
     local needs="needs stamps that count 100 ns, and this dump" capture=$examples/capture.vcd lines
+    local long="refused 26: the text is longer than 60000 bytes; dump a shorter time"
     lines="expected STAMP LEVEL, two decimal numbers, not '\$timescale'; this looks like a Value Change Dump: did you mean rig decode?"
     : >in
     expect 0 "ok 7 events in 99 samples, no frame open, 0 bits pending" decode "$capture" --room 7
@@ -540,9 +541,14 @@ dumps_read() {
     expect 0 "ok 3 events in 23 samples, no frame open, 0 bits pending" decode drawn.vcd --fast
     has "# a Value Change Dump whose stamps count 100 ns" "start 0" "gap 46"
     sed 's/$/\r/; s/ /\t/g' drawn.vcd >in && expect 0 "ok 3 events in 23 samples, no frame open, 0 bits pending" decode -
-    (printf '%4095s' '' && cat drawn.vcd) >in && expect 0 "ok 3 events in 23 samples, no frame open, 0 bits pending" decode -
-    (printf '%4096s' '' && cat drawn.vcd) >in && expect 2 "error line 1: longer than 4096 bytes" decode - && alone
-    (yes '' | head -n 4096 && cat drawn.vcd) >in && expect 2 "error line 4097: $lines" decode - && alone
+    (printf '%4096s' '' && cat drawn.vcd) >in && expect 0 "ok 3 events in 23 samples, no frame open, 0 bits pending" decode -
+    (printf '%60000s' '' && cat drawn.vcd) >in && expect 1 "$long" decode - && alone
+    (printf '%60001s' '' && cat drawn.vcd) >in && expect 2 "error line 1: longer than 4096 bytes" decode - && alone
+    (yes '' | head -n 60001 && cat drawn.vcd) >in && expect 2 "error line 60002: $lines" decode - && alone
+    (echo && sleep 0.2 && head -c 1 drawn.vcd && sleep 0.2 && tail -c +2 drawn.vcd) | "$rig" decode - >out 2>err
+    holds '[ $? = 0 ] && [ "$(tail -n 1 out)" = "ok 3 events in 23 samples, no frame open, 0 bits pending" ]' "a dump in pieces: $(cat out)"
+    (echo 5 3 && sleep 0.2 && echo 6 3) | "$rig" decode - >out 2>err
+    holds '[ $? = 3 ] && [ "$(grep -c "^start 5$" out)" = 1 ]' "a trace in pieces: $(cat out)"
     (echo '# a dump' && cat drawn.vcd) >in && expect 2 "error line 2: $lines" decode - && alone
     "$rig" dump drawn.vcd >out 2>err
     holds "[ $? = 2 ] && [ ! -s out ]" "a dump of a dump: $(cat out err)"

@@ -12,7 +12,7 @@ use Rattle.dump_reader.specs.declared.words.Word.{Word}
 use Rattle.dump_reader.specs.declared.reader.Part.the-variants.{Values}
 use Rattle.dump_reader.specs.declared.reader.Wave.{Wave}
 use Rattle.dump_reader.specs.declared.reader.Reader.{Reader}
-use Rattle.dump_reader.specs.Words.{same}
+use Rattle.laws.specs.Same.{same}
 use Rattle.dump_reader.specs.Reader.{started}
 use Rattle.dump_reader.specs.Timescale.{powerOf, numberOf, unitOf, unit, number}
 use Rattle.dump_reader.specs.Definitions.{close, skip, name, note, wire, opening, command, scope}

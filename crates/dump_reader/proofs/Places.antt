@@ -18,7 +18,8 @@ use Rattle.dump_reader.specs.declared.words.Word.{Word}
 use Rattle.dump_reader.specs.declared.reader.Part.{Part}
 use Rattle.dump_reader.specs.declared.reader.Part.the-variants as next
 use Rattle.dump_reader.specs.declared.reader.Reader.{Reader}
-use Rattle.dump_reader.specs.Words.{wordFrom, words, wordsUpTo, bytesOf, same, firstByte}
+use Rattle.laws.specs.Same.{same}
+use Rattle.dump_reader.specs.Words.{wordFrom, words, wordsUpTo, bytesOf, firstByte}
 use Rattle.dump_reader.specs.Reader.{started, withPart, withPlace, withTimescale, withScl, withSda, withWave}
 use Rattle.dump_reader.specs.Reader.{refusedBy}
 use Rattle.dump_reader.specs.Timescale.{powerOf, numberOf, unitOf, digitsOf, unit, number}

@@ -9,19 +9,7 @@ use borrow.Author.Tests.{eq-eqb, ne-eqb}
 use lib.Dec.{eqb}
 use lib.ListN.{length, getD, drop, drop-of-length-le}
 use lib.Seq.{drop-cons}
-use Rattle.dump_reader.specs.Words.{same}
-
--- words of different lengths are not the same
-pub other-length : (a b : List ℕ) → (length a ≡ length b → ⊥) → false ≡ same a b
-unfolding same
-other-length [] [] other = absurd (other refl)
-other-length [] (y ∷ b) other = refl
-other-length (x ∷ a) [] other = refl
-other-length (x ∷ a) (y ∷ b) other = go (eqb x y) (other-length a b (λ e. other (ap suc e)))
-  where
-    go : (head : Bool) → false ≡ same a b → false ≡ head && same a b
-    go true rest = rest
-    go false rest = refl
+use Rattle.laws.specs.Same.{same}
 
 module _ (a b : List ℕ) where
   -- the first i bytes are the same

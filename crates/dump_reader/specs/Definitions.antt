@@ -14,7 +14,8 @@ use Rattle.dump_reader.specs.declared.words.Word.{Word}
 use Rattle.dump_reader.specs.declared.reader.Part as part
 use Rattle.dump_reader.specs.declared.reader.Part.the-variants as next
 use Rattle.dump_reader.specs.declared.reader.Reader.{Reader}
-use Rattle.dump_reader.specs.Words.{belongs, bytesOf, same, begins}
+use Rattle.laws.specs.Same.{same}
+use Rattle.dump_reader.specs.Words.{belongs, bytesOf, begins}
 use Rattle.dump_reader.specs.Reader.{withPart, withScl, withSda, refusedBy}
 
 -- `$end` must stand here, else 27

@@ -9,7 +9,8 @@ use Rattle.text.specs.Words.{runLength}
 use Rattle.dump_reader.specs.declared.words.Run.the-variants.{Digits}
 use Rattle.dump_reader.specs.declared.reader.Part.the-variants.{Unit, Close}
 use Rattle.dump_reader.specs.declared.reader.Reader.{Reader}
-use Rattle.dump_reader.specs.Words.{belongs, same}
+use Rattle.laws.specs.Same.{same}
+use Rattle.dump_reader.specs.Words.{belongs}
 use Rattle.dump_reader.specs.Reader.{withPart, withTimescale, refusedBy}
 
 -- the power of ten that a number is, by its own digits; 3 for any other word

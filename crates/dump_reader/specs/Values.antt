@@ -14,7 +14,8 @@ use Rattle.dump_reader.specs.declared.reader.Part as part
 use Rattle.dump_reader.specs.declared.reader.Part.the-variants as next
 use Rattle.dump_reader.specs.declared.reader.Wave.{Wave}
 use Rattle.dump_reader.specs.declared.reader.Reader.{Reader}
-use Rattle.dump_reader.specs.Words.{bytesOf, same, firstByte}
+use Rattle.laws.specs.Same.{same}
+use Rattle.dump_reader.specs.Words.{bytesOf, firstByte}
 use Rattle.dump_reader.specs.Reader.{withPart, withWave, refusedBy}
 use Rattle.dump_reader.specs.Definitions.{close}
 

@@ -256,11 +256,13 @@ fn run_lines(
     answer_part(page, reading, &stamps, &levels, &lines, room, mode)
 }
 
+// A dump is known by how its text begins, all of which is read first.
 pub(crate) fn run(page: &mut [u8], at: usize, source: Source, room: usize, mode: Mode) -> usize {
-    let mut piece = io::buffer();
-    let ready = input::refilled(&mut piece, source);
-    if captured::comes(&piece, ready) {
-        return captured::run(page, at, &mut piece, ready, room, mode);
+    let mut piece = [0u8; captured::TEXT];
+    let ready = input::fill(&mut piece, source);
+    let n = parts::bytes(ready.end, &piece);
+    if captured::begins(&piece[..n]) {
+        return captured::run(page, at, &piece[..n], ready, room, mode);
     }
     run_lines(page, at, &mut piece, ready, room, mode)
 }

@@ -2,4 +2,4 @@ pub mod Words
 pub mod Forms
 pub mod Storing
 pub mod Taking
-pub mod Gathering
+pub mod Filling

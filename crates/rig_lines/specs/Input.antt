@@ -8,7 +8,6 @@ use lib.Dec.{eqb, leb}
 use lib.IntN.{ℤ}
 use lib.ListN.{length, getD, take}
 use lib.Seq.{sets}
-use Rattle.laws.specs.Buffer.{filled}
 use Rattle.text.specs.Words.{runLength}
 use Rattle.rig_lines.specs.Bytes.{plain, every}
 use Rattle.rig_lines.specs.Numbers.{largest, oneMore}
@@ -18,7 +17,6 @@ use Rattle.rig_lines.specs.declared.input.Next.{Next}
 use Rattle.rig_lines.specs.declared.input.Next.the-variants.{Byte, End as NoByte}
 use Rattle.rig_lines.specs.declared.input.Source.{Source}
 use Rattle.rig_lines.specs.declared.input.Taken.{Taken}
-use Rattle.rig_lines.specs.declared.input.Gathered.{Gathered}
 
 -- a source that nothing is read from yet
 abbrev pub begun : ℤ → ℕ → Source
@@ -79,6 +77,38 @@ pub record Refilled (piece : List ℕ) (s : Source) (piece′ : List ℕ) (s′ 
   pub fed : Fed piece s [] piece′ s′
   pub kept : length piece′ ≡ length piece
 
+-- a source with a piece of n bytes to be read
+abbrev pub suppliedWith : ℕ → Source → Source
+suppliedWith n s =
+    record {
+      fd = s .fd;
+      argument = s .argument;
+      at = 0;
+      end = n;
+      line = s .line;
+      done = s .done;
+      errno = s .errno;
+    }
+
+-- the same where the input ends with it, with an error's number where a read failed
+abbrev pub endedWith : ℕ → ℕ → Source → Source
+endedWith n errno s =
+    record { fd = s .fd; argument = s .argument; at = 0; end = n; line = s .line; done = true; errno = errno }
+
+-- A piece read from its start on, so many bytes: each read delivers some behind those that are there, and what it leaves
+-- past them is not known.
+pub data Read (piece : List ℕ) : List ℕ → ℕ → Type 0 where
+  none : Read piece piece 0
+  more : {now : List ℕ} {n : ℕ} (new : List ℕ) (count : ℕ) → Read piece now n → n + length new ≡ length now
+      → count ≤ length new → Read piece (take n now ++ new) (n + count)
+
+-- What filling a piece may leave: nothing is read where bytes of the last piece are left; else the piece is full, or the
+-- input ended with it.
+pub data Filled (piece : List ℕ) (s : Source) (piece′ : List ℕ) (s′ : Source) : Type 0 where
+  unread : s .at < s .end → piece′ ≡ piece → s′ ≡ s → Filled piece s piece′ s′
+  full : Read piece piece′ (length piece) → s .end ≤ s .at → s′ ≡ suppliedWith (length piece) s → Filled piece s piece′ s′
+  ended : (n errno : ℕ) → Read piece piece′ n → s .end ≤ s .at → s′ ≡ endedWith n errno s → Filled piece s piece′ s′
+
 -- a source that has no byte: its position is past its piece
 abbrev pub Spent : List ℕ → Source → Type 0
 Spent piece s = s .at < s .end → s .at < length piece → ⊥
@@ -116,13 +146,6 @@ pub data Took (piece line : List ℕ) (s : Source) (piece′ line′ : List ℕ)
   endless : (bytes : List ℕ) → length bytes ≡ largest → line′ ≡ sets line 0 bytes
       → Fed piece (nextNumber s) bytes piece′ (taken .source)
       → taken .line ≡ TooLong → Took piece line s piece′ line′ taken
-
--- Taking all that is left: the bytes that the source handed on, up to the end of the input or as many as there is room for.
-pub data TookAll (piece text : List ℕ) (s : Source) (piece′ text′ : List ℕ) (r : Gathered) : Type 0 where
-  ended : (bytes : List ℕ) → length bytes ≤ length text → text′ ≡ filled bytes text → r .count ≡ length bytes
-      → Fed piece s bytes piece′ (r .source) → Spent piece′ (r .source) → TookAll piece text s piece′ text′ r
-  full : (bytes : List ℕ) → length bytes ≡ length text → text′ ≡ bytes → r .count ≡ length bytes
-      → Fed piece s bytes piece′ (r .source) → TookAll piece text s piece′ text′ r
 
 -- where a comment begins, or the length of a line that has none
 abbrev pub commentAt : List ℕ → ℕ

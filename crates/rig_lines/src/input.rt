@@ -4,7 +4,8 @@ ghost use Prim.Native.Nat.{_≤_};
 ghost use lib.ListN.{length, take};
 ghost use Rattle.rig_lines.specs.Bytes.{plain, every};
 ghost use Rattle.rig_lines.specs.Input.{begun, nextNumber, afterRead as readAfter, Refilled, NextByte};
-ghost use Rattle.rig_lines.specs.Input.{judgedLine, judgedLast, Took, TookAll, commentAt, contentOf};
+ghost use Rattle.rig_lines.specs.Input.{suppliedWith, endedWith, Filled};
+ghost use Rattle.rig_lines.specs.Input.{judgedLine, judgedLast, Took, commentAt, contentOf};
 use crate::console::is_control;
 use crate::files;
 use crate::numbers::more;
@@ -51,12 +52,6 @@ pub struct Taken {
     pub source: Source,
 }
 
-// What taking all of an input finds: how many bytes, and the source after them.
-pub struct Gathered {
-    pub count: usize,
-    pub source: Source,
-}
-
 enum Next {
     Byte(u8, Source),
     End(Source),
@@ -89,8 +84,8 @@ fn after_read(mut from: Source, n: usize, errno: u64) -> Source
     from
 }
 
-// Reads once, where the last piece is used up and the input has not ended: what comes can then be looked at.
-pub fn refilled(piece: &mut [u8], from: Source) -> Source
+// Reads once, where the last piece is used up and the input has not ended.
+fn refilled(piece: &mut [u8], from: Source) -> Source
     ensures { λ r. ⌜ Refilled (now (piece .entry)) from (now (piece .exit)) r ⌝ }
 {
     if from.at < from.end {
@@ -102,6 +97,47 @@ pub fn refilled(piece: &mut [u8], from: Source) -> Source
     let got = libc::read(from.fd, piece);
     let errno = files::error_number(got < 0);
     after_read(from, io::count(got, piece), errno)
+}
+
+// A source whose input ends with a piece of n bytes.
+fn ended(mut from: Source, n: usize, errno: u64) -> Source
+    ensures { λ r. ⌜ r ≡ endedWith n errno from ⌝ }
+{
+    from.at = 0;
+    from.end = n;
+    from.done = true;
+    from.errno = errno;
+    from
+}
+
+// A source with a piece of n bytes.
+fn supplied(mut from: Source, n: usize) -> Source
+    ensures { λ r. ⌜ r ≡ suppliedWith n from ⌝ }
+{
+    from.at = 0;
+    from.end = n;
+    from
+}
+
+// Reads until the piece is full or the input has ended, where the last piece is used up: a pipe hands on what it has,
+// and what begins the input can then be looked at however it came.
+pub fn fill(piece: &mut [u8], from: Source) -> Source
+    ensures { λ r. ⌜ Filled (now (piece .entry)) from (now (piece .exit)) r ⌝ }
+{
+    if from.at < from.end {
+        return from;
+    }
+    let mut n: usize = 0;
+    while n < piece.len() {
+        let got = libc::read(from.fd, &mut piece[n..]);
+        let errno = files::error_number(got < 0);
+        let count = io::count(got, &piece[n..]);
+        if count == 0 {
+            return ended(from, n, errno);
+        }
+        n += count;
+    }
+    supplied(from, n)
 }
 
 fn next_byte(piece: &mut [u8], from: Source) -> Next
@@ -168,33 +204,6 @@ fn counted(mut from: Source) -> Source
 {
     from.line = more(from.line);
     from
-}
-
-// Takes all that is left of the input, as far as there is room.
-pub fn gather(piece: &mut [u8], text: &mut [u8], from: Source) -> Gathered
-    ensures { λ r. ⌜ TookAll (now (piece .entry)) (now (text .entry)) from (now (piece .exit)) (now (text .exit)) r ⌝ }
-{
-    let mut from = from;
-    let mut n: usize = 0;
-    while n < text.len() {
-        match next_byte(piece, from) {
-            Next::End(after) => {
-                return Gathered {
-                    count: n,
-                    source: after,
-                };
-            }
-            Next::Byte(b, after) => {
-                text[n] = b;
-                n += 1;
-                from = after;
-            }
-        }
-    }
-    Gathered {
-        count: n,
-        source: from,
-    }
 }
 
 // Takes the next line whole, also one that is too long.

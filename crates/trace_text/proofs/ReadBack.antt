@@ -12,7 +12,8 @@ use Rattle.text.specs.Words.{runLength}
 use Rattle.text.specs.Numbers.{digitValue, allDigits, valueAfter, fitting, numberIn}
 use Rattle.rig_lines.specs.Numbers.{byteIn}
 use Rattle.trace_text.specs.Events.{directionText, acknowledgeText, byteText, eventText}
-use Rattle.trace_text.specs.Words.{isWord, aloneIn, acknowledgedIn, directedIn, followsByte}
+use Rattle.laws.specs.Same.{same}
+use Rattle.trace_text.specs.Words.{aloneIn, acknowledgedIn, directedIn, followsByte}
 use Rattle.trace_text.specs.Words.{transferIn, pairIn, saidIn}
 use Rattle.trace_text.specs.declared.reading.Said.{Said}
 use Rattle.trace_text.specs.declared.reading.Said.the-variants.{Event, Numbers, Malformed, WrongDirection}
@@ -37,7 +38,7 @@ back event = says event (saidIn (eventText false event)) && says event (saidIn (
 
 all-back : allBelow back 516 ≡ true
 unfolding back says eventText byteText directionText acknowledgeText hexText digitByte
-    saidIn isWord aloneIn acknowledgedIn directedIn transferIn pairIn runLength byteIn
+    saidIn same aloneIn acknowledgedIn directedIn transferIn pairIn runLength byteIn
     numberIn allDigits valueAfter fitting digitValue followsByte
 all-back = refl
 

@@ -1,6 +1,7 @@
 // What a line of an event list says.
 ghost use mathlib.Core.Path.{_≡_};
-ghost use Rattle.trace_text.specs.Words.{isWord, followsByte, aloneIn, acknowledgedIn, directedIn};
+ghost use Rattle.laws.specs.Same.{same as sameOf};
+ghost use Rattle.trace_text.specs.Words.{followsByte, aloneIn, acknowledgedIn, directedIn};
 ghost use Rattle.trace_text.specs.Words.{transferIn, pairIn, saidIn};
 use check::same;
 use rig_lines::numbers::hex_byte;
@@ -25,7 +26,7 @@ pub enum Said {
 }
 
 fn is_word(word: &[u8], name: &[u8]) -> bool
-    ensures { λ r. ⌜ r ≡ isWord (now (word .entry)) (now (name .entry)) ⌝ }
+    ensures { λ r. ⌜ r ≡ sameOf (now (word .entry)) (now (name .entry)) ⌝ }
 {
     same(word, name)
 }

@@ -13,9 +13,10 @@ use Rattle.arbitration_rules.specs.Reply.{messagesOf}
 use Rattle.arbitration_rules.proofs.Accepted.{cut-count}
 use Rattle.arbitration_checks.proofs.Walk.{At, at-start, at-more, message-is}
 use Rattle.verdict.specs.declared.Verdict.the-variants.{Undecided}
-use Rattle.verdict.specs.Verdict.{stillIn, contenders, same, ended, decided}
+use Rattle.laws.specs.Same.{same}
+use Rattle.verdict.specs.Verdict.{stillIn, contenders, ended, decided}
 use Rattle.verdict.proofs.Pairs.{Through, through-start, through-more, through-fails, through-one}
-use Rattle.verdict.proofs.Compared.{same-self}
+use Rattle.laws.proofs.Same.{same-self}
 
 -- everyone still in has a message
 abbrev pub agreed : List ℕ → List Seat → List (List ℕ) → Bool

@@ -7,43 +7,18 @@ use native.Mathlib.Omega.{arith}
 use borrow.Author.Tests.{eq-eqb, eqb-true}
 use lib.Dec.{eqb}
 use lib.ListN.{length, getD, List·getD-eq-default}
-use Rattle.laws.proofs.Bools.{both}
+use Rattle.laws.proofs.Same.{same-step}
 use Rattle.arbitration_rules.specs.Outcome.{allAcknowledged}
 use Rattle.arbitration_rules.specs.Reply.{messagesOf}
 use Rattle.arbitration_rules.proofs.Accepted.{cut-count}
 use Rattle.arbitration_checks.proofs.Walk as walk
 use Rattle.verdict.specs.Message.{MessageAt}
-use Rattle.verdict.specs.Verdict.{same}
+use Rattle.laws.specs.Same.{same}
 use Rattle.verdict.proofs.Pairs.{Through}
-
--- messages of different lengths differ
-pub unequal-lengths : (message other : List ℕ) → (length message ≡ length other → ⊥) → false ≡ same message other
-unequal-lengths [] [] unequal = absurd (unequal refl)
-unequal-lengths [] (other ∷ others) unequal = refl
-unequal-lengths (byte ∷ bytes) [] unequal = refl
-unequal-lengths (byte ∷ bytes) (other ∷ others) unequal =
-    go (eqb byte other) (unequal-lengths bytes others (λ e. unequal (ap suc e)))
-  where
-    go : (equal : Bool) → false ≡ same bytes others → false ≡ equal && same bytes others
-    go true rest = rest
-    go false rest = refl
-
--- the test says that they are equal
-pub same-self : (message : List ℕ) → same message message ≡ true
-same-self [] = refl
-same-self (byte ∷ bytes) = rw (eq-eqb byte byte refl) (same-self bytes)
-
-pub same-equal : (message other : List ℕ) → same message other ≡ true → message ≡ other
-same-equal [] [] holds = refl
-same-equal [] (other ∷ others) holds = absurd (false≢true holds)
-same-equal (byte ∷ bytes) [] holds = absurd (false≢true holds)
-same-equal (byte ∷ bytes) (other ∷ others) holds =
-    let two = both (eqb byte other) (same bytes others) holds in
-    ap₂ _∷_ (eqb-true byte other (two .0)) (same-equal bytes others (two .1))
 
 -- the bytes compared so far are equal
 abbrev pub Alike : List ℕ → List ℕ → ℕ → Type 0
-Alike message other i = Through same eqb (λ byte other bytes others. refl) message other i
+Alike message other i = Through same eqb same-step message other i
 
 -- the bytes passed so far are acknowledged
 abbrev pub taken : ℕ → ℕ → Bool

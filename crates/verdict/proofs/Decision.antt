@@ -11,8 +11,9 @@ use Rattle.laws.proofs.Lists.{everyone-so, someone-both}
 use Rattle.laws.proofs.Bools.{both}
 use Rattle.verdict.specs.declared.Verdict.{Verdict}
 use Rattle.verdict.specs.declared.Verdict.the-variants.{Undecided}
-use Rattle.verdict.specs.Verdict.{same, ended, decided}
-use Rattle.verdict.proofs.Compared.{same-self, same-equal}
+use Rattle.laws.specs.Same.{same}
+use Rattle.verdict.specs.Verdict.{ended, decided}
+use Rattle.laws.proofs.Same.{same-self, same-equal}
 
 -- what a test of all says of each
 all-true : {A : Type 0} (test : A → Bool) (list : List A) → all test list ≡ true → Everyone (λ a. test a ≡ true) list

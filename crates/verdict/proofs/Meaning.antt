@@ -22,7 +22,8 @@ use Rattle.arbitration_rules.proofs.Demand.{least-sendable}
 use Rattle.arbitration_rules.proofs.Undecided.{CutShort, whole, ends-together}
 use Rattle.verdict.specs.declared.Verdict.{Verdict}
 use Rattle.verdict.specs.declared.Verdict.the-variants.{Refused, Undecided, Cut, Sent}
-use Rattle.verdict.specs.Verdict.{contenders, same, ended, decided, verdictOf}
+use Rattle.laws.specs.Same.{same}
+use Rattle.verdict.specs.Verdict.{contenders, ended, decided, verdictOf}
 use Rattle.verdict.proofs.Acknowledged.{Whole, FirstRefused, each-acknowledged, all-acknowledged, not-cut}
 use Rattle.verdict.proofs.Acknowledged.{some-refused, first-refused}
 use Rattle.verdict.proofs.Answered.{unbeaten-every, given, decides, those-in, count-is, winner-in}

@@ -1,10 +1,11 @@
 -- The verdict of a load: from the reply of arbitrate, the messages (01: plans) and the acknowledges (01: answers).
 use Prim.Native.Nat.{ℕ}
-use mathlib.Core.Bool.{Bool, cond, true, false, _&&_}
+use mathlib.Core.Bool.{Bool, cond, _&&_}
 use mathlib.Core.List.{List, [], _∷_}
 use lib.Dec.{eqb}
 use lib.ListN.{length}
 use Rattle.laws.specs.Search.{all}
+use Rattle.laws.specs.Same.{same}
 use Rattle.arbitration_rules.specs.declared.Arbitrated.{Arbitrated}
 use Rattle.arbitration_rules.specs.declared.Seat.{Seat}
 use Rattle.arbitration_rules.specs.Outcome.{allAcknowledged}
@@ -20,13 +21,6 @@ contenders [] messages = []
 contenders (seat ∷ seats) [] = []
 contenders (seat ∷ seats) (message ∷ messages) =
     cond (stillIn seat) (message ∷ contenders seats messages) (contenders seats messages)
-
--- Two messages are the same, byte by byte.
-abbrev pub same : List ℕ → List ℕ → Bool
-same [] [] = true
-same [] (other ∷ others) = false
-same (byte ∷ bytes) [] = false
-same (byte ∷ bytes) (other ∷ others) = eqb byte other && same bytes others
 
 -- The winner's message is sent where every byte of it was carried and acknowledged; else it was cut short after the
 -- bytes that were carried (01: k).

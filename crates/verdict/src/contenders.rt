@@ -2,7 +2,8 @@
 ghost use mathlib.Core.Path.{_≡_};
 ghost use Rattle.laws.specs.Search.{first as firstOf, all};
 ghost use Rattle.arbitration_rules.specs.Reply.{messagesOf};
-ghost use Rattle.verdict.specs.Verdict.{stillIn, contenders, same as sameOf};
+ghost use Rattle.laws.specs.Same.{same as sameOf};
+ghost use Rattle.verdict.specs.Verdict.{stillIn, contenders};
 use crate::messages;
 use arbitration_rules::MAX_MASTERS;
 use arbitration_rules::Seat;

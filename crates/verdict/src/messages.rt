@@ -2,7 +2,7 @@
 ghost use mathlib.Core.Path.{_≡_};
 ghost use Rattle.arbitration_rules.specs.Outcome.{allAcknowledged};
 ghost use Rattle.verdict.specs.Message.{MessageAt};
-ghost use Rattle.verdict.specs.Verdict.{same as sameOf};
+ghost use Rattle.laws.specs.Same.{same as sameOf};
 
 // A part of the bytes: from one index to another.
 pub struct Span {

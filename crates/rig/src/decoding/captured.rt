@@ -13,7 +13,6 @@ use rig_lines::console::begin;
 use rig_lines::console::put_form;
 use rig_lines::console::put_line;
 use rig_lines::console::put_quoted;
-use rig_lines::input;
 use rig_lines::input::Source;
 use rig_lines::numbers::least;
 use rig_lines::numbers::more;
@@ -27,7 +26,7 @@ use text::put_bytes;
 use trace::MAX_SAMPLES;
 
 // One byte more than the longest text, so that the library sees a text that is too long.
-const TEXT: usize = LONGEST_TEXT + 1;
+pub(crate) const TEXT: usize = LONGEST_TEXT + 1;
 
 // What the modes count: 100 ns, in femtoseconds.
 const MODES_UNIT: u64 = 100000000;
@@ -37,7 +36,7 @@ fn is_blank(b: u8) -> bool {
 }
 
 // Whether a text begins as a dump does: with `$`, blanks aside.
-fn begins(text: &[u8]) -> bool {
+pub(crate) fn begins(text: &[u8]) -> bool {
     let mut i: usize = 0;
     while i < text.len() {
         if !is_blank(text[i]) {
@@ -46,14 +45,6 @@ fn begins(text: &[u8]) -> bool {
         i += 1;
     }
     false
-}
-
-// Whether what a source hands on next begins so.
-pub(crate) fn comes(piece: &[u8], from: Source) -> bool {
-    let end = parts::bytes(from.end, piece);
-    let filled = &piece[..end];
-    let at = parts::bytes(from.at, filled);
-    begins(&filled[at..])
 }
 
 // The line of a byte.
@@ -277,20 +268,17 @@ fn read(page: &mut [u8], at: usize, text: &[u8], room: usize, mode: Mode) -> usi
     }
 }
 
+// Reads a dump, unless the input failed within its text.
 pub(crate) fn run(
     page: &mut [u8],
     at: usize,
-    piece: &mut [u8],
+    text: &[u8],
     source: Source,
     room: usize,
     mode: Mode,
 ) -> usize {
-    let mut text = [0u8; TEXT];
-    let got = input::gather(piece, &mut text, source);
-    let after = got.source;
-    if after.errno != 0 {
-        return trouble::file(page, at, b"cannot read ", after.argument, after.errno);
+    if source.errno != 0 {
+        return trouble::file(page, at, b"cannot read ", source.argument, source.errno);
     }
-    let n = parts::bytes(got.count, &text);
-    read(page, at, &text[..n], room, mode)
+    read(page, at, text, room, mode)
 }

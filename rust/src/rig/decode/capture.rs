@@ -10,8 +10,8 @@ use crate::rig::files::Contents;
 use crate::rig::refusals;
 use crate::rig::text::{bytes_of, is_parting};
 
-/// A dump begins within so many bytes.
-const BEGINNING: usize = 4096;
+/// A dump begins within so many bytes, one more than a dump may have.
+const BEGINNING: usize = LONGEST + 1;
 
 /// The femtoseconds that the strict modes ask a stamp to count.
 const STRICT: u64 = 100_000_000;

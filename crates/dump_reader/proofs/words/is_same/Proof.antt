@@ -1,7 +1,8 @@
 -- `dump_reader::words::is_same` meets its contract.
 use Prim.Native.Nat.{_-_}
 use lib.ListN.{length}
-use Rattle.dump_reader.proofs.Same.{Alike, other-length, alike-none, alike-more, alike-stop, alike-all}
+use Rattle.laws.proofs.Same.{unequal-lengths}
+use Rattle.dump_reader.proofs.Same.{Alike, alike-none, alike-more, alike-stop, alike-all}
 use borrow.Author.Needs.{needs}
 use Rattle.dump_reader.proofs.words.is_same.Statement.{statement}
 use Rattle.dump_reader.proofs.words.is_same.Tie as tie
@@ -13,7 +14,7 @@ abbrev μ-loop : tie.MeasureT-loop
 μ-loop a b i₀ i = length a - i
 
 returns : tie.Need-returns Inv-loop μ-loop
-returns c = other-length _ _ (c .if1 .taken)
+returns c = unequal-lengths _ _ (c .if1 .taken)
 
 loop-holds : tie.Need-loop-holds Inv-loop μ-loop
 loop-holds c = alike-none _ _ (c .if1 .left)

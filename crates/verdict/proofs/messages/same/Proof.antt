@@ -4,7 +4,8 @@ use Prim.Native.Nat.{_-_}
 use mathlib.Core.Path.{refl}
 use lib.ListN.{length}
 use borrow.Author.Tests.{eq-eqb, ne-eqb}
-use Rattle.verdict.proofs.Compared.{Alike, unequal-lengths}
+use Rattle.laws.proofs.Same.{unequal-lengths}
+use Rattle.verdict.proofs.Compared.{Alike}
 use Rattle.verdict.proofs.Pairs.{through-start, through-more, through-fails, through-both}
 use borrow.Author.Needs.{needs}
 use Rattle.verdict.proofs.messages.same.Statement.{statement}
