@@ -1,21 +1,21 @@
 -- What messages and acknowledges that 12 to 16 pass give of their run: how much it carries and records.
 use Prim.Native.Nat.{ℕ, zero, suc, _<_, _≤_}
-use mathlib.Core.Path.{_≡_, refl, ap₂}
-use mathlib.Core.Bool.{Bool, true, false, cond, not}
+use mathlib.Core.Path.{_≡_, refl, sym, ap, ap₂, _∙_}
+use mathlib.Core.Bool.{Bool, true, false, cond, not, _||_}
 use mathlib.Core.List.{List, [], _∷_, map}
 use native.Mathlib.Omega.{arith}
 use lib.Dec.{eqb, ltb}
-use borrow.Author.Tests.{eqb-true, eqb-false, ltb-false, not-false}
+use borrow.Author.Tests.{eqb-true, eqb-false, ltb-false, not-false, eq-eqb, ne-eqb}
 use lib.ListN.{length, getD, take, drop, length-take, length-drop}
 use Rattle.laws.specs.declared.Refusal.{Refusal}
 use Rattle.laws.specs.Everyone.{nobody, also}
-use Rattle.laws.specs.Refusals.{given}
+use Rattle.laws.specs.Refusals.{check, given, none, orElse}
 use Rattle.laws.specs.Search.{any}
 use Rattle.laws.proofs.Bools.{neither}
-use Rattle.laws.proofs.Refusals.{Passed, passed}
+use Rattle.laws.proofs.Refusals.{Passed, passed, in-parts}
 use Rattle.arbitration_rules.specs.Limits.{maxMasters, maxLength}
 use Rattle.arbitration_rules.specs.Outcome.{least, carriedCount, levelCount}
-use Rattle.arbitration_rules.specs.Reply.{messagesOf, badLength, total, messageChecks, shortBuffer}
+use Rattle.arbitration_rules.specs.Reply.{messagesOf, badLength, total, messageChecks, shortSlice, refusal}
 use Rattle.arbitration_rules.specs.Run.{run}
 use Rattle.arbitration_rules.proofs.Carry.{Bytes}
 use Rattle.arbitration_rules.proofs.Carried.{carried-within}
@@ -119,7 +119,77 @@ module _ (bytes lengths acknowledges : List ℕ) where
         let best = least-within lengths bytes in
         omega (arith, within, best, longest-within lengths (sizes .0))
 
-    pub short-is : (carriedRoom levelRoom : ℕ)
-        → Short (carriedCount (least messages) acknowledges) carriedRoom levelRoom
-        ≡ shortBuffer (run messages acknowledges) carriedRoom levelRoom
-    short-is carriedRoom levelRoom = rw (carried-length, levels-length)
+    pub short-is : (tableRoom carriedRoom levelRoom : ℕ)
+        → Short (length lengths) (carriedCount (least messages) acknowledges) tableRoom carriedRoom levelRoom
+        ≡ shortSlice lengths (run messages acknowledges) tableRoom carriedRoom levelRoom
+    short-is tableRoom carriedRoom levelRoom = rw (carried-length, levels-length)
+
+-- what an arbitration that nothing refuses has
+pub record Unrefused (bytes lengths acknowledges : List ℕ) (tableRoom carriedRoom levelRoom : ℕ) : Type 0 where
+  pub passed : found bytes lengths acknowledges .number ≡ 0
+  pub none-applies : refusal bytes lengths acknowledges tableRoom carriedRoom levelRoom ≡ none
+  pub masters : length lengths ≤ maxMasters
+  pub enough : length lengths ≤ tableRoom
+  pub carries : length (run (messagesOf lengths bytes) acknowledges .carried) ≤ carriedRoom
+  pub records : length (run (messagesOf lengths bytes) acknowledges .levels) ≤ levelRoom
+
+module _ (bytes lengths acknowledges : List ℕ) (tableRoom carriedRoom levelRoom : ℕ) where
+  abbrev pub lacks : Bool
+  lacks = shortSlice lengths (run (messagesOf lengths bytes) acknowledges) tableRoom carriedRoom levelRoom
+
+  -- what applies: one of 12 to 16, or else 8
+  pub applies-is : refusal bytes lengths acknowledges tableRoom carriedRoom levelRoom
+      ≡ orElse (found bytes lengths acknowledges) (given (check 8 lacks ∷ []))
+  unfolding refusal
+  applies-is =
+      in-parts (messageChecks bytes lengths acknowledges) (check 8 lacks ∷ [])
+      (message-numbered bytes lengths acknowledges)
+
+  pub passes-some : found bytes lengths acknowledges .number ≡ 0
+      → refusal bytes lengths acknowledges tableRoom carriedRoom levelRoom ≡ given (check 8 lacks ∷ [])
+  passes-some unrefused = applies-is ∙ rw (eq-eqb (found bytes lengths acknowledges .number) 0 unrefused)
+
+  enough-room : lacks ≡ false
+      → (length lengths ≤ tableRoom)
+      × ((length (run (messagesOf lengths bytes) acknowledges .carried) ≤ carriedRoom)
+      × (length (run (messagesOf lengths bytes) acknowledges .levels) ≤ levelRoom))
+  enough-room enough =
+      let bus = run (messagesOf lengths bytes) acknowledges in
+      let carrying = ltb carriedRoom (length (bus .carried)) in
+      let one = neither (ltb tableRoom (length lengths) || carrying) (ltb levelRoom (length (bus .levels))) enough in
+      let two = neither (ltb tableRoom (length lengths)) carrying (one .0) in (
+        ltb-false tableRoom (length lengths) (two .0),
+        (
+          ltb-false carriedRoom (length (bus .carried)) (two .1),
+          ltb-false levelRoom (length (bus .levels)) (one .1),
+        ),
+      )
+
+  pub unrefused-gives : Bytes bytes → refusal bytes lengths acknowledges tableRoom carriedRoom levelRoom .number ≡ 0
+      → Unrefused bytes lengths acknowledges tableRoom carriedRoom levelRoom
+  unrefused-gives small unrefused = go (found bytes lengths acknowledges .number) refl lacks refl
+    where
+      number : refusal bytes lengths acknowledges tableRoom carriedRoom levelRoom .number
+          ≡ orElse (found bytes lengths acknowledges) (given (check 8 lacks ∷ [])) .number
+      number = ap (λ (r : Refusal). r .number) applies-is
+
+      go : (n : ℕ) → found bytes lengths acknowledges .number ≡ n → (short-so : Bool) → lacks ≡ short-so
+          → Unrefused bytes lengths acknowledges tableRoom carriedRoom levelRoom
+      go (suc n) is short-so room =
+          let some = ne-eqb (found bytes lengths acknowledges .number) 0 (λ e. omega (arith, is)) in
+          let stays : _≡_ {A = ℕ} 0 (found bytes lengths acknowledges .number) = rw some at (sym unrefused ∙ number) in
+          absurd (omega (arith, is, stays))
+      go zero is true room =
+          let eight : _≡_ {A = ℕ} 0 8 =
+          rw (eq-eqb (found bytes lengths acknowledges .number) 0 is, room) at (sym unrefused ∙ number) in
+          absurd (omega (arith, eight))
+      go zero is false room =
+          let all = enough-room room in
+          record {
+            passed = is;
+            none-applies = passes-some is ∙ rw room;
+            masters = few bytes lengths acknowledges small is;
+            enough = all .0;
+            carries = all .1 .0;
+            records = all .1 .1;
+          }

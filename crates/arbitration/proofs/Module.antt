@@ -26,9 +26,13 @@ use Rattle.arbitration_run.proofs.pass.Seen as seen-type
 use Rattle.arbitration_run.proofs.pass.Seen.Laws as seen-laws
 use Rattle.arbitration_run.proofs.sequencer.Sequencer as sequencer-type
 use Rattle.arbitration_run.proofs.sequencer.Sequencer.Laws as sequencer-laws
-use Rattle.arbitration.proofs.table.Ended as ended-type
-use Rattle.arbitration.proofs.table.Ended.Laws as ended-laws
-use Rattle.arbitration.specs.declared.table.Ended.{Ended}
+use Rattle.arbitration_rules.proofs.Arbitrated as reply-type
+use Rattle.arbitration_rules.proofs.Arbitrated.Laws as reply-laws
+use Rattle.arbitration.proofs.Rehearsed as rehearsed-type
+use Rattle.arbitration.proofs.Rehearsed.Laws as rehearsed-laws
+use Rattle.arbitration.specs.declared.Rehearsed.{Rehearsed}
+use Rattle.arbitration.proofs.plan.Plan as plan-type
+use Rattle.arbitration.proofs.plan.Plan.Laws as plan-laws
 use Rattle.usi.specs.declared.Usi.{Usi}
 use Rattle.arbitration_rules.specs.Limits.{maxMasters, maxLength}
 use Rattle.arbitration_run.specs.declared.sequencer.Sequencer.{Sequencer}
@@ -80,36 +84,58 @@ rows-mir = tyArray (tyArray (tyInt w8) maxLength) maxMasters
 abbrev pub rows : ByValue rows-row
 rows = array (array (uint w8) maxLength) maxMasters
 
--- what `run_modules` answers: its machine value, and that it is one
-abbrev pub ended-row : RattleType
-ended-row = ended-type.the-row
+-- what a call is to do
+abbrev pub plan-row : RattleType
+plan-row = plan-type.the-row
 
-abbrev pub ended-mir : Ty
-ended-mir = ended-laws.mir
+abbrev pub plan-mir : Ty
+plan-mir = plan-laws.mir
 
-abbrev pub ended-word : List Usi → Sequencer → Val
-ended-word modules s = vstruct (ofList (array usi maxMasters .val modules ∷ sequencer .val s ∷ []))
+abbrev pub plan : ByValue plan-row
+plan = declared plan-type.the-type plan-laws.the-laws plan-laws.the-plain
 
-pub ended-is : (modules : List Usi) (s : Sequencer) → Is (Array usi-row maxMasters) modules (array usi maxMasters .val modules ∷ [])
-    → Is sequencer-row s (sequencer .val s ∷ []) → Is ended-row (record { modules = modules; sequencer = s }) (ended-word modules s ∷ [])
-ended-is modules s modules-are s-is =
+-- the reply
+abbrev pub reply-row : RattleType
+reply-row = reply-type.the-row
+
+abbrev pub reply-mir : Ty
+reply-mir = reply-laws.mir
+
+abbrev pub reply : ByValue reply-row
+reply = declared reply-type.the-type reply-laws.the-laws reply-laws.the-plain
+
+-- what `rehearse` answers: its machine value, and that it is one
+abbrev pub rehearsed-row : RattleType
+rehearsed-row = rehearsed-type.the-row
+
+abbrev pub rehearsed-mir : Ty
+rehearsed-mir = rehearsed-laws.mir
+
+abbrev pub rehearsed-word : Rehearsed → Val
+rehearsed-word d = vstruct (ofList (reply .val (d .reply) ∷ array usi maxMasters .val (d .modules) ∷ []))
+
+pub rehearsed-is : (d : Rehearsed) → Is reply-row (d .reply) (reply .val (d .reply) ∷ [])
+    → Is (Array usi-row maxMasters) (d .modules) (array usi maxMasters .val (d .modules) ∷ [])
+    → Is rehearsed-row d (rehearsed-word d ∷ [])
+rehearsed-is d reply-is modules-are =
     let words : List Val = modules-are .0 in
-    let same : array usi maxMasters .val modules ∷ [] ≡ arrayVal words ∷ [] = modules-are .1 .0 .0 in
-    let long : length (map (field usi-type.the-type .into) modules) ≡ maxMasters =
-    length-map modules (field usi-type.the-type .into) ∙ modules-are .1 .0 .1 in (
-      (arrayVal words ∷ [], (sequencer .val s ∷ [], tt)),
+    let same : array usi maxMasters .val (d .modules) ∷ [] ≡ arrayVal words ∷ [] = modules-are .1 .0 .0 in
+    let long : length (map (field usi-type.the-type .into) (d .modules)) ≡ maxMasters =
+    length-map (d .modules) (field usi-type.the-type .into) ∙ modules-are .1 .0 .1 in (
+      (reply .val (d .reply) ∷ [], (arrayVal words ∷ [], tt)),
       (
-        ap (λ (vs : List Val). vstruct (ofList (only vs ∷ sequencer .val s ∷ [])) ∷ []) same,
-        ((words, ((refl, long), each-into usi-type.the-type modules words (modules-are .1 .1))), (s-is, tt)),
+        ap (λ (vs : List Val). vstruct (ofList (reply .val (d .reply) ∷ only vs ∷ [])) ∷ []) same,
+        (reply-is, ((words, ((refl, long), each-into usi-type.the-type (d .modules) words (modules-are .1 .1))), tt)),
       ),
     )
 
 module _ {M : Type 1} (𝓤 : URA M) (H : Heap 𝓤) (A : Atoms 𝓤) where
-  pub ended-makes : Makes 𝓤 H A ended-row (Is ended-row)
-  ended-makes = struct.makes ended-type.the-type ended-laws.the-plain 𝓤 H A
+  pub rehearsed-makes : Makes 𝓤 H A rehearsed-row (Is rehearsed-row)
+  rehearsed-makes = struct.makes rehearsed-type.the-type rehearsed-laws.the-plain 𝓤 H A
 
-  pub ended-typed : Given 𝓤 H A → (d : Ended) (vs : List Val) → Is ended-row d vs → Typed (ended-row .mir) vs
-  ended-typed W = struct.lawful ended-type.the-type ended-laws.the-laws 𝓤 H A W .typed
+  pub rehearsed-typed : Given 𝓤 H A → (d : Rehearsed) (vs : List Val) → Is rehearsed-row d vs
+      → Typed (rehearsed-row .mir) vs
+  rehearsed-typed W = struct.lawful rehearsed-type.the-type rehearsed-laws.the-laws 𝓤 H A W .typed
 
 -- a module has 13 bytes
 pub place-fits : {i long : ℕ} → long * 13 < 2 ^ 63 → i < long → i * 13 < 2 ^ 64

@@ -1,10 +1,10 @@
 -- What a caller sees of an arbitration, for its contract.
-use Prim.Native.Nat.{ℕ, _+_}
+use Prim.Native.Nat.{ℕ, _+_, _<_, _≤_}
 use mathlib.Core.Path.{_≡_}
 use mathlib.Core.Bool.{Bool, cond, false, _||_}
 use mathlib.Core.List.{List, map, zipWith}
-use lib.Dec.{ltb}
-use lib.ListN.{take, replicate}
+use lib.Dec.{eqb, ltb}
+use lib.ListN.{length, getD, take, replicate}
 use Rattle.bits.specs.Positions.{on}
 use Rattle.laws.specs.declared.Refusal.{Refusal}
 use Rattle.laws.specs.Refusals.{refusedAt, none}
@@ -13,11 +13,15 @@ use Rattle.usi_registers.specs.Registers.{USIAL, USISTTIFG, USIIFG}
 use Rattle.usi.specs.declared.Usi.{Usi}
 use Rattle.arbitration_rules.specs.declared.Arbitrated.{Arbitrated}
 use Rattle.arbitration_rules.specs.declared.Seat.{Seat}
-use Rattle.arbitration_rules.specs.Outcome.{Fate, Outcome, levelCount, undecided}
-use Rattle.arbitration_rules.specs.Reply.{messagesOf, badCount, badLengths, reads, badAcknowledges, shortBuffer}
+use Rattle.arbitration_rules.specs.Limits.{maxMasters}
+use Rattle.arbitration_rules.specs.Outcome.{Fate, Outcome, outcome, levelCount, undecided}
+use Rattle.arbitration_rules.specs.Reply.{messagesOf, badCount, badLengths, reads, badAcknowledges, shortSlice, refusal}
+use Rattle.arbitration_rules.specs.Reply.{refused, arbitrated, tableAfter, carriedAfter, levelsAfter}
 use Rattle.arbitration_rules.specs.Run.{run}
+use Rattle.arbitration_run.specs.declared.sequencer.Sequencer.{Sequencer}
 use Rattle.arbitration_run.specs.Members.{seats}
-use Rattle.arbitration.specs.declared.table.Ended.{Ended}
+use Rattle.arbitration_run.specs.Sequence.{first}
+use Rattle.arbitration.specs.declared.plan.Plan.{Plan}
 
 -- the fate of a master: whether it is still in, its position, and its AL
 abbrev pub fateOf : Usi → Seat → Fate
@@ -28,15 +32,21 @@ fateOf usi seat =
       arbitrationLost = on (usi .usictl1) USIAL;
     }
 
--- what demand 3 compares, as a reply and the two buffers show it: k, the k bytes, the 5 + 18k levels, and the fates of
--- the masters that have a message
-unfoldable pub shown : ℕ → Arbitrated → List ℕ → List ℕ → Outcome
-shown masters reply carried levels =
+-- the slices that an arbitration is lent: the table of modules, and the buffers of the carried bytes and of the levels
+pub record Lent : Type 0 where
+  pub table : List Usi
+  pub carried : List ℕ
+  pub levels : List ℕ
+
+-- what demand 3 compares, as a reply and the slices show it: k, the k bytes, the 5 + 18k levels, and the fates of the
+-- masters that have a message
+unfoldable pub shown : ℕ → Arbitrated → Lent → Outcome
+shown masters reply lent =
     record {
       count = reply .count;
-      carried = take (reply .count) carried;
-      levels = take (levelCount (reply .count)) levels;
-      fates = take masters (zipWith fateOf (reply .modules) (reply .seats));
+      carried = take (reply .count) (lent .carried);
+      levels = take (levelCount (reply .count)) (lent .levels);
+      fates = zipWith fateOf (take masters (lent .table)) (reply .seats);
     }
 
 -- what the writes of each master that has a message cleared, and what demand 3 adds of that (02: Ask 12): STTIFG and
@@ -48,23 +58,72 @@ abbrev pub allCleared : ℕ → List ℕ
 allCleared masters = replicate masters (USISTTIFG + USIIFG)
 
 -- where none of 12, 13, 14, 15 and 8 applies, the reply is refused exactly when 16 applies
-abbrev pub OnlyUndecided : List ℕ → List ℕ → List ℕ → ℕ → ℕ → Refusal → Type 0
-OnlyUndecided bytes lengths acknowledges carriedRoom levelRoom found =
+abbrev pub OnlyUndecided : List ℕ → List ℕ → List ℕ → Lent → Refusal → Type 0
+OnlyUndecided bytes lengths acknowledges lent found =
     badCount lengths ≡ false → badLengths bytes lengths ≡ false → any reads (messagesOf lengths bytes) ≡ false
     → badAcknowledges lengths acknowledges ≡ false
-    → shortBuffer (run (messagesOf lengths bytes) acknowledges) carriedRoom levelRoom ≡ false
+    → shortSlice lengths (run (messagesOf lengths bytes) acknowledges) (length (lent .table)) (length (lent .carried))
+    (length (lent .levels))
+    ≡ false
     → found ≡ cond (undecided (messagesOf lengths bytes) acknowledges) (refusedAt 16 0) none
 
--- a buffer is too short for so many bytes
-abbrev pub Short : ℕ → ℕ → ℕ → Bool
-Short count carriedRoom levelRoom = ltb carriedRoom count || ltb levelRoom (levelCount count)
+-- What an arbitration promises. The reply is that of 01's steps 1 to 4, or the first refusal that applies; each lent slice
+-- holds what the run gives, and its rest stays, or at a refusal all of it. What a run shows is what follows from messages
+-- and acknowledges alone (01: demand 3); the writes of each master cleared STTIFG and IFG (02: Ask 12); and what no other
+-- refusal stops is refused exactly when the smallest message is acknowledged to its end and another goes on from there.
+pub record Arbitrates (bytes lengths acknowledges : List ℕ) (entry exit : Lent) (reply : Arbitrated) : Type 0 where
+  pub replies : reply
+      ≡ arbitrated bytes lengths acknowledges (length (entry .table)) (length (entry .carried)) (length (entry .levels))
+  pub stepped : exit .table ≡ tableAfter bytes lengths acknowledges (reply .refusal) (entry .table)
+  pub carried : exit .carried ≡ carriedAfter bytes lengths acknowledges (reply .refusal) (entry .carried)
+  pub recorded : exit .levels ≡ levelsAfter bytes lengths acknowledges (reply .refusal) (entry .levels)
+  pub follows : reply .refusal .number ≡ 0
+      → shown (length lengths) reply exit ≡ outcome (messagesOf lengths bytes) acknowledges
+  pub clears : reply .refusal .number ≡ 0 → clearedIn (length lengths) reply ≡ allCleared (length lengths)
+  pub refuses : OnlyUndecided bytes lengths acknowledges entry (reply .refusal)
+
+-- a lent slice is too short for so many masters and bytes
+abbrev pub Short : ℕ → ℕ → ℕ → ℕ → ℕ → Bool
+Short masters count tableRoom carriedRoom levelRoom =
+    ltb tableRoom masters || ltb carriedRoom count || ltb levelRoom (levelCount count)
+
+-- a sequencer that makes no turn
+abbrev pub stopped : Sequencer → Sequencer
+stopped sequencer =
+    record {
+      running = false;
+      part = sequencer .part;
+      at = sequencer .at;
+      loading = sequencer .loading;
+      index = sequencer .index;
+      sent = sequencer .sent;
+      wire = sequencer .wire;
+      members = sequencer .members;
+    }
+
+-- the sequencer before its first turn; after a refusal it makes none
+unfoldable pub begunBy : Refusal → List ℕ → Sequencer
+begunBy found lengths = cond (eqb (found .number) 0) (first lengths) (stopped (first lengths))
+
+-- what a call is to do: it runs all masters, or after a refusal none, and there is room for those that run
+pub record Planned (bytes lengths acknowledges : List ℕ) (tableRoom carriedRoom levelRoom : ℕ) (plan : Plan) : Type 0 where
+  pub small : (i : ℕ) → getD bytes i 0 < 256
+  pub applies : plan .refusal ≡ refusal bytes lengths acknowledges tableRoom carriedRoom levelRoom
+  pub masters : plan .count ≡ cond (eqb (plan .refusal .number) 0) (length lengths) 0
+  pub begins : plan .first ≡ begunBy (plan .refusal) lengths
+  pub few : plan .count ≤ maxMasters
+  pub fit : plan .count ≤ tableRoom
 
 -- the reply of a run that ended so
-unfoldable pub repliedBy : Ended → ℕ → Arbitrated
+unfoldable pub repliedBy : Sequencer → ℕ → Arbitrated
 repliedBy ended count =
     record {
       refusal = none;
-      modules = ended .modules;
-      count = ended .sequencer .sent;
-      seats = seats (ended .sequencer .members .contending) (ended .sequencer .members .positions) count;
+      count = ended .sent;
+      seats = seats (ended .members .contending) (ended .members .positions) count;
     }
+
+-- the reply of what was planned so, and ended so
+unfoldable pub repliedTo : Plan → Sequencer → Arbitrated
+repliedTo plan ended =
+    cond (eqb (plan .refusal .number) 0) (repliedBy ended (plan .count)) (refused (plan .refusal))

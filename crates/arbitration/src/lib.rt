@@ -1,70 +1,70 @@
 // I2C arbitration: masters that start together on an idle bus, and who of them keeps it (01: the clash runner).
-ghost use mathlib.Core.Path.{_≡_};
-ghost use mathlib.Core.Bool.{cond, false};
-ghost use Prim.Native.Nat.{_≤_};
-ghost use lib.ListN.{length};
-ghost use Rattle.laws.specs.Refusals.{refusedAt, none};
-ghost use Rattle.arbitration_rules.specs.Limits.{maxLength};
-ghost use Rattle.arbitration_rules.specs.Outcome.{outcome, levelCount, undecided};
-ghost use Rattle.arbitration_rules.specs.Reply.{arbitrated, carriedAfter, levelsAfter, messagesOf};
-ghost use Rattle.arbitration.specs.Shown.{shown, clearedIn, allCleared, Short, OnlyUndecided};
+ghost use lib.ListN.{replicate};
+ghost use Rattle.usi.specs.Module.{powerUp};
+ghost use Rattle.arbitration_rules.specs.Limits.{maxMasters};
+ghost use Rattle.arbitration.specs.Shown.{Arbitrates};
 
+mod plan; // plan.rt: what a call is to do, decided before anything is written
 mod reply; // reply.rt: what arbitrate answers, of a refusal and of a run
-mod table; // table.rt: the functions that hold the modules
+mod table; // table.rt: a pass over a table of modules, and a run
 
 pub use arbitration_rules::Arbitrated;
+use arbitration_rules::MAX_MASTERS;
 pub use arbitration_rules::Seat;
-use arbitration_run::Sequencer;
-use laws::Refusal;
-
-// Whether a buffer is too short for so many bytes carried (8): they are recorded in 5 + 18 levels for each.
-fn short(count: usize, carried: usize, levels: usize) -> bool
-    requires { ⌜ count ≤ maxLength ⌝ }
-    ensures { λ r. ⌜ r ≡ Short count carried levels ⌝ }
-{
-    (carried < count) | (levels < 5 + 18 * count)
-}
+use usi::Usi;
 
 // Runs the arbitration of the messages that lie in bytes one after the other, each of its length, with an acknowledge
-// for each byte of the longest. The reply is that of 01's steps 1 to 4, or the first refusal that applies. The buffers
-// take the carried bytes and the recorded levels; their rest stays, and at a refusal all of both. What a run shows is
-// what follows from messages and acknowledges alone (01: demand 3); the writes of each master cleared STTIFG and IFG (02:
-// Ask 12); and what no other refusal stops is refused exactly when the smallest message is acknowledged to its end and
-// another goes on from there.
+// for each byte of the longest. The reply is that of 01's steps 1 to 4, or the first refusal that applies. The table's
+// first entries, one for each message, are the modules: what they held is not read, and they are stepped in place. The
+// buffers take the carried bytes and the recorded levels. The rest of all three stays, and at a refusal all of them.
 pub fn arbitrate(
+    table: &mut [Usi],
     bytes: &[u8],
     lengths: &[u32],
     acks: &[u8],
     carried: &mut [u8],
     levels: &mut [u8],
 ) -> Arbitrated
-    ensures reply { λ r. ⌜ r ≡ arbitrated (now (bytes .entry)) (now (lengths .entry)) (now (acks .entry))
-        (length (now (carried .entry))) (length (now (levels .entry))) ⌝ }
-    ensures carried_bytes { λ r. ⌜ now (carried .exit) ≡ carriedAfter (now (bytes .entry)) (now (lengths .entry))
-        (now (acks .entry)) (r .refusal) (now (carried .entry)) ⌝ }
-    ensures recorded_levels { λ r. ⌜ now (levels .exit) ≡ levelsAfter (now (bytes .entry)) (now (lengths .entry))
-        (now (acks .entry)) (r .refusal) (now (levels .entry)) ⌝ }
-    ensures follows { λ r. ⌜ (r .refusal .number ≡ 0
-        → shown (length (now (lengths .entry))) r (now (carried .exit)) (now (levels .exit))
-        ≡ outcome (messagesOf (now (lengths .entry)) (now (bytes .entry))) (now (acks .entry))) ⌝ }
-    ensures clears { λ r. ⌜ (r .refusal .number ≡ 0
-        → clearedIn (length (now (lengths .entry))) r ≡ allCleared (length (now (lengths .entry)))) ⌝ }
-    ensures refuses { λ r. ⌜ OnlyUndecided (now (bytes .entry)) (now (lengths .entry)) (now (acks .entry))
-        (length (now (carried .entry))) (length (now (levels .entry))) (r .refusal) ⌝ }
+    ensures { λ r. ⌜ Arbitrates (now (bytes .entry)) (now (lengths .entry)) (now (acks .entry))
+        (record { table = now (table .entry); carried = now (carried .entry); levels = now (levels .entry) })
+        (record { table = now (table .exit); carried = now (carried .exit); levels = now (levels .exit) }) r ⌝ }
 {
-    let settled = arbitration_checks::settle(bytes, lengths, acks);
-    let found = settled.refusal;
-    if found.number != 0 {
-        return reply::refused(found);
-    }
-    if short(settled.count, carried.len(), levels.len()) {
-        return reply::refused(Refusal {
-            number: 8,
-            place: 0,
-        });
-    }
+    let plan = plan::planned(
+        bytes,
+        lengths,
+        acks,
+        table.len(),
+        carried.len(),
+        levels.len(),
+    );
     let rows = arbitration_run::cut(bytes, lengths);
-    let first = Sequencer::first(lengths);
-    let ended = table::run_modules(lengths.len(), first, rows, acks, carried, levels);
-    reply::answered(ended, lengths.len())
+    let ended = table::run(table, plan.count, plan.first, rows, acks, carried, levels);
+    reply::replied(plan, ended)
+}
+
+// An arbitration over a table of its own.
+pub struct Rehearsed {
+    pub reply: Arbitrated,
+    pub modules: [Usi; MAX_MASTERS],
+}
+
+// The same over modules that are powered up, for callers by value.
+pub fn rehearse(
+    bytes: &[u8],
+    lengths: &[u32],
+    acks: &[u8],
+    carried: &mut [u8],
+    levels: &mut [u8],
+) -> Rehearsed
+    ensures { λ r. ⌜ Arbitrates (now (bytes .entry)) (now (lengths .entry)) (now (acks .entry))
+        (record {
+          table = replicate maxMasters (powerUp 0 0);
+          carried = now (carried .entry);
+          levels = now (levels .entry);
+        })
+        (record { table = r .modules; carried = now (carried .exit); levels = now (levels .exit) }) (r .reply) ⌝ }
+{
+    let mut modules = [Usi::power_up(0, 0); MAX_MASTERS];
+    let reply = arbitrate(&mut modules, bytes, lengths, acks, carried, levels);
+    Rehearsed { reply, modules }
 }

@@ -1,16 +1,16 @@
 // The reply: of a refusal, and of a run.
 ghost use mathlib.Core.Path.{_≡_};
 ghost use Rattle.arbitration_rules.specs.Reply.{refused as refusedReply};
-ghost use Rattle.arbitration.specs.Shown.{repliedBy};
-use crate::table::Ended;
+ghost use Rattle.arbitration.specs.Shown.{repliedBy, repliedTo};
+use crate::plan::Plan;
 use arbitration_rules::Arbitrated;
 use arbitration_rules::MAX_MASTERS;
 use arbitration_rules::Seat;
+use arbitration_run::Sequencer;
 use laws::Refusal;
-use usi::Usi;
 
-// A refused reply: modules as powered up, nobody in.
-pub(crate) fn refused(refusal: Refusal) -> Arbitrated
+// A refused reply: nobody is in.
+fn refused(refusal: Refusal) -> Arbitrated
     ensures { λ r. ⌜ r ≡ refusedReply refusal ⌝ }
 {
     let empty = Seat {
@@ -20,18 +20,15 @@ pub(crate) fn refused(refusal: Refusal) -> Arbitrated
     };
     Arbitrated {
         refusal,
-        modules: [Usi::power_up(0, 0); MAX_MASTERS],
         count: 0,
         seats: [empty; MAX_MASTERS],
     }
 }
 
 // The reply of a run of so many masters.
-pub(crate) fn answered(ended: Ended, count: usize) -> Arbitrated
-    ensures { λ r. ⌜ r ≡ repliedBy ended count ⌝ }
+fn answered(sequencer: Sequencer, count: usize) -> Arbitrated
+    ensures { λ r. ⌜ r ≡ repliedBy sequencer count ⌝ }
 {
-    let modules = ended.modules;
-    let sequencer = ended.sequencer;
     let members = sequencer.members;
     let seats = members.seats(count);
     Arbitrated {
@@ -39,8 +36,18 @@ pub(crate) fn answered(ended: Ended, count: usize) -> Arbitrated
             number: 0,
             place: 0,
         },
-        modules,
         count: sequencer.sent,
         seats,
     }
+}
+
+// The reply of what was refused, or else ran.
+pub(crate) fn replied(plan: Plan, sequencer: Sequencer) -> Arbitrated
+    ensures { λ r. ⌜ r ≡ repliedTo plan sequencer ⌝ }
+{
+    let refusal = plan.refusal;
+    if refusal.number != 0 {
+        return refused(refusal);
+    }
+    answered(sequencer, plan.count)
 }

@@ -1,9 +1,8 @@
-// The functions that hold a table of modules, one for each message: a pass over it, and a run.
+// A table of modules, one for each message: a pass over it, and a run.
 ghost use mathlib.Core.Path.{_≡_};
 ghost use Prim.Native.Nat.{_≤_};
-ghost use lib.ListN.{length, replicate};
+ghost use lib.ListN.{length};
 ghost use Rattle.arbitration_rules.specs.Limits.{maxMasters};
-ghost use Rattle.usi.specs.Module.{powerUp};
 ghost use Rattle.arbitration_run.specs.Pass.{passed, seen as seenBy};
 ghost use Rattle.arbitration_turns.specs.Turns.{Reached};
 use arbitration_rules::MAX_LENGTH;
@@ -32,7 +31,7 @@ fn step_all(table: &mut [Usi], count: usize, pass: Pass) -> Seen
 
 // Passes over the first count modules, and what the sequencer makes of each, until it runs no more; the bytes to send
 // are taken from the rows.
-fn run(
+pub(crate) fn run(
     table: &mut [Usi],
     count: usize,
     mut sequencer: Sequencer,
@@ -65,39 +64,4 @@ fn run(
         sequencer = sequencer.next(seen, acks, carried, levels);
     }
     sequencer
-}
-
-// The modules at the end of a run, and the sequencer that ended it.
-pub(crate) struct Ended {
-    pub(crate) modules: [Usi; MAX_MASTERS],
-    pub(crate) sequencer: Sequencer,
-}
-
-// A run over modules of its own, powered up.
-pub(crate) fn run_modules(
-    count: usize,
-    first: Sequencer,
-    rows: [[u8; MAX_LENGTH]; MAX_MASTERS],
-    acks: &[u8],
-    carried: &mut [u8],
-    levels: &mut [u8],
-) -> Ended
-    requires { ⌜ count ≤ maxMasters ⌝ }
-    ensures { λ r. ⌜ Reached count rows (now (acks .entry))
-        (record {
-          sequencer = first;
-          table = replicate maxMasters (powerUp 0 0);
-          carried = now (carried .entry);
-          levels = now (levels .entry);
-        })
-        (record {
-          sequencer = r .sequencer;
-          table = r .modules;
-          carried = now (carried .exit);
-          levels = now (levels .exit);
-        }) ⌝ }
-{
-    let mut modules = [Usi::power_up(0, 0); MAX_MASTERS];
-    let sequencer = run(&mut modules, count, first, rows, acks, carried, levels);
-    Ended { modules, sequencer }
 }

@@ -16,7 +16,7 @@ use Rattle.arbitration_rules.specs.Limits.{maxMasters, maxLength}
 use Rattle.arbitration_rules.specs.Outcome.{outcome, undecided}
 use Rattle.arbitration_rules.specs.Run.{run, observed}
 use Rattle.arbitration_rules.specs.Reply.{messagesOf, badCount, badLength, total, badLengths, reads, longest}
-use Rattle.arbitration_rules.specs.Reply.{aboveOne, badAcknowledges, messageChecks, shortBuffer, refusal}
+use Rattle.arbitration_rules.specs.Reply.{aboveOne, badAcknowledges, messageChecks, shortSlice, refusal}
 use Rattle.arbitration_rules.proofs.Carried.{carried-too}
 use Rattle.arbitration_rules.proofs.Carry.{Bytes}
 use Rattle.arbitration_rules.proofs.Demand.{Sendable, Arbitration, run-shows-outcome}
@@ -81,11 +81,12 @@ module _ (bytes lengths acknowledges : List ℕ) where
       → Arbitration (messagesOf lengths bytes) acknowledges
   passes small all = arbitration bytes lengths acknowledges small (all .0) (all .1 .0) (all .1 .1 .1 .0)
 
-  module _ (carriedRoom levelRoom : ℕ) where
+  module _ (tableRoom carriedRoom levelRoom : ℕ) where
     abbrev room : List Check
-    room = check 8 (shortBuffer (run (messagesOf lengths bytes) acknowledges) carriedRoom levelRoom) ∷ []
+    room =
+        check 8 (shortSlice lengths (run (messagesOf lengths bytes) acknowledges) tableRoom carriedRoom levelRoom) ∷ []
 
-    pub accepted : Bytes bytes → refusal bytes lengths acknowledges carriedRoom levelRoom .number ≡ 0
+    pub accepted : Bytes bytes → refusal bytes lengths acknowledges tableRoom carriedRoom levelRoom .number ≡ 0
         → Arbitration (messagesOf lengths bytes) acknowledges
     unfolding refusal
     accepted small unrefused =
@@ -97,7 +98,7 @@ module _ (bytes lengths acknowledges : List ℕ) where
         (passed (messageChecks bytes lengths acknowledges ++ room) numbered unrefused))
 
     -- so demand 3 holds of every arbitration that is answered
-    pub answered-outcome : Bytes bytes → refusal bytes lengths acknowledges carriedRoom levelRoom .number ≡ 0
+    pub answered-outcome : Bytes bytes → refusal bytes lengths acknowledges tableRoom carriedRoom levelRoom .number ≡ 0
         → observed (run (messagesOf lengths bytes) acknowledges) ≡ outcome (messagesOf lengths bytes) acknowledges
     answered-outcome small unrefused =
         run-shows-outcome (messagesOf lengths bytes) acknowledges (accepted small unrefused)
@@ -105,8 +106,8 @@ module _ (bytes lengths acknowledges : List ℕ) where
     -- where none of 12, 13, 14, 15 and 8 applies, it is refused exactly when 16 applies
     pub refused-by-16 : badCount lengths ≡ false → badLengths bytes lengths ≡ false
         → any reads (messagesOf lengths bytes) ≡ false → badAcknowledges lengths acknowledges ≡ false
-        → shortBuffer (run (messagesOf lengths bytes) acknowledges) carriedRoom levelRoom ≡ false
-        → refusal bytes lengths acknowledges carriedRoom levelRoom
+        → shortSlice lengths (run (messagesOf lengths bytes) acknowledges) tableRoom carriedRoom levelRoom ≡ false
+        → refusal bytes lengths acknowledges tableRoom carriedRoom levelRoom
         ≡ cond (undecided (messagesOf lengths bytes) acknowledges) (refusedAt 16 0) none
     unfolding refusal
     refused-by-16 count sizes reading answers enough = rw (count, sizes, reading, answers, enough)

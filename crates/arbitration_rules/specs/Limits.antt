@@ -1,8 +1,8 @@
--- The limits of an arbitration: it takes up to eight messages (01: plans) of up to 32 bytes each.
+-- The limits of an arbitration: it takes up to sixteen messages (01: plans) of up to 64 bytes each (02: Ask 6).
 use Prim.Native.Nat.{ℕ}
 
 abbrev pub maxMasters : ℕ
-maxMasters = 8
+maxMasters = 16
 
 abbrev pub maxLength : ℕ
-maxLength = 32
+maxLength = 64

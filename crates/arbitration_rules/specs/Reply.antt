@@ -1,5 +1,5 @@
 -- What arbitrate answers: the refusals 12, 13, 14, 15, 16, 8 in that order with their places, else the run; and the
--- two buffers.
+-- table of modules and the two buffers.
 use Prim.Native.Nat.{ℕ, _+_, _-_, max}
 use mathlib.Core.Bool.{Bool, cond, false, not, _||_}
 use mathlib.Core.List.{List, [], _∷_, _++_, map, zipWith}
@@ -10,7 +10,7 @@ use Rattle.laws.specs.declared.Refusal.{Refusal}
 use Rattle.laws.specs.Buffer.{filled}
 use Rattle.laws.specs.Refusals.{Check, check, check-at, given, none}
 use Rattle.laws.specs.Search.{first, any}
-use Rattle.usi.specs.Module.{powerUp}
+use Rattle.usi.specs.declared.Usi.{Usi}
 use Rattle.arbitration_rules.specs.declared.Arbitrated.{Arbitrated}
 use Rattle.arbitration_rules.specs.declared.Seat.{Seat}
 use Rattle.arbitration_rules.specs.Limits.{maxMasters, maxLength}
@@ -24,11 +24,11 @@ abbrev pub messagesOf : List ℕ → List ℕ → List (List ℕ)
 messagesOf [] bytes = []
 messagesOf (count ∷ counts) bytes = take count bytes ∷ messagesOf counts (drop count bytes)
 
--- 12: no message, or more than eight.
+-- 12: no message, or more than sixteen.
 abbrev pub badCount : List ℕ → Bool
 badCount lengths = eqb (length lengths) 0 || ltb maxMasters (length lengths)
 
--- 13: a message of 0 or over 32 bytes, or lengths don't sum to the bytes lent. Its place: the first such message,
+-- 13: a message of 0 or over 64 bytes, or lengths don't sum to the bytes lent. Its place: the first such message,
 -- else how many there are.
 abbrev pub badLength : ℕ → Bool
 badLength count = eqb count 0 || ltb maxLength count
@@ -66,31 +66,30 @@ messageChecks bytes lengths acknowledges =
     ∷ check 16 (undecided (messagesOf lengths bytes) acknowledges)
     ∷ []
 
--- 8: a lent slice is shorter than the reply needs: what the run carries, and what it records.
-abbrev pub shortBuffer : Bus → ℕ → ℕ → Bool
-shortBuffer bus carriedRoom levelRoom =
-    ltb carriedRoom (length (bus .carried)) || ltb levelRoom (length (bus .levels))
+-- 8: a lent slice is shorter than the reply needs: a table with an entry for each message, what the run carries, and
+-- what it records.
+abbrev pub shortSlice : List ℕ → Bus → ℕ → ℕ → ℕ → Bool
+shortSlice lengths bus tableRoom carriedRoom levelRoom =
+    ltb tableRoom (length lengths)
+    || ltb carriedRoom (length (bus .carried))
+    || ltb levelRoom (length (bus .levels))
 
 -- The first of them that applies, in the order 12, 13, 14, 15, 16, 8.
-unfoldable pub refusal : List ℕ → List ℕ → List ℕ → ℕ → ℕ → Refusal
-refusal bytes lengths acknowledges carriedRoom levelRoom =
+unfoldable pub refusal : List ℕ → List ℕ → List ℕ → ℕ → ℕ → ℕ → Refusal
+refusal bytes lengths acknowledges tableRoom carriedRoom levelRoom =
     let bus = run (messagesOf lengths bytes) acknowledges in
-    given (messageChecks bytes lengths acknowledges ++ check 8 (shortBuffer bus carriedRoom levelRoom) ∷ [])
+    given (messageChecks bytes lengths acknowledges
+    ++ check 8 (shortSlice lengths bus tableRoom carriedRoom levelRoom) ∷ [])
 
--- In a refused reply every other number is 0, and the modules are as powered up, shift bytes 0.
+-- In a refused reply every other number is 0.
 abbrev pub absent : Seat
 absent = record { contending = false; position = 0; cleared = 0 }
 
 unfoldable pub refused : Refusal → Arbitrated
 refused found =
-    record {
-      refusal = found;
-      modules = replicate maxMasters (powerUp 0 0);
-      count = 0;
-      seats = replicate maxMasters absent;
-    }
+    record { refusal = found; count = 0; seats = replicate maxMasters absent }
 
--- What a run replies. Where there is no message the module stays as powered up with shift bytes 0, and is not in.
+-- What a run replies. Where there is no message nobody is in.
 abbrev pub padded : {A : Type 0} → A → List A → List A
 padded empty list = list ++ replicate (maxMasters - length list) empty
 
@@ -102,18 +101,25 @@ unfoldable pub answered : List ℕ → Bus → Arbitrated
 answered cleared bus =
     record {
       refusal = none;
-      modules = padded (powerUp 0 0) (map (λ (master : Master). master .usi) (bus .masters));
       count = length (bus .carried);
       seats = padded absent (zipWith seatOf cleared (bus .masters));
     }
 
--- The reply of arbitrate, over the bytes, lengths and acknowledges lent and the lengths of the two buffers.
-unfoldable pub arbitrated : List ℕ → List ℕ → List ℕ → ℕ → ℕ → Arbitrated
-arbitrated bytes lengths acknowledges carriedRoom levelRoom =
-    let found = refusal bytes lengths acknowledges carriedRoom levelRoom in
+-- The reply of arbitrate, over the bytes, lengths and acknowledges lent and the lengths of the table and of the two
+-- buffers.
+unfoldable pub arbitrated : List ℕ → List ℕ → List ℕ → ℕ → ℕ → ℕ → Arbitrated
+arbitrated bytes lengths acknowledges tableRoom carriedRoom levelRoom =
+    let found = refusal bytes lengths acknowledges tableRoom carriedRoom levelRoom in
     let messages = messagesOf lengths bytes in
     cond (eqb (found .number) 0) (answered (clearedBy messages acknowledges) (run messages acknowledges))
     (refused found)
+
+-- The table after it: the modules of the run, one for each message, and the rest as it was; at a refusal all as it was.
+unfoldable pub tableAfter : List ℕ → List ℕ → List ℕ → Refusal → List Usi → List Usi
+tableAfter bytes lengths acknowledges found table =
+    cond (eqb (found .number) 0)
+    (filled (map (λ (master : Master). master .usi) (run (messagesOf lengths bytes) acknowledges .masters)) table)
+    table
 
 -- A buffer after it: what the run gives, and the rest as it was; at a refusal all as it was.
 unfoldable pub carriedAfter : List ℕ → List ℕ → List ℕ → Refusal → List ℕ → List ℕ

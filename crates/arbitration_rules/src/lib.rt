@@ -2,12 +2,11 @@
 // are definitions in specs/, the theorems about them in proofs/; crates arbitration_checks, arbitration_run and
 // arbitration are the code.
 use laws::Refusal;
-use usi::Usi;
 
 // The most masters that start together, and the most bytes of a message.
-pub const MAX_MASTERS: usize = 8;
+pub const MAX_MASTERS: usize = 16;
 
-pub const MAX_LENGTH: usize = 32;
+pub const MAX_LENGTH: usize = 64;
 
 // What became of one master: it is still contending (01: still in), or it lost at a position, 9 · byte + bit (01: its
 // place), 0 for the others; and the flags of USICTL1 that its writes cleared (02: Ask 12).
@@ -17,10 +16,9 @@ pub struct Seat {
     pub cleared: u8,
 }
 
-// The reply. A refused one has the refusal's number and place, powered-up modules, and 0 for all else.
+// The reply. A refused one has the refusal's number and place, and 0 for all else.
 pub struct Arbitrated {
     pub refusal: Refusal,
-    pub modules: [Usi; MAX_MASTERS],
     // how many bytes the bus carried (01: k)
     pub count: usize,
     pub seats: [Seat; MAX_MASTERS],

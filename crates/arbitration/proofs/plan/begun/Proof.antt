@@ -1,0 +1,20 @@
+-- A sequencer that runs, or after a refusal one that does not.
+use borrow.Author.Needs.{needs}
+use borrow.Author.Tests.{ne-eqb, eq-eqb}
+use Rattle.arbitration.specs.Shown.{begunBy}
+use Rattle.arbitration.proofs.plan.begun.Statement.{statement}
+use Rattle.arbitration.proofs.plan.begun.Tie as tie
+
+first-requires : tie.Need-first-requires
+first-requires c κs = search needs
+
+returns : tie.Need-returns
+unfolding begunBy
+returns c = rw (ne-eqb _ _ (c .if1 .taken), c .before .before .first .ensures)
+
+returns-2 : tie.Need-returns-2
+unfolding begunBy
+returns-2 c = rw (eq-eqb _ _ (c .if1 .left)) (c .before .before .first .ensures)
+
+pub begun-spec : {M : Type 1} → statement M
+begun-spec = tie.close (tie.spec first-requires returns returns-2)
