@@ -69,10 +69,14 @@ uint64_t bus_read_dump(const uint8_t *text, size_t text_length, uint32_t *stamps
                        size_t levels_length);
 uint64_t bus_dump_timescale(const uint8_t *text, size_t text_length);
 
-/* Masters that start together, with messages that lie in bytes one after the other. The answer: the refusal's number in
- * byte 0, the place in bytes 1 and 2, the count of bytes carried from byte 3 on. Each table has an entry for each of the
- * most masters: a module, and a seat, 1 where the master is still in, plus 2 * the flags that its writes cleared, plus
- * 32 * the position where it lost. */
+/* Masters that start together, up to 16, with messages of up to 64 bytes that lie in bytes one after the
+ * other. The answer: the refusal's number in byte 0, the place in bytes 1 and 2, the count k of bytes carried from
+ * byte 3 on. These bytes, at most 64, and 5 + 18 * k levels, at most 1,157, go to two buffers, whose rest stays.
+ * The last two are tables of the caller's own, of any length. Their first entries, one for each message, are
+ * overwritten, and what they held is not read; every entry past them stays as it was. An entry of modules is
+ * the final module of its master, with bits 55 to 63 at 0; one of seats is 1 where the master is still in, plus
+ * 2 * the flags that its writes cleared, plus 32 * the position where it lost. A table with fewer entries than
+ * there are messages is 8, as any other buffer that is too short: after 12, 13, 14, 15 and 16. */
 uint64_t arbitrate(const uint8_t *bytes, size_t bytes_length, const uint32_t *lengths, size_t lengths_length,
                    const uint8_t *acks, size_t acks_length, uint8_t *carried, size_t carried_length, uint8_t *levels,
                    size_t levels_length, uint64_t *modules, size_t modules_length, uint32_t *seats,

@@ -5,7 +5,10 @@
 #include <stdio.h>
 #include <string.h>
 
-enum { GUARD = 64, ROOM = 1024, FILL = 0xA5 };
+enum { GUARD = 64, ROOM = 2048, FILL = 0xA5 };
+
+/* the most masters, bytes of a message and levels */
+enum { MASTERS = 16, BYTES = 64, LEVELS = 5 + 18 * BYTES };
 
 static int checks, failures;
 
@@ -47,11 +50,11 @@ struct lent {
 
 struct load {
     const char *name;
-    uint8_t bytes[300];
+    uint8_t bytes[(MASTERS + 1) * BYTES];
     size_t bytes_length;
-    uint32_t lengths[20];
+    uint32_t lengths[MASTERS + 1];
     size_t lengths_length;
-    uint8_t acks[40];
+    uint8_t acks[BYTES + 1];
     size_t acks_length;
 };
 
@@ -94,25 +97,68 @@ static uint32_t seat_of(const struct lent *l, int master)
     return seat;
 }
 
-static void carries(const struct load *load, const uint8_t *bytes, size_t count, const struct stands *stands,
-                    size_t masters)
+/* the same final modules and seats over tables that held 0 */
+static void overwrites(const struct lent *l, const struct load *load)
+{
+    static uint8_t carried[BYTES], levels[LEVELS];
+    uint64_t modules[MASTERS + 1] = {0};
+    uint32_t seats[MASTERS + 1] = {0};
+    size_t masters = load->lengths_length;
+    uint64_t answer = arbitrate(load->bytes, load->bytes_length, load->lengths, masters, load->acks, load->acks_length,
+                                carried, BYTES, levels, LEVELS, modules, MASTERS + 1, seats, MASTERS + 1);
+    check(answer == l->answer, "over 0: the answer");
+    check(memcmp(modules, l->modules.all + GUARD, 8 * masters) == 0, "over 0: modules");
+    check(memcmp(seats, l->seats.all + GUARD, 4 * masters) == 0, "over 0: seats");
+    for (size_t i = masters; i <= MASTERS; i++)
+        check(modules[i] == 0 && seats[i] == 0, "over 0: entries past the messages");
+}
+
+/* with tables of any length from one entry for each message on */
+static void carries(const struct load *load, const uint8_t *bytes, size_t count, const struct stands *stands)
 {
     static struct lent l;
-    run(&l, load, count + 3, 5 + 18 * count + 7, 10, 9);
-    check(l.answer == (uint64_t)count << 24, load->name);
-    check(memcmp(l.carried.all + GUARD, bytes, count) == 0, load->name);
-    check(kept_past(&l.carried, count) && kept_past(&l.levels, 5 + 18 * count), load->name);
-    check(kept_past(&l.modules, 64) && kept_past(&l.seats, 32), load->name);
-    for (size_t i = 0; i < masters; i++) {
-        if (stands[i].registers)
-            check(registers_of(&l, (int)i) == stands[i].registers, load->name);
-        check(seat_of(&l, (int)i) == stands[i].seat, load->name);
+    size_t masters = load->lengths_length, levels = 5 + 18 * count;
+    for (size_t more = 0; more < 20; more++) {
+        run(&l, load, count + more, levels + more, masters + more, masters + (more + 7) % 20);
+        check(l.answer == (uint64_t)count << 24, load->name);
+        check(memcmp(l.carried.all + GUARD, bytes, count) == 0, load->name);
+        check(kept_past(&l.carried, count) && kept_past(&l.levels, levels), load->name);
+        check(kept_past(&l.modules, 8 * masters) && kept_past(&l.seats, 4 * masters), load->name);
+        for (size_t i = 0; i < masters; i++) {
+            if (stands[i].registers)
+                check(registers_of(&l, (int)i) == stands[i].registers, load->name);
+            check(seat_of(&l, (int)i) == stands[i].seat, load->name);
+        }
+        overwrites(&l, load);
     }
     /* one byte or one level, one module or one seat too few is 8, and nothing is touched */
-    refused("8: carried", load, count - 1, 5 + 18 * count, 8, 8, 8);
-    refused("8: levels", load, count, 4 + 18 * count, 8, 8, 8);
-    refused("8: modules", load, count, 5 + 18 * count, 7, 8, 8);
-    refused("8: seats", load, count, 5 + 18 * count, 8, 7, 8);
+    refused("8: carried", load, count - 1, levels, masters, masters, 8);
+    refused("8: levels", load, count, levels - 1, masters, masters, 8);
+    refused("8: modules", load, count, levels, masters - 1, masters, 8);
+    refused("8: seats", load, count, levels, masters, masters - 1, 8);
+    refused("8: no modules", load, count, levels, 0, masters, 8);
+    refused("8: no seats", load, count, levels, masters, 0, 8);
+}
+
+/* sixteen messages of 64 bytes that differ in the last one, the last message being the least */
+static void most(void)
+{
+    static struct load load = {"sixteen of 64 bytes", {0}, MASTERS * BYTES, {0}, MASTERS, {0}, BYTES};
+    static struct stands stands[MASTERS];
+    memset(load.bytes, 0x90, sizeof load.bytes);
+    for (int i = 0; i < MASTERS; i++) {
+        int last = MASTERS - 1 - i, bit = last > 7 ? 4 : last > 3 ? 5 : last > 1 ? 6 : 7;
+        load.lengths[i] = BYTES;
+        load.bytes[BYTES * i + BYTES - 1] = (uint8_t)last;
+        stands[i].registers = last ? 0x000080224DC0 : 0x00FF002245C8;
+        stands[i].seat = last ? 6 + 32 * (9 * (BYTES - 1) + (uint32_t)bit) : 7;
+    }
+    carries(&load, load.bytes + BYTES * (MASTERS - 1), BYTES, stands);
+    load.lengths_length = MASTERS + 1, load.bytes_length = (MASTERS + 1) * BYTES, load.lengths[MASTERS] = BYTES;
+    refused("12: seventeen", &load, BYTES, LEVELS, MASTERS + 1, MASTERS + 1, 12);
+    load.lengths_length = 2, load.bytes_length = 2 * BYTES + 1;
+    load.lengths[1] = BYTES + 1, load.acks_length = BYTES + 1;
+    refused("13: 65 bytes", &load, BYTES + 1, LEVELS + 18, 2, 2, 13 + 256);
 }
 
 static void arbitrations(void)
@@ -125,27 +171,29 @@ static void arbitrations(void)
     const struct stands p8s[] = {{0x000F80224DC0, 6 + 32 * 12}, {0x00FF002245C8, 7}};
     const struct stands both_in[] = {{0, 7}, {0, 7}};
     const struct stands two_lost[] = {{0, 6}, {0, 6}, {0, 7}};
-    carries(&p8, (const uint8_t[]){0x90, 0x0F}, 2, p8s, 2);
-    carries(&p9, (const uint8_t[]){0x90}, 1, both_in, 2);
+    carries(&p8, (const uint8_t[]){0x90, 0x0F}, 2, p8s);
+    carries(&p9, (const uint8_t[]){0x90}, 1, both_in);
     refused("P10", &p10, 8, 200, 8, 8, 16);
-    carries(&p11, (const uint8_t[]){0x90}, 1, both_in, 2);
-    carries(&p12, (const uint8_t[]){0x50}, 1, two_lost, 3);
+    refused("P10, modules too short", &p10, 8, 200, 1, 2, 16);
+    refused("P10, seats too short", &p10, 8, 200, 2, 1, 16);
+    carries(&p11, (const uint8_t[]){0x90}, 1, both_in);
+    carries(&p12, (const uint8_t[]){0x50}, 1, two_lost);
+    most();
 
     /* 12 to 16 come before 8, each before the next, with short buffers and tables too */
     const struct load none = {"12", {0}, 0, {0}, 0, {0}, 0};
-    const struct load nine = {"12", {2, 2, 2, 2, 2, 2, 2, 2, 2}, 9, {1, 1, 1, 1, 1, 1, 1, 1, 1}, 9, {0}, 1};
     const struct load empty = {"13", {0x90}, 1, {1, 0}, 2, {0}, 1};
     const struct load sum = {"13", {0x90, 0x12}, 2, {1}, 1, {0}, 1};
     const struct load reads = {"14", {0x90, 0x91}, 2, {1, 1}, 2, {0, 0, 0}, 3};
     const struct load answers = {"15", {0x90, 0x12}, 2, {2}, 1, {0, 2}, 2};
     const struct load few = {"15", {0x90, 0x12}, 2, {2}, 1, {0}, 1};
     const struct load begins = {"16", {0x90, 0x90, 0x00}, 3, {1, 2}, 2, {0, 0}, 2};
-    const struct load *all[] = {&none, &nine, &empty, &sum, &reads, &answers, &few, &begins};
-    const uint64_t numbers[] = {12, 12, 13, 13, 14, 15, 15, 16};
-    for (int i = 0; i < 8; i++)
+    const struct load *all[] = {&none, &empty, &sum, &reads, &answers, &few, &begins};
+    const uint64_t numbers[] = {12, 13, 13, 14, 15, 15, 16};
+    for (int i = 0; i < 7; i++)
         for (int lent = 0; lent < 2; lent++) {
             static struct lent l;
-            run(&l, all[i], lent ? 32 : 0, lent ? 581 : 0, lent ? 8 : 0, lent ? 8 : 0);
+            run(&l, all[i], lent ? BYTES : 0, lent ? LEVELS : 0, lent ? MASTERS : 0, lent ? MASTERS : 0);
             check((l.answer & 255) == numbers[i], all[i]->name);
             check(l.answer >> 24 == 0, all[i]->name);
             check(kept_past(&l.carried, 0) && kept_past(&l.levels, 0) && kept_past(&l.modules, 0)

@@ -197,13 +197,13 @@ cut_short() {
 # Which boards a refusal is about, and how many acknowledges were wanted.
 refusals() {
     local long
-    long=$(printf ' 90%.0s' {1..33})
+    long=$(printf ' 90%.0s' {1..65})
     load "board p -" "board q -" "board r -" && expect 1 "refused 12: 1 load: 1 refused" clash -
     has "  refused 12: every board is silent"
     load "board p 90" "board q" "board r -" && expect 1 "refused 13: 1 load: 1 refused" clash -
     has "  refused 13: q (line 4) has no bytes"
     load "board p 90" "board q$long" "board r -" && expect 1 "refused 13: 1 load: 1 refused" clash -
-    has "  refused 13: q (line 4) has 33 bytes, and at most 32 may be sent"
+    has "  refused 13: q (line 4) has 65 bytes, and at most 64 may be sent"
     load "board p 90" "board q 91" "board r -" && expect 1 "refused 14: 1 load: 1 refused" clash -
     has "  refused 14: q (line 4) begins with 91, which is odd, a read"
     load "board p 90" "board q 90 12 00" "board r -" "ack 0" && expect 1 "refused 15: 1 load: 1 refused" clash -
@@ -215,12 +215,39 @@ refusals() {
     load "board p 90" "board q -" "board r -" "ack all" && expect 1 "refused 8: 1 load: 1 refused" clash - --room 22
     has "  refused 8: the reply needs more room than was lent"
     expect 0 "ok 1 load: 1 sent" clash - --room 23
-    longest=$(printf ' 90%.0s' {1..32})
-    input "boards p q r s t u v w" "load x" "board "{p,q,r,s,t,u,v,w}"$longest" "ack all" "end 1"
+}
+
+# Sixteen boards of 64 bytes are the most, with 1,157 levels; from eleven on numbers stand in two columns.
+most_boards() {
+    local longest names=({p..z} xp xq xr xs xt) lines
+    longest=$(printf ' 90%.0s' {1..64})
+    lines=("${names[@]/#/board }")
+    input "boards ${names[*]}" "load x" "${lines[@]/%/$longest}" "ack all" "end 1"
     expect 0 "ok 1 load: 1 sent" clash -
-    (echo load a && for i in 1 2 3 4 5 6 7 8 9; do echo board 90; done) >in
+    has "  WON     1 q  $longest  sent 64 of 64 bytes" "  WON    15 xt $longest  sent 64 of 64 bytes"
+    holds '[ "$(grep -c "^  WON    .*  sent 64 of 64 bytes$" out)" = 16 ]' "not sixteen winners"
+    expect 0 "ok 1 load: 1 sent" clash - --room 1157
+    expect 1 "refused 8: 1 load: 1 refused" clash - --room 1156
+    input "boards ${names[*]} xu" && expect 2 "error 0 loads: 1 fault outside the loads" clash -
+    has "! line 1: more than 16 boards; the file is not read"
+    input boards && expect 2 "error 0 loads: 1 fault outside the loads" clash -
+    has "! line 1: expected boards and 1 to 16 names; the file is not read"
+    input "load a" "board "9{0,0,0,0,0,0,0,0,0}
+    expect 0 "ok 1 load: 1 sent, 1 without an ack line" clash -
+    has "  WON    8  90                       sent 1 of 1 byte"
+    input "load a" "board "9{2,2,2,2,2,2,2,2,2,2,0}
+    expect 0 "ok 1 load: 1 sent, 1 without an ack line" clash - --registers
+    has "  WON    10  90                       sent 1 of 1 byte" \
+        "  lost    9  92                       byte 0 bit 6: sends 1, the bus is 0; 1 byte still to send"
+    holds '[ "$(grep -c "^  regs    [0-9]  USICTL0=C0 " out)" = 10 ]' "ten losers with one digit"
+    holds '[ "$(grep -c "^  regs   10  USICTL0=C8 " out)" = 1 ]' "the winner with two digits"
+    (echo load a && for i in {1..16}; do echo board 90; done) >in
+    expect 0 "ok 1 load: 1 sent, 1 without an ack line" clash -
+    echo board 90 >>in
     expect 1 "refused 12: 1 load: 1 refused" clash -
-    has "  refused 12: 9 boards, and at most 8 may start together"
+    has "  refused 12: 17 boards, and at most 16 may start together"
+    expect 1 "refused 16: 5 loads: 2 sent, 1 cut, 1 undecided, 1 refused" clash "$examples/sixteen.loads"
+    has "  silent  9 beacon" "  WON    11 wheel     62 11 01                 CUT after 3 of 3 bytes: byte 2 (01) not acknowledged"
 }
 
 # Lines that are wrong cost their own load; errors quote the word and name the load.
@@ -787,7 +814,7 @@ program=$(readlink -f "${RIG_PROGRAM:-$root/target/bin/rig}")
 rehearsal=${RIG_PROGRAM:+$program}
 rehearsal=${rehearsal:-$root/target/bin/rig_clash}
 [ -z "${RIG_PROGRAM:-}" ] || export RIG_PROGRAM=$program
-for part in commands help slips corrections cut_corrections cut_short refusals wrong_lines night many_loads sessions traces captures lists \
+for part in commands help slips corrections cut_corrections cut_short refusals most_boards wrong_lines night many_loads sessions traces captures lists \
     round_trips dumps dumps_refused dumps_read dumps_back corpus streams terminal $builds stored truncated random answers; do
     $part
 done

@@ -10,10 +10,17 @@ use crate::refusal::{Reason, Refusal};
 pub mod outcome;
 pub mod runner;
 
-/// The most masters, and the length of the tables in a reply.
-pub const MASTERS: usize = 8;
+/// The most masters, and the places of a reply's arrays.
+pub const MASTERS: usize = 16;
 /// The most bytes of a message.
-pub const MESSAGE_BYTES: usize = 32;
+pub const MESSAGE_BYTES: usize = 64;
+/// The most levels of a run.
+pub const LEVELS: usize = levels_for(MESSAGE_BYTES);
+
+/// The levels of a run that carries so many bytes: two to the START, two a bit, three to the STOP.
+pub const fn levels_for(carried: usize) -> usize {
+    2 + 2 * 9 * carried + 3
+}
 
 /// Messages and acknowledges to which none of 12, 13, 14 and 15 applies.
 #[derive(Clone, PartialEq, Eq, Debug)]
@@ -33,35 +40,39 @@ pub struct Outcome {
     pub remaining: [bool; MASTERS],
     /// For each loser 9·byte + bit; 0 for the others.
     pub positions: [u16; MASTERS],
-    /// The final AL of each module.
+    /// The final AL of each master's module.
     pub arbitration_lost: [bool; MASTERS],
 }
 
-/// The whole reply: the outcome and the final modules it was read from.
+/// The whole reply; the final modules are in the lent table (02: Ask 6).
 #[derive(Clone, PartialEq, Eq, Debug)]
 pub struct Run {
     pub outcome: Outcome,
-    pub modules: [Module; MASTERS],
     /// The flags of USICTL1 that each master's writes cleared over the run, joined (02: Ask 12).
     pub cleared: [u8; MASTERS],
 }
 
-/// One call: refusals 12, 13, 14, 15, 16, 8 in this order; else the carried bytes and the levels are in the
-/// lent slices, whose rest stays.
+/// One call: refusals 12, 13, 14, 15, 16, 8 in this order; else the carried bytes, the levels and the final
+/// module of each master are in the lent slices, whose rest stays. What the table held before is not read.
 pub fn arbitrate(
     bytes: &[u8],
     lengths: &[u32],
     acks: &[u8],
     carried: &mut [u8],
     levels: &mut [u8],
+    table: &mut [Module],
 ) -> Result<Run, Refusal> {
-    let run = runner::run(&Request::new(bytes, lengths, acks)?)?;
+    let (run, modules) = runner::run(&Request::new(bytes, lengths, acks)?)?;
     let outcome = &run.outcome;
     if carried.len() < outcome.carried.len() || levels.len() < outcome.levels.len() {
         return Err(Reason::ShortBuffer.refusal());
     }
+    if table.len() < modules.len() {
+        return Err(Reason::ShortBuffer.refusal());
+    }
     carried[..outcome.carried.len()].copy_from_slice(&outcome.carried);
     levels[..outcome.levels.len()].copy_from_slice(&outcome.levels);
+    table[..modules.len()].copy_from_slice(&modules);
     Ok(run)
 }
 
@@ -84,7 +95,7 @@ impl Request {
     }
 }
 
-/// Refusal 13: the first message of 0 or over 32 bytes, else a wrong sum at the message count.
+/// Refusal 13: the first message of no bytes or too many, else a wrong sum at the message count.
 fn check_lengths(bytes: &[u8], lengths: &[u32]) -> Result<(), Refusal> {
     let bad = |&length: &u32| length == 0 || length as usize > MESSAGE_BYTES;
     if let Some(place) = lengths.iter().position(bad) {

@@ -3,7 +3,7 @@
 //! A module is one number: six registers from bit 0 up, the hidden state in bits 48 to 54; a step's answer has
 //! the refusal number in bits 55 to 59, a write's also the flags that it cleared in bits 60 to 63.
 
-use crate::arbitration::{self, runner, Request, Run, MASTERS};
+use crate::arbitration::{self, runner, Request, Run};
 use crate::bus::{self, Decoded};
 use crate::catalogue::{self, Catalogue, Part};
 use crate::dump;
@@ -23,11 +23,12 @@ pub struct Asked {
     pub acks: Vec<u8>,
 }
 
-/// What a caller of `arbitrate` has to lend.
+/// What a caller of `arbitrate` has to lend: `modules` and `seats` with an entry for each message, or more.
 #[derive(Clone, PartialEq, Eq, Debug)]
 pub struct Buffers {
     pub carried: Vec<u8>,
     pub levels: Vec<u8>,
+    /// The table: packed modules.
     pub modules: Vec<u64>,
     /// Of each master: 1 while it contends, from bit 1 the flags that its writes cleared, from bit 5 its position.
     pub seats: Vec<u32>,
@@ -229,16 +230,16 @@ impl Interface for Model {
     }
 
     fn arbitrate(&self, asked: &Asked, lent: Lent) -> u64 {
-        let run = match Request::new(&asked.bytes, &asked.lengths, &asked.acks)
+        let (run, modules) = match Request::new(&asked.bytes, &asked.lengths, &asked.acks)
             .and_then(|asked| runner::run(&asked))
         {
-            Ok(run) => run,
+            Ok(done) => done,
             Err(refusal) => return refused(refusal),
         };
-        if !has_room(&run, &lent) {
+        if !has_room(&run, modules.len(), &lent) {
             return refused(Reason::ShortBuffer.refusal());
         }
-        fill(&run, lent);
+        fill(&run, &modules, lent);
         (run.outcome.carried.len() as u64) << 24
     }
 
@@ -260,21 +261,21 @@ impl Interface for Model {
     }
 }
 
-/// Every lent slice is as long as the reply needs: the tables have an entry for each of the most masters.
-fn has_room(run: &Run, lent: &Lent) -> bool {
+/// Every lent slice is as long as the reply needs: the tables have an entry for each master.
+fn has_room(run: &Run, masters: usize, lent: &Lent) -> bool {
     lent.carried.len() >= run.outcome.carried.len()
         && lent.levels.len() >= run.outcome.levels.len()
-        && lent.modules.len() >= MASTERS
-        && lent.seats.len() >= MASTERS
+        && lent.modules.len() >= masters
+        && lent.seats.len() >= masters
 }
 
 /// The reply in the lent slices, whose rest stays.
-fn fill(run: &Run, lent: Lent) {
+fn fill(run: &Run, modules: &[Module], lent: Lent) {
     let outcome = &run.outcome;
     lent.carried[..outcome.carried.len()].copy_from_slice(&outcome.carried);
     lent.levels[..outcome.levels.len()].copy_from_slice(&outcome.levels);
-    for master in 0..MASTERS {
-        lent.modules[master] = pack(&run.modules[master]);
+    for (master, module) in modules.iter().enumerate() {
+        lent.modules[master] = pack(module);
         lent.seats[master] = 32 * u32::from(outcome.positions[master])
             + 2 * u32::from(run.cleared[master])
             + u32::from(outcome.remaining[master]);

@@ -1,6 +1,6 @@
 //! The comparison itself: the model behind the C functions is equal to the model, and wrong sides are found.
 
-use rehearsal_model::arbitration::cut;
+use rehearsal_model::arbitration::{cut, LEVELS, MASTERS, MESSAGE_BYTES};
 use rehearsal_model::bus::frame_open_after;
 use rehearsal_model::catalogue::Catalogue;
 use rehearsal_model::compare::catalogue::wraps;
@@ -61,6 +61,14 @@ enum Wrong {
     StillIn,
     LevelsRest,
     RefusedModules,
+    FifteenMasters,
+    FullTables,
+    TableBefore16,
+    PoweredUpFirst,
+    PastTheMasters,
+    SeatsPastTheMasters,
+    OldContents,
+    LastNotStepped,
     LastOfEquals,
     TwoPasses,
     SetsCounted,
@@ -124,6 +132,23 @@ fn wrong_sample(side: Wrong, module: u64, level: u8) -> u64 {
         Wrong::FirstBitLate if before.is(CKPH) && !before.is(GE) && !edge => keep(module, next, OUTPUTS),
         _ => next,
     }
+}
+
+/// The sides that are wrong about the tables, after the right answer; `before` is what the first entry held.
+fn wrong_tables(side: Wrong, masters: usize, reply: u64, before: u64, lent: Lent) -> u64 {
+    let Lent { modules, seats, .. } = lent;
+    let powered_up = Model.power_up(0, 0);
+    match (side, reply & 0xFF) {
+        (Wrong::TableBefore16, 16) if modules.len() < masters => return 8,
+        (Wrong::PoweredUpFirst, 8) if !modules.is_empty() => modules[0] = powered_up,
+        (Wrong::RefusedModules, 14) if !modules.is_empty() => modules[0] = 1,
+        (Wrong::PastTheMasters, 0) if modules.len() > masters => modules[masters] = powered_up,
+        (Wrong::SeatsPastTheMasters, 0) => seats[masters..].fill(0),
+        (Wrong::OldContents, 0) => modules[0] = keep(before, modules[0], 0xFF << 40),
+        (Wrong::LastNotStepped, 0) => modules[masters - 1] = powered_up,
+        _ => {}
+    }
+    reply
 }
 
 impl Interface for Wrong {
@@ -287,25 +312,29 @@ impl Interface for Wrong {
     }
 
     fn arbitrate(&self, asked: &Asked, lent: Lent) -> u64 {
+        let masters = asked.lengths.len();
         let Lent { carried, levels, modules, seats } = lent;
+        match self {
+            Wrong::FifteenMasters if masters == MASTERS => return 12,
+            Wrong::FullTables if modules.len() < MASTERS => return 8,
+            _ => {}
+        }
+        let before = modules.first().copied().unwrap_or_default();
         let lent =
             Lent { carried: &mut *carried, levels: &mut *levels, modules: &mut *modules, seats: &mut *seats };
         let reply = Model.arbitrate(asked, lent);
-        let carried = (reply >> 24 & 0xFFFF) as usize;
+        let count = (reply >> 24 & 0xFFFF) as usize;
         match self {
-            Wrong::Position if carried == 32 => seats[0] ^= 32,
-            Wrong::Module if carried > 5 => modules[asked.lengths.len() - 1] ^= 1 << 48,
-            Wrong::StillIn if asked.lengths.len() == 8 && reply & 0xFF == 0 => seats[7] ^= 1,
-            Wrong::LosersCleared if reply & 0xFF == 0 => {
-                seats.iter_mut().filter(|seat| **seat > 0 && **seat & 1 == 0).for_each(|seat| *seat |= 16)
+            Wrong::Position if count == MESSAGE_BYTES => seats[0] ^= 32,
+            Wrong::Module if count > 5 => modules[masters - 1] ^= 1 << 48,
+            Wrong::StillIn if masters == MASTERS && count > 0 => seats[MASTERS - 1] ^= 1,
+            Wrong::LosersCleared if count > 0 => {
+                seats[..masters].iter_mut().filter(|seat| **seat & 1 == 0).for_each(|seat| *seat |= 16)
             }
-            Wrong::LevelsRest if reply & 0xFF == 0 => {
-                levels.iter_mut().skip(585).for_each(|level| *level = 0)
-            }
-            Wrong::RefusedModules if reply & 0xFF == 14 && !modules.is_empty() => modules[0] = 1,
+            Wrong::LevelsRest if count > 0 => levels.iter_mut().skip(LEVELS + 4).for_each(|level| *level = 0),
             _ => {}
         }
-        reply
+        wrong_tables(*self, masters, reply, before, Lent { carried, levels, modules, seats })
     }
 
     fn least(&self, bytes: &[u8], lengths: &[u32]) -> (u64, u64) {
@@ -415,6 +444,24 @@ fn every_kind_of_step_in_spi_occurs() {
     kinds.split('|').for_each(|kind| occurs(&format!("SPI: {kind}")));
 }
 
+/// The most masters and bytes, one less and one more; tables shorter and longer than the masters.
+#[test]
+fn every_limit_of_arbitration_occurs() {
+    let counts = run(comparison("arbitrations"), &Model, 1, 20_000).unwrap();
+    let occurs = |kind: &str| assert!(counts.get(kind) >= 20, "{kind}: {}", counts.get(kind));
+    for masters in MASTERS - 1..=MASTERS + 1 {
+        occurs(&format!("{masters} masters"));
+    }
+    for (refused, bytes) in [(0, MESSAGE_BYTES - 1), (0, MESSAGE_BYTES), (13, MESSAGE_BYTES + 1)] {
+        occurs(&format!("refused {refused} with {bytes} bytes at most"));
+    }
+    for table in ["modules", "seats"] {
+        for length in ["shorter than", "as long as", "longer than"] {
+            occurs(&format!("{table} {length} the masters"));
+        }
+    }
+}
+
 #[test]
 fn modules_wrong_in_spi_are_found() {
     use Wrong::*;
@@ -464,6 +511,8 @@ fn wrong_arbitrations_are_found() {
         "arbitrations",
         &[Position, Module, StillIn, LevelsRest, RefusedModules, LastOfEquals, TwoPasses, LosersCleared],
     );
+    check_detected("arbitrations", &[FifteenMasters, FullTables, TableBefore16, PoweredUpFirst]);
+    check_detected("arbitrations", &[PastTheMasters, SeatsPastTheMasters, OldContents, LastNotStepped]);
 }
 
 #[test]

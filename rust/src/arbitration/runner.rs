@@ -4,9 +4,10 @@ use super::{Outcome, Request, Run, MASTERS};
 use crate::module::{Module, AL};
 use crate::refusal::{Reason, Refusal};
 
-/// Runs the request. Refusal 16 is seen here on the bus: after a byte acknowledged by 0, some masters that are
-/// still in have ended their message and others have not. `outcome` has it in 01's own words.
-pub fn run(request: &Request) -> Result<Run, Refusal> {
+/// Runs the request; gives the reply and the final module of each master. Refusal 16 is seen here on the
+/// bus: after a byte acknowledged by 0, some masters that are still in have ended their message and others
+/// have not. `outcome` has it in 01's own words.
+pub fn run(request: &Request) -> Result<(Run, Vec<Module>), Refusal> {
     let mut runner = Runner::new(request);
     runner.start();
     let mut carried = Vec::new();
@@ -167,20 +168,19 @@ impl Runner<'_> {
         self.remaining_write(Module::USICTL0, 0xC8);
     }
 
-    /// The reply; where there is no message the module stays as powered up and is not in.
-    fn reply(self, carried: Vec<u8>) -> Run {
-        let mut modules = [Module::power_up(0, 0); MASTERS];
-        modules[..self.modules.len()].copy_from_slice(&self.modules);
+    /// The reply and the final modules; a place without a message is not in, and has 0 for all else.
+    fn reply(self, carried: Vec<u8>) -> (Run, Vec<Module>) {
         let mut remaining = [false; MASTERS];
         let mut positions = [0; MASTERS];
+        let mut arbitration_lost = [false; MASTERS];
         for (master, lost) in self.lost.iter().enumerate() {
             remaining[master] = lost.is_none();
             positions[master] = lost.unwrap_or(0) as u16;
+            arbitration_lost[master] = self.modules[master].is(AL);
         }
-        let arbitration_lost = modules.map(|module| module.is(AL));
         let outcome = Outcome { carried, levels: self.levels, remaining, positions, arbitration_lost };
         let mut cleared = [0; MASTERS];
         cleared[..self.cleared.len()].copy_from_slice(&self.cleared);
-        Run { outcome, modules, cleared }
+        (Run { outcome, cleared }, self.modules)
     }
 }

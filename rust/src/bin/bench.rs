@@ -1,6 +1,6 @@
-//! `bench`: 40 arbitrations of eight masters with 32-byte messages, by the proved library and by the model.
+//! `bench`: 40 arbitrations of the most masters with the longest messages, by the library and by the model.
 
-use rehearsal_model::arbitration::{MASTERS, MESSAGE_BYTES};
+use rehearsal_model::arbitration::{LEVELS, MASTERS, MESSAGE_BYTES};
 use rehearsal_model::ffi::Archive;
 use rehearsal_model::packed::{Asked, Buffers, Interface, Model};
 use rehearsal_model::random::Random;
@@ -42,7 +42,7 @@ fn late_losers(random: &mut Random) -> Asked {
 fn buffers() -> Buffers {
     Buffers {
         carried: vec![0; MESSAGE_BYTES],
-        levels: vec![0; 5 + 18 * MESSAGE_BYTES],
+        levels: vec![0; LEVELS],
         modules: vec![0; MASTERS],
         seats: vec![0; MASTERS],
     }

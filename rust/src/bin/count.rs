@@ -1,7 +1,7 @@
 //! `count library|model arbitrate|decode N`: so many equal calls and nothing else, for a count of instructions under
 //! callgrind: the difference between N and 2N calls is N calls'.
 
-use rehearsal_model::arbitration::{MASTERS, MESSAGE_BYTES};
+use rehearsal_model::arbitration::{LEVELS, MASTERS, MESSAGE_BYTES};
 use rehearsal_model::bus::{drawing, START, STOP};
 use rehearsal_model::ffi::Archive;
 use rehearsal_model::packed::{Asked, Buffers, Interface, Model};
@@ -25,7 +25,7 @@ fn main() {
     }
 }
 
-/// Eight masters with 32-byte messages that differ in their last four bytes.
+/// The most masters with the longest messages, which differ in their last four bytes.
 fn arbitrate(side: &dyn Interface, count: usize) {
     let message = |master: usize| (0..MESSAGE_BYTES).map(move |at| message_byte(at, master));
     let asked = Asked {
@@ -35,7 +35,7 @@ fn arbitrate(side: &dyn Interface, count: usize) {
     };
     let mut lent = Buffers {
         carried: vec![0; MESSAGE_BYTES],
-        levels: vec![0; 5 + 18 * MESSAGE_BYTES],
+        levels: vec![0; LEVELS],
         modules: vec![0; MASTERS],
         seats: vec![0; MASTERS],
     };

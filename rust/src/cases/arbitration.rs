@@ -5,7 +5,7 @@ use crate::arbitration::{arbitrate, Run, MASTERS};
 use crate::module::Module;
 use crate::refusal::Refusal;
 
-/// What both buffers hold before a run.
+/// What both buffers hold before a run, and both shift bytes of every module of the table.
 const UNTOUCHED: u8 = 0xEE;
 
 /// Answers a script of arbitrations.
@@ -51,10 +51,13 @@ fn digits(word: &str) -> Result<Vec<u8>, String> {
 
 fn answer(bytes: &[u8], lengths: &[u32], acks: &[u8], rooms: (usize, usize)) -> String {
     let (mut carried, mut levels) = (vec![UNTOUCHED; rooms.0], vec![UNTOUCHED; rooms.1]);
-    let reply = arbitrate(bytes, lengths, acks, &mut carried, &mut levels);
+    let mut table = [Module::power_up(UNTOUCHED, UNTOUCHED); MASTERS];
+    let reply = arbitrate(bytes, lengths, acks, &mut carried, &mut levels, &mut table);
+    let masters = table.iter().take(lengths.len());
+    let reply = reply_text(reply, masters);
     let carried: String = carried.iter().map(|byte| format!("{byte:02X}")).collect();
     let levels: String = levels.iter().map(|&level| level_text(level)).collect();
-    format!("{}\n  carried {carried}\n  levels {levels}", reply_text(reply))
+    format!("{reply}\n  carried {carried}\n  levels {levels}")
 }
 
 fn level_text(level: u8) -> char {
@@ -64,23 +67,18 @@ fn level_text(level: u8) -> char {
     }
 }
 
-/// The reply's numbers, then one line for each of the eight masters.
-fn reply_text(reply: Result<Run, Refusal>) -> String {
-    let (numbers, modules, positions, cleared) = match reply {
-        Ok(run) => {
-            let remaining = run.outcome.remaining.iter().rev();
-            let mask = remaining.fold(0, |mask, &bit| mask << 1 | u16::from(bit));
-            let numbers = format!("refused 0 place 0 k {} in {mask}", run.outcome.carried.len());
-            (numbers, run.modules, run.outcome.positions, run.cleared)
-        }
-        Err(refusal) => {
-            let numbers = format!("refused {} place {} k 0 in 0", refusal.number(), refusal.place);
-            (numbers, [Module::power_up(0, 0); MASTERS], [0; MASTERS], [0; MASTERS])
-        }
+/// The reply's numbers, then one line for each master; none at a refusal.
+fn reply_text<'a>(reply: Result<Run, Refusal>, masters: impl Iterator<Item = &'a Module>) -> String {
+    let run = match reply {
+        Ok(run) => run,
+        Err(refusal) => return format!("refused {} place {} k 0 in 0", refusal.number(), refusal.place),
     };
-    let masters = modules.iter().zip(positions).zip(cleared).enumerate();
-    let lines = masters.map(|(master, ((module, at), cleared))| {
-        format!("\n  {master}: {} at {at} cleared={cleared:02X}", module_text(module))
-    });
-    numbers + &lines.collect::<String>()
+    let remaining = run.outcome.remaining.iter().rev();
+    let mask = remaining.fold(0, |mask, &bit| mask << 1 | u16::from(bit));
+    let mut text = format!("refused 0 place 0 k {} in {mask}", run.outcome.carried.len());
+    for (master, module) in masters.enumerate() {
+        let (at, cleared) = (run.outcome.positions[master], run.cleared[master]);
+        text += &format!("\n  {master}: {} at {at} cleared={cleared:02X}", module_text(module));
+    }
+    text
 }

@@ -3,11 +3,12 @@
 use super::lists::{draw_room, pattern};
 use super::{equal, Counts, Difference};
 use crate::arbitration::outcome::outcome;
-use crate::arbitration::{Outcome, Request, MASTERS, MESSAGE_BYTES};
+use crate::arbitration::{levels_for, Outcome, Request, MASTERS, MESSAGE_BYTES};
 use crate::module::AL;
 use crate::packed::{unpack, Asked, Buffers, Interface, Model};
 use crate::random::Random;
 use crate::refusal::{Reason, Refusal};
+use std::cmp::Ordering;
 
 /// One arbitration, asked of both sides.
 pub fn case(other: &dyn Interface, random: &mut Random, counts: &mut Counts) -> Result<(), Difference> {
@@ -22,13 +23,14 @@ pub fn case(other: &dyn Interface, random: &mut Random, counts: &mut Counts) -> 
         (side.arbitrate(&asked, lent.lend()), lent)
     };
     let (model, other) = (ask(&Model), ask(other));
-    check_cleared(&asked, &other)?;
     count_kinds(&asked, &model, counts);
     let inputs = || {
         let rooms = [lent.carried.len(), lent.levels.len(), lent.modules.len(), lent.seats.len()];
         format!("arbitrate {asked:X?}, rooms {rooms:?}")
     };
     equal(&model, &other, inputs, |(reply, lent)| format!("{}, {lent:X?}", reply_words(*reply)))?;
+    check_cleared(&asked, &other)?;
+    check_rest(&asked, &lent, &other)?;
     compare_outcome(&asked, &lent, &other)
 }
 
@@ -57,12 +59,31 @@ fn check_cleared(asked: &Asked, (reply, lent): &(u64, Buffers)) -> Result<(), Di
     equal(&vec![3; masters], &cleared, inputs, |flags| format!("{flags:?}"))
 }
 
+/// Both tables past the masters are as they were lent, and at a refusal all of them (02: Ask 6).
+fn check_rest(asked: &Asked, before: &Buffers, (reply, after): &(u64, Buffers)) -> Result<(), Difference> {
+    let written = if reply & 0xFF == 0 { asked.lengths.len() } else { 0 };
+    let rest = |lent: &Buffers| (lent.modules[written..].to_vec(), lent.seats[written..].to_vec());
+    let inputs = || format!("entries from {written} on, of {asked:X?}");
+    equal(&rest(before), &rest(after), inputs, |rest| format!("{rest:X?}"))
+}
+
 fn count_kinds(asked: &Asked, model: &(u64, Buffers), counts: &mut Counts) {
+    let masters = asked.lengths.len();
     counts.add(format!("refused {}", model.0 & 0xFF));
-    counts.add(match asked.lengths.len() {
-        masters @ 0..=MASTERS => format!("{masters} masters"),
-        _ => "9 or more masters".to_string(),
-    });
+    counts.add(format!("{masters} masters"));
+    let longest = asked.lengths.iter().max().map_or(0, |&length| length as usize);
+    if longest.abs_diff(MESSAGE_BYTES) <= 1 {
+        counts.add(format!("refused {} with {longest} bytes at most", model.0 & 0xFF));
+    }
+    if [0, 8].contains(&(model.0 & 0xFF)) {
+        for (table, length) in [("modules", model.1.modules.len()), ("seats", model.1.seats.len())] {
+            counts.add(match length.cmp(&masters) {
+                Ordering::Less => format!("{table} shorter than the masters"),
+                Ordering::Equal => format!("{table} as long as the masters"),
+                Ordering::Greater => format!("{table} longer than the masters"),
+            });
+        }
+    }
     if model.0 & 0xFF == 0 {
         let losers = model.1.seats[..asked.lengths.len()].iter().filter(|&seat| seat & 1 == 0).count();
         counts.add(format!("{losers} lost"));
@@ -82,27 +103,28 @@ fn compare_outcome(asked: &Asked, before: &Buffers, answer: &(u64, Buffers)) -> 
     let Ok(request) = Request::new(&asked.bytes, &asked.lengths, &asked.acks) else {
         return Ok(());
     };
-    let expected = match outcome(&request).and_then(|outcome| enough(outcome, before)) {
+    let masters = request.messages.len();
+    let expected = match outcome(&request).and_then(|outcome| enough(outcome, masters, before)) {
         Ok(outcome) => Visible { refusal: 0, outcome: Some(outcome) },
         Err(refusal) => Visible { refusal: u64::from(refusal.number()), outcome: None },
     };
     let inputs = || format!("the outcome of {request:X?}");
-    equal(&expected, &visible(answer), inputs, |visible| format!("{visible:X?}"))
+    equal(&expected, &visible(masters, answer), inputs, |visible| format!("{visible:X?}"))
 }
 
 /// Refusal 8, after all others.
-fn enough(outcome: Outcome, lent: &Buffers) -> Result<Outcome, Refusal> {
+fn enough(outcome: Outcome, masters: usize, lent: &Buffers) -> Result<Outcome, Refusal> {
     let tables = lent.modules.len().min(lent.seats.len());
     if lent.carried.len() < outcome.carried.len()
         || lent.levels.len() < outcome.levels.len()
-        || tables < MASTERS
+        || tables < masters
     {
         return Err(Reason::ShortBuffer.refusal());
     }
     Ok(outcome)
 }
 
-fn visible((reply, lent): &(u64, Buffers)) -> Visible {
+fn visible(masters: usize, (reply, lent): &(u64, Buffers)) -> Visible {
     let refusal = reply & 0xFF;
     if refusal > 0 {
         return Visible { refusal, outcome: None };
@@ -110,18 +132,24 @@ fn visible((reply, lent): &(u64, Buffers)) -> Visible {
     let count = (reply >> 24 & 0xFFFF) as usize;
     let outcome = Outcome {
         carried: lent.carried[..count].to_vec(),
-        levels: lent.levels[..5 + 18 * count].to_vec(),
-        remaining: std::array::from_fn(|master| lent.seats[master] & 1 == 1),
-        positions: std::array::from_fn(|master| (lent.seats[master] >> 5) as u16),
-        arbitration_lost: std::array::from_fn(|master| unpack(lent.modules[master]).is(AL)),
+        levels: lent.levels[..levels_for(count)].to_vec(),
+        remaining: of_masters(masters, |master| lent.seats[master] & 1 == 1),
+        positions: of_masters(masters, |master| (lent.seats[master] >> 5) as u16),
+        arbitration_lost: of_masters(masters, |master| unpack(lent.modules[master]).is(AL)),
     };
     Visible { refusal, outcome: Some(outcome) }
 }
 
-/// One to eight messages that share beginnings, and acknowledges mostly 0.
+/// A number for each master, and none for the other places.
+fn of_masters<T: Default>(masters: usize, one: impl Fn(usize) -> T) -> [T; MASTERS] {
+    std::array::from_fn(|place| if place < masters { one(place) } else { T::default() })
+}
+
+/// Messages that share beginnings, of one master up to the most, and acknowledges mostly 0.
 pub fn draw_request(random: &mut Random) -> Asked {
     let base = draw_message(random);
-    let masters = random.between(1, MASTERS);
+    let most = random.pick(&[3, 8, MASTERS]);
+    let masters = random.between(1, most);
     let messages: Vec<Vec<u8>> = (0..masters).map(|_| relative(random, &base)).collect();
     let longest = messages.iter().map(Vec::len).max().unwrap_or(0);
     let refusing = random.pick(&[2, 8, 1000]);
@@ -135,7 +163,7 @@ pub fn draw_request(random: &mut Random) -> Asked {
 /// Most are short, some are as long as can be; the first byte is even (a write).
 fn draw_message(random: &mut Random) -> Vec<u8> {
     let length = match random.below(16) {
-        0..=1 => MESSAGE_BYTES,
+        0..=1 => MESSAGE_BYTES - random.below(2),
         2..=4 => random.between(1, MESSAGE_BYTES),
         _ => random.between(1, 5),
     };
@@ -168,15 +196,18 @@ fn relative(random: &mut Random, base: &[u8]) -> Vec<u8> {
 fn spoil(random: &mut Random, asked: &mut Asked) {
     for _ in 0..random.between(1, 3) {
         let master = random.below(asked.lengths.len().max(1));
-        match random.below(9) {
+        match random.below(10) {
             0 => asked.lengths.clear(),
-            1 => asked.lengths.resize(random.between(9, 12), 1),
-            2 if master < asked.lengths.len() => asked.lengths[master] = random.pick(&[0, 33, 300, u32::MAX]),
+            1 => too_many(random, asked),
+            2 if master < asked.lengths.len() => {
+                asked.lengths[master] = random.pick(&[0, MESSAGE_BYTES as u32 + 1, 300, u32::MAX])
+            }
             3 => asked.bytes.push(random.byte()),
             4 => drop(asked.bytes.pop()),
             5 => make_odd(asked, master),
             6 => drop(asked.acks.pop()),
             7 => asked.acks.push(random.byte() % 3),
+            8 => too_long(asked),
             _ if asked.acks.is_empty() => {}
             _ => {
                 let place = random.below(asked.acks.len());
@@ -186,28 +217,48 @@ fn spoil(random: &mut Random, asked: &mut Asked) {
     }
 }
 
+/// One message more than the most, or a few; the lengths sum to the bytes as they did.
+fn too_many(random: &mut Random, asked: &mut Asked) {
+    let more = random.pick(&[1, 1, 2, 5]);
+    while asked.lengths.len() < MASTERS + more {
+        asked.lengths.push(1);
+        asked.bytes.push(0x90);
+    }
+}
+
+/// The last message has one byte more than the most; the acknowledges follow, and so do the bytes.
+fn too_long(asked: &mut Asked) {
+    let Some(last) = asked.lengths.last_mut() else { return };
+    let more = (MESSAGE_BYTES + 1).saturating_sub(*last as usize);
+    *last += more as u32;
+    asked.bytes.resize(asked.bytes.len() + more, 0x5A);
+    asked.acks.resize(asked.acks.len().max(MESSAGE_BYTES + 1), 0);
+}
+
 /// The first byte of a message becomes odd.
 fn make_odd(asked: &mut Asked, master: usize) {
-    let first: usize = asked.lengths.iter().take(master).map(|&length| length.min(64) as usize).sum();
+    let first: usize = asked.lengths.iter().take(master).map(|&length| length.min(100) as usize).sum();
     if let Some(byte) = asked.bytes.get_mut(first) {
         *byte |= 1;
     }
 }
 
-/// Buffers with a pattern in them: exact, too short or with a rest; the tables mostly of eight.
+/// Buffers with a pattern in them: exact, too short or with a rest; the tables seldom too short.
 fn draw_buffers(random: &mut Random, asked: &Asked) -> Buffers {
     let request = Request::new(&asked.bytes, &asked.lengths, &asked.acks);
     let count = request.and_then(|request| outcome(&request)).map_or(0, |outcome| outcome.carried.len());
     let salt = random.bits();
     let fill = |length: usize| (0..length as u64).map(move |index| pattern(salt, index));
-    let table = |random: &mut Random| match random.below(64) {
-        0 => random.below(MASTERS),
-        1..=2 => random.between(MASTERS + 1, MASTERS + 3),
-        _ => MASTERS,
+    let masters = asked.lengths.len();
+    let table = |random: &mut Random| match random.below(32) {
+        0 => random.below(masters + 1),
+        1 => masters.saturating_sub(1),
+        2..=15 => masters,
+        _ => masters + random.between(1, MASTERS + 4),
     };
     Buffers {
         carried: fill(draw_room(random, count)).map(|bits| bits as u8).collect(),
-        levels: fill(draw_room(random, 5 + 18 * count)).map(|bits| bits as u8).collect(),
+        levels: fill(draw_room(random, levels_for(count))).map(|bits| bits as u8).collect(),
         modules: fill(table(random)).collect(),
         seats: fill(table(random)).map(|bits| bits as u32).collect(),
     }

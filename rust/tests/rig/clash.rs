@@ -1,6 +1,6 @@
 //! `rig clash`: the worked numbers P8 to P12 as loads, each verdict, and each refusal with its boards and lines.
 
-use super::rig;
+use super::{rig, SIXTEEN};
 
 const WORKED: &str = "# worked numbers\nboards first second third\n\
     load p8 two boards\nboard first 90 12\nboard second 90 0F\nboard third -\nack 0 0\n\
@@ -152,11 +152,11 @@ fn the_board_shown_is_the_satellites() {
 
 #[test]
 fn refusals_name_boards_lines_and_counts() {
-    let long = format!("board p 50\nboard q {}\nboard r -", "50 ".repeat(35));
+    let long = format!("board p 50\nboard q {}\nboard r -", "50 ".repeat(67));
     let cases = [
         ("board p -\nboard q -\nboard r -", "12: every board is silent"),
         ("board p 50\nboard q\nboard r -", "13: q (line 4) has no bytes"),
-        (&long, "13: q (line 4) has 35 bytes, and at most 32 may be sent"),
+        (&long, "13: q (line 4) has 67 bytes, and at most 64 may be sent"),
         ("board p 50\nboard q -\nboard r 91 00", "14: r (line 5) begins with 91, which is odd, a read"),
         (
             "board p 50\nboard q 60 00\nboard r 70 00\nack 0",
@@ -201,6 +201,70 @@ load x
     assert!(rig("clash -", "load x\nboard 90 12\nboard 8 F\nack all")
         .replace("08 0F", "09 0F")
         .starts_with(expected));
-    let nine = format!("load x\n{}", "board 90\n".repeat(9));
-    assert!(rig("clash -", nine).contains("  refused 12: 9 boards, and at most 8 may start together\n"));
+    let boards = |count: usize| rig("clash -", format!("load x\n{}", "board 90\n".repeat(count)));
+    assert!(boards(17).contains("  refused 12: 17 boards, and at most 16 may start together\n"));
+    assert!(boards(16).ends_with("\nok 1 load: 1 sent, 1 without an ack line\n"));
+}
+
+/// A load of twelve boards, of which a, b and l send, with these lines after the boards'.
+fn twelve(arguments: &str, rest: &str) -> String {
+    let names: Vec<String> = ('a'..='l').map(|letter| format!("n{letter}")).collect();
+    let message = |name: &String| match name.as_str() {
+        "na" => "90 12",
+        "nb" => "90 0F",
+        "nl" => "90 0F 00",
+        _ => "-",
+    };
+    let lines: String = names.iter().map(|name| format!("board {name} {}\n", message(name))).collect();
+    rig(arguments, format!("boards {}\nload x\n{lines}{rest}\nend 1\n", names.join(" ")))
+}
+
+#[test]
+fn numbers_of_more_than_ten_boards_stand_in_two_columns() {
+    let expected = "\
+load x
+  UNDECIDED between 1, 11: the bus stopped after byte 1 (0F), before they differ; nothing was sent whole
+  in      1 nb  90 0F                    2 of 2 bytes carried
+  in     11 nl  90 0F 00                 2 of 3 bytes carried
+  lost    0 na  90 12                    byte 1 bit 3: sends 1, the bus is 0; 2 bytes still to send
+  silent  2 nc
+";
+    let output = twelve("clash -", "ack 0 1 0");
+    assert!(output.starts_with(expected), "{output}");
+    assert!(output.contains("\n  silent  9 nj\n  silent 10 nk\nsee x\n"), "{output}");
+    let output = twelve("clash - --registers", "ack 0 1 0");
+    let registers =
+        ["\n  regs    0 na  USICTL0=C0 ", "\n  regs    1 nb  USICTL0=C8 ", "\n  regs   11 nl  USICTL0=C8 "];
+    assert!(registers.iter().all(|line| output.contains(line)), "{output}");
+    assert!(twelve("clash - --table", "ack 0 1 0").contains("UNDECIDED at byte 1: nb, nl\n"));
+}
+
+/// Numbers are in one column up to ten boards, in two from eleven on, in the old form too.
+#[test]
+fn ten_and_eleven_boards() {
+    let boards = |count: usize| rig("clash -", format!("load x\n{}", "board 90\n".repeat(count)));
+    let won = "90                       sent 1 of 1 byte\n";
+    assert!(boards(10).starts_with(&format!("load x\n  WON    0  {won}")));
+    assert!(boards(11).starts_with(&format!("load x\n  WON     0  {won}")));
+    assert!(boards(11).contains(&format!("\n  WON    10  {won}")));
+    let named = |names: &[&str]| {
+        let silent: String = names[1..].iter().map(|name| format!("board {name} -\n")).collect();
+        let load = format!("load x\nboard {} 90\n{silent}ack all\nend 1\n", names[0]);
+        rig("clash -", format!("boards {}\n{load}", names.join(" ")))
+    };
+    assert!(named(&SIXTEEN[..10]).starts_with(&format!("load x\n  WON    0 q  {won}  silent 1 r\n")));
+    assert!(named(&SIXTEEN[..11]).starts_with(&format!("load x\n  WON     0 q   {won}  silent  1 r\n")));
+    assert!(named(&SIXTEEN).contains("\n  silent  9 z\n  silent 10 qq\n"));
+}
+
+#[test]
+fn numbers_elsewhere_stand_as_they_are() {
+    let night = twelve("clash -", "ack 0 0");
+    assert!(night
+        .contains("\n  refused 15: 2 acknowledges (line 15) for the 3 bytes of nl (line 14), the longest\n"));
+    let boards = format!("load x\n{}board 90 00\n", "board 90\n".repeat(11));
+    let words = "board 0 (line 2) ends with 90, acknowledged, where board 11 (line 13) goes on with 00";
+    assert!(rig("clash -", &boards).contains(&format!("\n  refused 16: {words}\n")));
+    let row = "UNDECIDED at byte 0: 0, 1, 2, 3, 4,~\n";
+    assert!(rig("clash - --table", format!("{boards}ack 1 0")).contains(row));
 }

@@ -1,6 +1,6 @@
 //! `rig clash`: what is wrong in a file of loads costs one load, and is said with its lines and words.
 
-use super::{last, rig};
+use super::{last, rig, SIXTEEN};
 use rehearsal_model::rig::answer;
 
 /// The lines about what is wrong in a file, without their mark.
@@ -110,9 +110,9 @@ fn the_first_statement() {
     let cases = [
         ("board 90".to_string(), "expected boards or load first, not 'board'".to_string()),
         ("0 3\n1 3".to_string(), "expected boards or load first, not '0'".to_string()),
-        ("boards".to_string(), "expected boards and 1 to 8 names".to_string()),
+        ("boards".to_string(), "expected boards and 1 to 16 names".to_string()),
         ("boards p a".to_string(), format!("{name} 'a'")),
-        ("boards q r s t u v w x 9".to_string(), "more than 8 boards".to_string()),
+        (format!("boards {} 9", SIXTEEN.join(" ")), "more than 16 boards".to_string()),
         ("boards q 7up".to_string(), format!("{name} '7up'")),
         ("boards q ad".to_string(), format!("{name} 'ad'")),
         (format!("boards {long}"), format!("{name} '{long}'")),

@@ -54,12 +54,12 @@ fn verdicts_with_a_winner() {
 
 #[test]
 fn verdicts_without_a_winner() {
-    let long = "50 ".repeat(35);
+    let long = "50 ".repeat(65);
     let cases = [
         (row("-", "50 12", "50 11", "ack 1 0"), "UNDECIDED at byte 0: b-board, attit~"),
         (row("-", "-", "-", ""), "REFUSED 12: every board is silent"),
         (row("", "-", "-", ""), "REFUSED 13: a-board has no bytes"),
-        (row(&long, "-", "-", ""), "REFUSED 13: a-board has 35 bytes"),
+        (row(&long, "-", "-", ""), "REFUSED 13: a-board has 65 bytes"),
         (row("51", "-", "-", ""), "REFUSED 14: a-board begins with 51"),
         (row("50", "-", "-", "ack 0 0"), "REFUSED 15: 2 acknowledges for 1"),
         (row("50", "-", "-", "ack 2"), "REFUSED 15: acknowledge 0 is 2"),

@@ -1,6 +1,6 @@
 //! `rig clash --corrections`: tonight's corrections over the loads of a night, and what is wrong in their file.
 
-use super::rig;
+use super::{rig, SIXTEEN};
 use std::fs::write;
 use std::thread::current;
 
@@ -49,6 +49,22 @@ load y
 }
 
 #[test]
+fn numbers_of_more_than_ten_boards() {
+    let lines: String = SIXTEEN.iter().map(|name| format!("board {name} -\n")).collect();
+    let night = format!("boards {}\nload x\n{lines}ack all\nend 1\n", SIXTEEN.join(" "));
+    let output = corrected("", &night, "load x\nboard vv 48\nboard r 50\nboard qq -\nend 1\n");
+    let expected = "\
+load x
+  corrected 1 r, 10 qq, 15 vv
+  WON    15 vv  48                       sent 1 of 1 byte
+  lost    1 r   50                       byte 0 bit 3: sends 1, the bus is 0; 1 byte still to send
+  silent  0 q
+  silent  2 s
+";
+    assert!(output.starts_with(expected), "{output}");
+}
+
+#[test]
 fn the_table_only_counts_them() {
     let output = corrected("--table", NIGHT, "load y\nboard q 50\nend 1\n");
     let (_, rows) = output.split_once('\n').unwrap();
@@ -79,10 +95,10 @@ fn every_board_may_be_silenced() {
 #[test]
 fn a_message_that_is_too_long_or_empty() {
     let night = |message: &str| format!("boards p q\nload x\nboard p{message}\nboard q 62\nack all\nend 1\n");
-    let long = " 50".repeat(40);
+    let long = " 50".repeat(70);
     let output = corrected("", &night(&long), "load x\nboard q 50\nend 1\n");
     assert!(
-        output.contains("  refused 13: p (line 3) has 40 bytes, and at most 32 may be sent\n"),
+        output.contains("  refused 13: p (line 3) has 70 bytes, and at most 64 may be sent\n"),
         "{output}"
     );
     assert_eq!(last(&night(&long), "load x\nboard p 50\nend 1\n"), "ok 1 load: 1 sent, 1 corrected");
@@ -183,8 +199,8 @@ fn whatever_is_wrong_stops_everything() {
 #[test]
 fn the_most_bytes_and_corrections() {
     let bytes = |count: usize| format!("load x\nboard p{}\nend 1\n", " 50".repeat(count));
-    check_fault(&bytes(33), "corrections line 2: board p has 33 bytes, and at most 32 may be sent");
-    assert!(last(NIGHT, &bytes(32)).ends_with("1 corrected"));
+    check_fault(&bytes(65), "corrections line 2: board p has 65 bytes, and at most 64 may be sent");
+    assert!(last(NIGHT, &bytes(64)).ends_with("1 corrected"));
     let boards = |count: usize| {
         let lines: String = (0..count).map(|board| format!("board p{board} 50\n")).collect();
         format!("load none\n{lines}end 1\n")

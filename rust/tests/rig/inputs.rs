@@ -58,14 +58,15 @@ fn clash_blocks_reach_every_answer() {
         |CUT after |not acknowledged; | not acknowledged\n|  note: no ack line|  NOT AS EXPECTED\
         |  regs   |  carried |  sda:|  refused 8: |every board is silent|refused 12: no board\
         |boards, and at most|has no bytes|bytes, and at most|which is odd|, the longest|neither 0 nor 1\
-        |goes on with|  ERROR: not rehearsed";
+        |goes on with|  ERROR: not rehearsed|  WON    10 |  WON     9|  in     15 |  lost   15 |  lost    0 \
+        |  silent 15 |  silent  0 |  regs   15 |  regs    0 |has 65 bytes|sent 64 of 64 bytes";
     check_reach("clash", &texts.split('|').collect::<Vec<_>>());
 }
 
 #[test]
 fn clash_tables_reach_every_answer() {
     let texts = " sent\n|sent, no ack line|CUT at byte |not sent\n|, the last\n|UNDECIDED at byte|EXPECTED \
-        |REFUSED 8: too|REFUSED 12: every|REFUSED 12: no board|REFUSED 12: 9 boards|REFUSED 13: \
+        |REFUSED 8: too|REFUSED 12: every|REFUSED 12: no board|REFUSED 12: 17 boards|REFUSED 13: \
         |REFUSED 14: |acknowledges for |: acknowledge |REFUSED 16: |ERROR: not rehearsed|~ |~\n\
         |! cannot open|! cannot read|\nsee | and 1 more|\nok |\nlook |\nrefused 1|\nerror | in error\
         | undecided| not as expected|faults outside";
@@ -74,7 +75,8 @@ fn clash_tables_reach_every_answer() {
 
 #[test]
 fn clash_files_reach_every_error() {
-    let texts = "; the file is not read|expected boards or load first|more than 8 boards|expected boards and\
+    let texts =
+        "; the file is not read|expected boards or load first|more than 16 boards|expected boards and\
         |expected a name of 1 to 16|is named twice|expected load or end|a second boards line\
         |expected a name of 1 to 32 bytes\n|expected a name of 1 to 32 bytes, not|: a title needs\
         |the title is longer|this name was taken|more than 4096 loads\
@@ -96,7 +98,7 @@ fn corrections_reach_every_answer() {
         |expected a name of 1 to 32 bytes;|expected a name of 1 to 32 bytes, not|expected load NAME, one word\
         |this name was taken on line|more than 256 corrections|expected board NAME and its bytes, or - for none;\
         |expected a name of 1 to 16 bytes|a second line for board|expected nothing after -|two hexadecimal digits\
-        |bytes, and at most 32 may be sent;|expected end N, the number of loads;|number of loads, not\
+        |bytes, and at most 64 may be sent;|expected end N, the number of loads;|number of loads, not\
         |: end says|: after end (line|: longer than 4096 bytes;|: a byte that is no text;";
     check_reach("clash", &texts.split('|').collect::<Vec<_>>());
 }

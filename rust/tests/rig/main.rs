@@ -15,6 +15,10 @@ mod session;
 
 use rehearsal_model::rig::answer;
 
+/// As many names as a file may have boards.
+const SIXTEEN: [&str; 16] =
+    ["q", "r", "s", "t", "u", "v", "w", "x", "y", "z", "qq", "rr", "ss", "tt", "uu", "vv"];
+
 /// What the mirror prints for these arguments, split at blanks, with this standard input.
 fn rig(arguments: &str, input: impl AsRef<[u8]>) -> String {
     let arguments: Vec<Vec<u8>> = arguments.split_whitespace().map(|word| word.into()).collect();

@@ -110,13 +110,13 @@ fn of_the_writer() {
 
 #[test]
 fn of_arbitration() {
-    let nine = "board 90\n".repeat(9);
-    let long = format!("board 90\nboard {}", "90 ".repeat(33));
+    let seventeen = "board 90\n".repeat(17);
+    let long = format!("board 90\nboard {}", "90 ".repeat(65));
     let cases = [
         ("clash -", "", "12: no board"),
-        ("clash -", &nine, "12: 9 boards, and at most 8 may start together"),
+        ("clash -", &seventeen, "12: 17 boards, and at most 16 may start together"),
         ("clash -", "board", "13: board 0 (line 2) has no bytes"),
-        ("clash -", &long, "13: board 1 (line 3) has 33 bytes, and at most 32 may be sent"),
+        ("clash -", &long, "13: board 1 (line 3) has 65 bytes, and at most 64 may be sent"),
         ("clash -", "board 90\n\nboard 91", "14: board 1 (line 4) begins with 91, which is odd, a read"),
         (
             "clash -",

@@ -25,7 +25,7 @@ pub fn block(load: &Load, boards: &Boards, result: &Result, options: &Options) -
             lines.extend(in_and_out(load, boards, rehearsal));
             lines.extend(remarks(load, boards, rehearsal));
             if options.registers {
-                lines.extend(registers(boards, rehearsal));
+                lines.extend(registers(load, boards, rehearsal));
             }
             if options.wave {
                 lines.extend(bus(rehearsal));
@@ -49,21 +49,24 @@ fn board_line(word: &str, label: &str, message: &[u8], fate: &str) -> String {
 /// The boards still in, the losers and the silent.
 fn in_and_out(load: &Load, boards: &Boards, rehearsal: &Rehearsal) -> Vec<String> {
     let mut lines = Vec::new();
+    let columns = load.number_columns();
     let undecided = rehearsal.verdict == Verdict::Undecided;
     lines.extend(undecided.then(|| between(rehearsal)));
     for (board, message) in rehearsal.winners() {
         let word = if undecided { "in" } else { "WON" };
-        lines.push(board_line(word, &boards.label(board.number), message, &fate(rehearsal, message)));
+        let label = boards.label(board.number, columns);
+        lines.push(board_line(word, &label, message, &fate(rehearsal, message)));
     }
     for (board, message, place) in rehearsal.losers() {
         let (byte, bit, bytes) = (place / 9, place % 9, counted(message.len(), "byte"));
         let fate = format!("byte {byte} bit {bit}: sends 1, the bus is 0; {bytes} still to send");
-        lines.push(board_line("lost", &boards.label(board.number), message, &fate));
+        lines.push(board_line("lost", &boards.label(board.number, columns), message, &fate));
     }
     let mut silent: Vec<usize> =
         load.boards.iter().filter(|board| board.message.is_none()).map(|board| board.number).collect();
     silent.sort();
-    lines.extend(silent.iter().map(|number| format!("  silent {number} {}", boards.short(*number))));
+    let silent_line = |number: &usize| format!("  silent {number:>columns$} {}", boards.short(*number));
+    lines.extend(silent.iter().map(silent_line));
     lines
 }
 
@@ -106,13 +109,14 @@ fn remarks(load: &Load, boards: &Boards, rehearsal: &Rehearsal) -> Vec<String> {
     lines
 }
 
-fn registers(boards: &Boards, rehearsal: &Rehearsal) -> Vec<String> {
-    let masters = rehearsal.senders.iter().zip(&rehearsal.run.modules).zip(rehearsal.run.cleared);
+fn registers(load: &Load, boards: &Boards, rehearsal: &Rehearsal) -> Vec<String> {
+    let columns = load.number_columns();
+    let masters = rehearsal.senders.iter().zip(&rehearsal.table).zip(rehearsal.run.cleared);
     let line = |label: String, registers: String, cleared: String| {
         format!("  {:<6} {label}  {registers}, cleared{cleared}", "regs")
     };
     let words = masters.map(|(((board, _), module), cleared)| {
-        line(boards.label(board.number), spelt(module), flags(cleared))
+        line(boards.label(board.number, columns), spelt(module), flags(cleared))
     });
     words.collect()
 }

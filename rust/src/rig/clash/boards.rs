@@ -1,9 +1,8 @@
 //! The boards of a file: named by its `boards` line, or numbered by the rows of each load.
 
+use crate::arbitration::MASTERS;
 use crate::rig::text::{expected, quoted, short_byte};
 
-/// The most boards of a file.
-pub const BOARDS: usize = 8;
 const NAME_BYTES: usize = 16;
 
 #[derive(Clone, PartialEq, Eq, Debug)]
@@ -17,8 +16,8 @@ impl Boards {
     pub fn named(line: usize, words: &[&str]) -> Result<Boards, String> {
         let mut names: Vec<String> = Vec::new();
         for word in words {
-            if names.len() == BOARDS {
-                return Err(format!("more than {BOARDS} boards"));
+            if names.len() == MASTERS {
+                return Err(format!("more than {MASTERS} boards"));
             }
             check_name(word)?;
             if names.iter().any(|name| name == word) {
@@ -27,7 +26,7 @@ impl Boards {
             names.push(word.to_string());
         }
         if names.is_empty() {
-            return Err(expected("boards and 1 to 8 names", None));
+            return Err(expected(&format!("boards and 1 to {MASTERS} names"), None));
         }
         Ok(Boards::Named { line, names })
     }
@@ -68,12 +67,12 @@ impl Boards {
         self.names().get(number).cloned().unwrap_or_else(|| format!("board {number}"))
     }
 
-    /// As a block shows a board: number and name, padded to the longest name.
-    pub fn label(&self, number: usize) -> String {
+    /// As a line of a block shows a board: its number in so many columns, and its name, padded to the longest.
+    pub fn label(&self, number: usize, columns: usize) -> String {
         let longest = self.names().iter().map(|name| name.chars().count()).max().unwrap_or(0);
         match self.names().get(number) {
-            Some(name) => format!("{number} {name:<longest$}"),
-            None => number.to_string(),
+            Some(name) => format!("{number:>columns$} {name:<longest$}"),
+            None => format!("{number:>columns$}"),
         }
     }
 }

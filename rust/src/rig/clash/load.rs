@@ -130,6 +130,15 @@ impl Load {
         (0..boards.names().len()).filter(|number| !has_line(number)).collect()
     }
 
+    /// How many columns the number of a board takes in its line of the block: all numbers of a load alike.
+    pub fn number_columns(&self) -> usize {
+        if self.boards.len() > 10 {
+            2
+        } else {
+            1
+        }
+    }
+
     /// The boards that send, in the order of their numbers, each with its message.
     pub fn senders(&self) -> Vec<(&Board, &[u8])> {
         let mut senders: Vec<_> =

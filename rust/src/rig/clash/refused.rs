@@ -3,6 +3,7 @@
 use super::boards::Boards;
 use super::load::{Board, Load};
 use super::rehearsal::acknowledges;
+use crate::arbitration::{MASTERS, MESSAGE_BYTES};
 use crate::refusal::{Reason, Refusal};
 use crate::rig::text::{counted, hex};
 
@@ -39,7 +40,10 @@ fn no_or_many(boards: &Boards, count: usize) -> Words {
     match count {
         0 if boards.are_named() => pair("every board is silent", "every board is silent"),
         0 => pair("no board", "no board"),
-        _ => pair(format!("{count} boards, and at most 8 may start together"), format!("{count} boards")),
+        _ => pair(
+            format!("{count} boards, and at most {MASTERS} may start together"),
+            format!("{count} boards"),
+        ),
     }
 }
 
@@ -48,7 +52,7 @@ fn length(boards: &Boards, (board, message): (&Board, &[u8])) -> Words {
     match message.len() {
         0 => pair(format!("{placed} has no bytes"), format!("{called} has no bytes")),
         many => pair(
-            format!("{placed} has {many} bytes, and at most 32 may be sent"),
+            format!("{placed} has {many} bytes, and at most {MESSAGE_BYTES} may be sent"),
             format!("{called} has {many} bytes"),
         ),
     }

@@ -1,12 +1,10 @@
 //! The rehearsal of a load, and its verdict.
 
 use super::load::{Board, Load};
-use crate::arbitration::{arbitrate, Run, MESSAGE_BYTES};
+use crate::arbitration::{arbitrate, Run, LEVELS, MASTERS, MESSAGE_BYTES};
+use crate::module::Module;
 use crate::refusal::Refusal;
 use crate::rig::arguments::Options;
-
-/// The levels of the longest arbitration.
-const LEVELS: usize = 5 + 18 * MESSAGE_BYTES;
 
 /// What became of the message that won.
 #[derive(Clone, Copy, PartialEq, Eq, Debug)]
@@ -25,6 +23,8 @@ pub struct Rehearsal<'a> {
     pub senders: Vec<(&'a Board, &'a [u8])>,
     pub acks: Vec<u8>,
     pub run: Run,
+    /// The final modules, from that of the first sender on.
+    pub table: [Module; MASTERS],
     pub verdict: Verdict,
     pub as_expected: bool,
 }
@@ -48,9 +48,10 @@ impl<'a> Result<'a> {
         let acks = acknowledges(load);
         let bytes: Vec<u8> = senders.iter().flat_map(|(_, message)| message.to_vec()).collect();
         let lengths: Vec<u32> = senders.iter().map(|(_, message)| message.len() as u32).collect();
-        let mut levels = vec![0; options.room(LEVELS)];
-        match arbitrate(&bytes, &lengths, &acks, &mut [0; MESSAGE_BYTES], &mut levels) {
-            Ok(run) => Result::Rehearsed(Box::new(Rehearsal::new(load, senders, acks, run))),
+        let (mut carried, mut levels) = ([0; MESSAGE_BYTES], vec![0; options.room(LEVELS)]);
+        let mut table = [Module::power_up(0, 0); MASTERS];
+        match arbitrate(&bytes, &lengths, &acks, &mut carried, &mut levels, &mut table) {
+            Ok(run) => Result::Rehearsed(Box::new(Rehearsal::new(load, senders, acks, run, table))),
             Err(refusal) => Result::Refused(refusal),
         }
     }
@@ -72,8 +73,14 @@ pub fn acknowledges(load: &Load) -> Vec<u8> {
 }
 
 impl<'a> Rehearsal<'a> {
-    fn new(load: &Load, senders: Vec<(&'a Board, &'a [u8])>, acks: Vec<u8>, run: Run) -> Rehearsal<'a> {
-        let mut rehearsal = Rehearsal { senders, acks, run, verdict: Verdict::Cut, as_expected: true };
+    fn new(
+        load: &Load,
+        senders: Vec<(&'a Board, &'a [u8])>,
+        acks: Vec<u8>,
+        run: Run,
+        table: [Module; MASTERS],
+    ) -> Rehearsal<'a> {
+        let mut rehearsal = Rehearsal { senders, acks, run, table, verdict: Verdict::Cut, as_expected: true };
         rehearsal.verdict = rehearsal.judged();
         rehearsal.as_expected = rehearsal.meets(load);
         rehearsal

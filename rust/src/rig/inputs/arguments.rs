@@ -1,6 +1,7 @@
 //! Arguments: the right ones for a file, and any command line.
 
 use super::Source;
+use crate::arbitration::LEVELS;
 use crate::random::Random;
 
 /// The command with its file and options in any order that `rig` takes.
@@ -81,8 +82,11 @@ pub fn correct(random: &mut Random, arguments: &mut Vec<Vec<u8>>, file: &[u8], t
 
 /// Rooms about what is needed, and about the most that is lent.
 fn room(random: &mut Random, command: &str) -> String {
+    if command == "clash" && random.once_in(3) {
+        return (LEVELS + 1 - random.below(3)).to_string();
+    }
     let rooms: &[&str] = match command {
-        "clash" => &["0", "22", "23", "41", "59", "580", "581", "582", "99999999999999999999"],
+        "clash" => &["0", "22", "23", "41", "59", "99999999999999999999"],
         "decode" => &["0", "1", "2", "3", "5", "8", "13", "4096", "4097", "99999999999999999999"],
         _ => &["0", "1", "22", "23", "40", "77", "0100", "4095", "4096", "4097", "99999999999999999999"],
     };

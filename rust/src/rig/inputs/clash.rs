@@ -1,7 +1,7 @@
 //! Files for `rig clash`, with named boards mostly; `numbered` has the old form.
 
 use super::page::Page;
-use crate::arbitration::MASTERS;
+use crate::arbitration::{MASTERS, MESSAGE_BYTES};
 use crate::compare::arbitration::draw_request;
 use crate::random::Random;
 
@@ -104,7 +104,7 @@ fn spoil_messages(random: &mut Random, messages: &mut [Option<Vec<u8>>]) {
     match random.below(6) {
         0 => messages.fill(None),
         1 => messages[board] = Some(Vec::new()),
-        2 => messages[board] = Some(vec![0x5A; random.pick(&[32, 33, 40, 300, 1000])]),
+        2 => messages[board] = Some(vec![0x5A; long(random)]),
         3 => messages[board] = Some(vec![random.byte() | 1]),
         4 => messages[board] = messages[random.below(messages.len())].clone(),
         _ => {
@@ -112,6 +112,11 @@ fn spoil_messages(random: &mut Random, messages: &mut [Option<Vec<u8>>]) {
             messages[random.below(messages.len())] = first;
         }
     }
+}
+
+/// About the most bytes of a message, or many more.
+fn long(random: &mut Random) -> usize {
+    random.pick(&[MESSAGE_BYTES - 1, MESSAGE_BYTES, MESSAGE_BYTES + 1, 300, 1000])
 }
 
 /// What the least message and the acknowledges make likely, or something else.

@@ -2,6 +2,7 @@
 
 use super::damage;
 use super::page::Page;
+use crate::arbitration::{MASTERS, MESSAGE_BYTES};
 use crate::random::Random;
 use crate::rig::text::text_of;
 
@@ -29,7 +30,7 @@ fn after(text: &str, first: &str, most: usize) -> Vec<String> {
 /// Up to four loads of the file, now and then many, or one that the file does not have.
 fn text(random: &mut Random, input: &[u8]) -> Vec<u8> {
     let input = text_of(input);
-    let (mut loads, mut boards) = (after(&input, "load", 1), after(&input, "boards", 8));
+    let (mut loads, mut boards) = (after(&input, "load", 1), after(&input, "boards", MASTERS));
     loads.dedup();
     boards.dedup();
     let spoiling = random.pick(&[2, 10, 1000, 1000]);
@@ -91,10 +92,10 @@ fn board(page: &mut Page, name: &str, spoiling: usize) {
         words.push("-".to_string());
         return page.line(&words);
     }
-    let most = page.random.pick(&[2, 4, 8, 32]);
+    let most = page.random.pick(&[2, 4, 8, MESSAGE_BYTES]);
     let mut length = page.random.between(1, most);
     if page.random.once_in(16 * spoiling) {
-        length = page.random.pick(&[0, 32, 33, 40, 300]);
+        length = page.random.pick(&[0, MESSAGE_BYTES - 1, MESSAGE_BYTES, MESSAGE_BYTES + 1, 300]);
     }
     for index in 0..length {
         let odd = index == 0 && page.random.once_in(8 * spoiling);

@@ -1,15 +1,35 @@
 //! The lines of a file with named boards, each right or, once in a while, wrong.
 
-use crate::arbitration::MASTERS;
+use crate::arbitration::{MASTERS, MESSAGE_BYTES};
 use crate::random::Random;
 use crate::rig::inputs::page::Page;
 
-/// One to eight different names.
+/// Different names, one for each of the most boards.
+const NAMES: [&str; MASTERS] = [
+    "power",
+    "thermal",
+    "attitude",
+    "radio",
+    "memory",
+    "a-name-of-16-byt",
+    "clock",
+    "m\u{e9}mo",
+    "payload",
+    "mission",
+    "beacon",
+    "star",
+    "wheel",
+    "gyro",
+    "sun-sensor",
+    "B9z",
+];
+
+/// Some of them, or all.
 pub fn draw_names(random: &mut Random) -> Vec<String> {
-    let all = ["power", "thermal", "attitude", "radio", "memory", "a-name-of-16-byt", "clock", "m\u{e9}mo"];
-    let count = random.between(1, MASTERS);
+    let most = random.pick(&[4, 8, MASTERS]);
+    let count = if random.once_in(8) { MASTERS } else { random.between(1, most) };
     let from = random.below(MASTERS);
-    (0..count).map(|index| all[(from + index) % MASTERS].to_string()).collect()
+    (0..count).map(|index| NAMES[(from + index) % MASTERS].to_string()).collect()
 }
 
 pub fn boards(page: &mut Page, names: &[String], spoiling: usize) {
@@ -19,6 +39,9 @@ pub fn boards(page: &mut Page, names: &[String], spoiling: usize) {
         let place = page.random.between(1, words.len());
         let wrong = ["ad", "f", "7up", "-", "a-name-of-17-byte", "\u{e9}", "power", "memory", "x", "Z9~"];
         words.insert(place, page.random.pick(&wrong).to_string());
+    }
+    if names.len() == MASTERS && page.random.once_in(4 * spoiling) {
+        words.push("one-more".to_string());
     }
     if page.random.once_in(24 * spoiling) {
         words.truncate(1);
@@ -88,7 +111,7 @@ pub fn acks(random: &mut Random, acks: &[u8], spoiling: usize) -> Option<Vec<Str
         match random.below(5) {
             0 => drop(words.pop()),
             1 => words.push("0".to_string()),
-            2 => words.resize(random.pick(&[0, 33, 1000, 2040]), "1".to_string()),
+            2 => words.resize(random.pick(&[0, MESSAGE_BYTES + 1, 1000, 2040]), "1".to_string()),
             _ => {
                 let wrong = ["2", "255", "00", "01", "256", "18446744073709551616", "x", "-1", "A", "all"];
                 let place = random.below(words.len() + 1);

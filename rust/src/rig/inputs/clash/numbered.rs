@@ -1,5 +1,7 @@
 //! Files of the old form, whose boards are numbered by their rows.
 
+use super::long;
+use crate::arbitration::{MASTERS, MESSAGE_BYTES};
 use crate::compare::arbitration::draw_request;
 use crate::random::Random;
 use crate::rig::inputs::page::Page;
@@ -86,9 +88,9 @@ fn spoil_boards(random: &mut Random, boards: &mut Vec<Vec<u8>>) {
         let board = random.below(boards.len());
         match random.below(6) {
             0 => boards.clear(),
-            1 => boards.resize(random.pick(&[8, 9, 10, 100]), vec![0x90]),
+            1 => boards.resize(random.pick(&[MASTERS - 1, MASTERS, MASTERS + 1, 100]), vec![0x90]),
             2 => boards[board].clear(),
-            3 => boards[board].resize(random.pick(&[32, 33, 40, 300, 1000]), 0x5A),
+            3 => boards[board].resize(long(random), 0x5A),
             4 => boards[board] = vec![random.byte() | 1],
             _ => boards.push(boards[board].clone()),
         }
@@ -101,7 +103,7 @@ fn spoilt_acks(random: &mut Random, count: usize) -> Vec<String> {
     match random.below(5) {
         0 => drop(acks.pop()),
         1 => acks.push("0".to_string()),
-        2 => acks.resize(random.pick(&[0, 33, 1000, 2040]), "1".to_string()),
+        2 => acks.resize(random.pick(&[0, MESSAGE_BYTES + 1, 1000, 2040]), "1".to_string()),
         _ => {
             let wrong = random.pick(&["2", "255", "00", "01", "256", "18446744073709551616", "x", "-1", "A"]);
             acks[random.below(count)] = wrong.to_string();
