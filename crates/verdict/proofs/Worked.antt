@@ -2,6 +2,7 @@
 use Prim.Native.Nat.{ℕ}
 use mathlib.Core.Path.{_≡_, refl}
 use mathlib.Core.List.{List, [], _∷_, zipWith}
+use Rattle.laws.specs.Same.{same}
 use Rattle.usi_registers.specs.Rules.{countFlags}
 use Rattle.usi_i2c.specs.Rules.{conditionFlags, conditionCount, lossControl, lossFlags, endFlags, phaseAfter}
 use Rattle.usi.specs.Step.{followed, settled, writeByte, edged, fallen, risen, sample, tick}
@@ -21,7 +22,7 @@ verdict bytes lengths acknowledges =
 
 -- all that it is made of unfolds with this
 unfoldable computed : List ℕ → List ℕ → List ℕ → Verdict
-unfolding countFlags conditionFlags conditionCount lossControl lossFlags endFlags phaseAfter followed settled writeByte
+unfolding same countFlags conditionFlags conditionCount lossControl lossFlags endFlags phaseAfter followed settled writeByte
     edged fallen risen sample tick zipWith applied judged undecided refusal refused answered wire performed
     through run clearedAt clearedIn clearedBy arbitrated ended verdictOf
 computed bytes lengths acknowledges = verdict bytes lengths acknowledges

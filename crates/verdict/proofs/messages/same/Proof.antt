@@ -4,6 +4,7 @@ use Prim.Native.Nat.{_-_}
 use mathlib.Core.Path.{refl}
 use lib.ListN.{length}
 use borrow.Author.Tests.{eq-eqb, ne-eqb}
+use Rattle.laws.specs.Same.{same as sameOf}
 use Rattle.laws.proofs.Same.{unequal-lengths}
 use Rattle.verdict.proofs.Compared.{Alike}
 use Rattle.verdict.proofs.Pairs.{through-start, through-more, through-fails, through-both}
@@ -55,6 +56,7 @@ loop-again c =
     (omega (arith, c .before .before .before .before .before .if1 .left, less)) (eq-eqb _ _ (c .if2 .left))
 
 returns-3 : tie.Need-returns-3 Inv-loop μ-loop
+unfolding sameOf
 returns-3 c =
     let a = c .before .before .before .args in
     through-both _ _ _ (a .message .now) (a .other .now) (c .before .loop .i) (c .before .loop .inv) refl
