@@ -573,9 +573,9 @@ dumps_read() {
     (printf '%60001s' '' && cat drawn.vcd) >in && expect 2 "error line 1: longer than 4096 bytes" decode - && alone
     (yes '' | head -n 60001 && cat drawn.vcd) >in && expect 2 "error line 60002: $lines" decode - && alone
     (echo && sleep 0.2 && head -c 1 drawn.vcd && sleep 0.2 && tail -c +2 drawn.vcd) | "$rig" decode - >out 2>err
-    holds '[ $? = 0 ] && [ "$(tail -n 1 out)" = "ok 3 events in 23 samples, no frame open, 0 bits pending" ]' "a dump in pieces: $(cat out)"
+    holds "[ $? = 0 ] && grep -qx 'ok 3 events in 23 samples, no frame open, 0 bits pending' out" "a dump in pieces: $(cat out)"
     (echo 5 3 && sleep 0.2 && echo 6 3) | "$rig" decode - >out 2>err
-    holds '[ $? = 3 ] && [ "$(grep -c "^start 5$" out)" = 1 ]' "a trace in pieces: $(cat out)"
+    holds "[ $? = 3 ] && grep -qx 'start 5' out" "a trace in pieces: $(cat out)"
     (echo '# a dump' && cat drawn.vcd) >in && expect 2 "error line 2: $lines" decode - && alone
     "$rig" dump drawn.vcd >out 2>err
     holds "[ $? = 2 ] && [ ! -s out ]" "a dump of a dump: $(cat out err)"

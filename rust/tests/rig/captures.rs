@@ -167,16 +167,20 @@ fn the_limits() {
 #[test]
 fn a_dump_is_known_by_its_first_byte_that_is_no_blank() {
     let whole = rig("decode -", CASE);
-    for front in ["\n", " \t\r\n", &"\n".repeat(4095), &" ".repeat(4095)] {
+    for front in ["\n", " \t\r\n", &"\n".repeat(4096), &" ".repeat(50_000)] {
         assert_eq!(rig("decode -", format!("{front}{CASE}")), whole);
     }
     let looks = "this looks like a Value Change Dump: did you mean rig decode?";
     let expected = |line: usize, word: &str| {
         format!("line {line}: expected STAMP LEVEL, two decimal numbers, not '{word}'; {looks}")
     };
-    let late = format!("{}{CASE}", "\n".repeat(4096));
-    check_errors("decode -", &[(&late, &expected(4097, "$timescale"))]);
-    check_errors("decode -", &[(&format!("{}$x", " ".repeat(4096)), "line 1: longer than 4096 bytes")]);
+    refused(
+        &format!("{}{CASE}", "\n".repeat(60_000)),
+        "26: the text is longer than 60000 bytes; dump a shorter time",
+    );
+    let late = format!("{}{CASE}", "\n".repeat(60_001));
+    check_errors("decode -", &[(&late, &expected(60_002, "$timescale"))]);
+    check_errors("decode -", &[(&format!("{}$x", " ".repeat(60_001)), "line 1: longer than 4096 bytes")]);
     check_errors("decode -", &[("# a dump\n$date", &expected(2, "$date"))]);
     check_errors("decode -", &[("ok\n0 3\n$", &expected(3, "$"))]);
     check_errors("decode -", &[("0 3\n$x y z", &expected(2, "$x"))]);

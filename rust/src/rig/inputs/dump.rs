@@ -35,7 +35,9 @@ pub fn text(random: &mut Random) -> Vec<u8> {
 fn front(random: &mut Random) -> Vec<u8> {
     match random.below(24) {
         0..=1 => (0..random.below(20)).map(|_| random.pick(b" \t\r\n")).collect(),
-        2 => vec![random.pick(b"\n\n\n \t\r"); random.pick(&[4094, 4095, 4096, 4097, 59_999, 60_000, 60_001])],
+        2 => {
+            vec![random.pick(b"\n\n\n \t\r"); random.pick(&[4094, 4095, 4096, 4097, 59_999, 60_000, 60_001])]
+        }
         3 => random.pick(&["# a dump\n", "5 3\n", "ok 1 sample\n", "\u{feff}", "\u{b}", "x", "#0\n"]).into(),
         _ => Vec::new(),
     }
