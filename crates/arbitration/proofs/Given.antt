@@ -15,7 +15,7 @@ use Rattle.laws.proofs.Bools.{neither}
 use Rattle.laws.proofs.Refusals.{Passed, passed, in-parts}
 use Rattle.arbitration_rules.specs.Limits.{maxMasters, maxLength}
 use Rattle.arbitration_rules.specs.Outcome.{least, carriedCount, levelCount}
-use Rattle.arbitration_rules.specs.Reply.{messagesOf, badLength, total, messageChecks, shortSlice, refusal}
+use Rattle.arbitration_rules.specs.Reply.{messagesOf, badLength, total, messageChecks, shortBuffer, shortSlice, refusal}
 use Rattle.arbitration_rules.specs.Run.{run}
 use Rattle.arbitration_rules.proofs.Carry.{Bytes}
 use Rattle.arbitration_rules.proofs.Carried.{carried-within}
@@ -155,13 +155,12 @@ module _ (bytes lengths acknowledges : List ℕ) (tableRoom carriedRoom levelRoo
       × (length (run (messagesOf lengths bytes) acknowledges .levels) ≤ levelRoom))
   enough-room enough =
       let bus = run (messagesOf lengths bytes) acknowledges in
-      let carrying = ltb carriedRoom (length (bus .carried)) in
-      let one = neither (ltb tableRoom (length lengths) || carrying) (ltb levelRoom (length (bus .levels))) enough in
-      let two = neither (ltb tableRoom (length lengths)) carrying (one .0) in (
-        ltb-false tableRoom (length lengths) (two .0),
+      let one = neither (shortBuffer bus carriedRoom levelRoom) (ltb tableRoom (length lengths)) enough in
+      let two = neither (ltb carriedRoom (length (bus .carried))) (ltb levelRoom (length (bus .levels))) (one .0) in (
+        ltb-false tableRoom (length lengths) (one .1),
         (
-          ltb-false carriedRoom (length (bus .carried)) (two .1),
-          ltb-false levelRoom (length (bus .levels)) (one .1),
+          ltb-false carriedRoom (length (bus .carried)) (two .0),
+          ltb-false levelRoom (length (bus .levels)) (two .1),
         ),
       )
 

@@ -85,7 +85,7 @@ pub record Arbitrates (bytes lengths acknowledges : List ℕ) (entry exit : Lent
 -- a lent slice is too short for so many masters and bytes
 abbrev pub Short : ℕ → ℕ → ℕ → ℕ → ℕ → Bool
 Short masters count tableRoom carriedRoom levelRoom =
-    ltb tableRoom masters || ltb carriedRoom count || ltb levelRoom (levelCount count)
+    ltb carriedRoom count || ltb levelRoom (levelCount count) || ltb tableRoom masters
 
 -- a sequencer that makes no turn
 abbrev pub stopped : Sequencer → Sequencer

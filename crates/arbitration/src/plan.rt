@@ -17,13 +17,13 @@ pub(crate) struct Plan {
     pub(crate) first: Sequencer,
 }
 
-// Whether a lent slice is too short (8): the table for so many masters, a buffer for so many bytes carried, which are
-// recorded in 5 + 18 levels for each.
+// Whether a lent slice is too short (8): a buffer for so many bytes carried, which are recorded in 5 + 18 levels for
+// each, or the table for so many masters.
 fn short(masters: usize, count: usize, table: usize, carried: usize, levels: usize) -> bool
     requires { ⌜ count ≤ maxLength ⌝ }
     ensures { λ r. ⌜ r ≡ Short masters count table carried levels ⌝ }
 {
-    (table < masters) | (carried < count) | (levels < 5 + 18 * count)
+    (carried < count) | (levels < 5 + 18 * count) | (table < masters)
 }
 
 // The first refusal that applies, or none.
@@ -38,9 +38,9 @@ fn refusal(
     ensures { λ r. ⌜ r ≡ applies (now (bytes .entry)) (now (lengths .entry)) (now (acks .entry)) table carried levels ⌝ }
 {
     let settled = arbitration_checks::settle(bytes, lengths, acks);
-    let found = settled.refusal;
-    if found.number != 0 {
-        return found;
+    let stopped = settled.refusal;
+    if stopped.number != 0 {
+        return stopped;
     }
     if short(lengths.len(), settled.count, table, carried, levels) {
         return Refusal {

@@ -66,13 +66,15 @@ messageChecks bytes lengths acknowledges =
     ∷ check 16 (undecided (messagesOf lengths bytes) acknowledges)
     ∷ []
 
--- 8: a lent slice is shorter than the reply needs: a table with an entry for each message, what the run carries, and
--- what it records.
+-- 8: a lent slice is shorter than the reply needs: a buffer than what the run carries, or records; or a table that has no
+-- entry for each message.
+abbrev pub shortBuffer : Bus → ℕ → ℕ → Bool
+shortBuffer bus carriedRoom levelRoom =
+    ltb carriedRoom (length (bus .carried)) || ltb levelRoom (length (bus .levels))
+
 abbrev pub shortSlice : List ℕ → Bus → ℕ → ℕ → ℕ → Bool
 shortSlice lengths bus tableRoom carriedRoom levelRoom =
-    ltb tableRoom (length lengths)
-    || ltb carriedRoom (length (bus .carried))
-    || ltb levelRoom (length (bus .levels))
+    shortBuffer bus carriedRoom levelRoom || ltb tableRoom (length lengths)
 
 -- The first of them that applies, in the order 12, 13, 14, 15, 16, 8.
 unfoldable pub refusal : List ℕ → List ℕ → List ℕ → ℕ → ℕ → ℕ → Refusal

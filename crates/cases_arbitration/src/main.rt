@@ -13,7 +13,7 @@ use text::after_word;
 use text::first_word;
 
 // Room for the digits, the bytes and the messages of a line, and for both buffers.
-const ROOM: usize = 1024;
+const ROOM: usize = 2048;
 
 // What both buffers hold before a run.
 const UNTOUCHED: u8 = 0xee;

@@ -1,5 +1,6 @@
 // The lines that answer a command.
 use arbitration::Arbitrated;
+use arbitration::Rehearsed;
 use arbitration_rules::MAX_MASTERS;
 use arbitration_rules::Seat;
 use libc::STDOUT_FILENO;
@@ -41,10 +42,13 @@ fn master(i: usize, device: Usi, seat: Seat) {
     line(b"");
 }
 
-fn masters(modules: [Usi; MAX_MASTERS], seats: [Seat; MAX_MASTERS]) {
+// The masters that have a message.
+fn masters(modules: [Usi; MAX_MASTERS], seats: [Seat; MAX_MASTERS], count: usize) {
     let mut i = 0;
     while i < MAX_MASTERS {
-        master(i, modules[i], seats[i]);
+        if i < count {
+            master(i, modules[i], seats[i]);
+        }
         i += 1;
     }
 }
@@ -63,14 +67,24 @@ fn mask(seats: [Seat; MAX_MASTERS]) -> u64 {
 
 fn reply(answer: Arbitrated) {
     let refusal = answer.refusal;
-    let modules = answer.modules;
     let seats = answer.seats;
     labelled(b"refused ", refusal.number as u64);
     labelled(b" place ", refusal.place as u64);
     labelled(b" k ", answer.count as u64);
     labelled(b" in ", mask(seats));
     line(b"");
-    masters(modules, seats);
+}
+
+// The reply, and after a run the masters.
+fn replied(done: Rehearsed, count: usize) {
+    let answer = done.reply;
+    let refusal = answer.refusal;
+    reply(answer);
+    if refusal.number == 0 {
+        let modules = done.modules;
+        let seats = answer.seats;
+        masters(modules, seats, count);
+    }
 }
 
 fn hex_byte(b: u8) {
@@ -110,7 +124,8 @@ pub fn arbitration(
     carried: &mut [u8],
     levels: &mut [u8],
 ) {
-    reply(arbitration::arbitrate(bytes, lengths, acks, carried, levels));
+    let done = arbitration::rehearse(bytes, lengths, acks, carried, levels);
+    replied(done, lengths.len());
     buffer(b"  carried ", carried, Entries::Bytes);
     buffer(b"  levels ", levels, Entries::Levels);
 }

@@ -7,8 +7,9 @@ use mathlib.Core.List.{List, [], _∷_, _++_, map, zipWith}
 use mathlib.Core.Option.{Option, none, some}
 use mir.Val.{boolByte}
 use lib.Dec.{eqb, ltb}
-use lib.ListN.{length, take, drop, replicate, length-append, length-replicate}
-use borrow.Author.Tests.{eq-eqb, ne-eqb, eqb-true, eqb-false, ltb-false}
+use lib.ListN.{length, take, drop, replicate, length-map}
+use lib.Seq.{take-append-seam, take-at}
+use borrow.Author.Tests.{eq-eqb, ne-eqb, eqb-true, eqb-false, ltb-false, le-ltb}
 use Rattle.laws.specs.declared.Refusal.{Refusal}
 use Rattle.laws.specs.Buffer.{filled}
 use Rattle.laws.specs.Refusals as refusals
@@ -17,7 +18,7 @@ use Rattle.laws.specs.Search.{first}
 use Rattle.laws.specs.Everyone.{Everyone, nobody, also}
 use Rattle.laws.proofs.Bools.{neither}
 use Rattle.laws.proofs.Refusals.{Placed, placed, Below, number-below, in-parts}
-use Rattle.laws.proofs.Lists.{everyone, everyone-map, everyone-append}
+use Rattle.laws.proofs.Lists.{everyone, everyone-map, zipWith-length}
 use Rattle.laws.proofs.Search.{first-within}
 use Rattle.bits.specs.Positions.{isSet}
 use Rattle.usi.specs.declared.Usi.{Usi}
@@ -28,19 +29,22 @@ use Rattle.arbitration_rules.specs.Final.{finalUsi, finalMaster}
 use Rattle.arbitration_rules.specs.Masters.{Master}
 use Rattle.arbitration_rules.specs.Outcome.{Fate, carriedOf, lossFrom, levelCount, outcome}
 use Rattle.arbitration_rules.specs.Reply.{messagesOf, badLength, reads, messageChecks, shortBuffer, refusal}
-use Rattle.arbitration_rules.specs.Reply.{padded, absent, seatOf, refused, answered, arbitrated, carriedAfter}
+use Rattle.arbitration_rules.specs.Reply.{absent, seatOf, refused, answered, arbitrated, tableAfter, carriedAfter}
 use Rattle.arbitration_rules.specs.Reply.{levelsAfter}
 use Rattle.arbitration_rules.specs.Run.{run}
 use Rattle.arbitration_rules.proofs.Accepted.{cut-count, message-numbered}
 use Rattle.arbitration_rules.proofs.Carry.{Bytes}
 use Rattle.arbitration_rules.proofs.ClearedFlags.{run-clears}
+use Rattle.arbitration_rules.proofs.Demand.{Arbitration}
 use Rattle.arbitration_checks.specs.Settled.{settled}
 use Rattle.arbitration_rules.proofs.FinalMasters.{final-masters}
 use Rattle.arbitration.proofs.Given.{arbitration, carried-length, few, count-small as most-carried}
+use Rattle.arbitration.proofs.Given.{applies-is as own-parts}
 use Rattle.usi.specs.Module.{powerUp}
 use Rattle.export.specs.Arbitration.{Lent, Returned, shortTables, busOf, clearedOf, refusalOf, packedReply, untouched, ran}
 use Rattle.export.specs.Arbitration.{returned, countIn, shownIn, fateIn, packedSeat}
 use Rattle.export.specs.Packed.{byteAt, packed}
+use Rattle.arbitration.specs.Shown as shows
 use Rattle.arbitration.specs.Shown.{shown, fateOf}
 
 -- the two clauses
@@ -57,7 +61,7 @@ module _ (lent : Lent) where
   short = shortBuffer (busOf lent) (length (lent .carried)) (length (lent .levels))
 
   abbrev pub shortTable : Bool
-  shortTable = shortTables (length (lent .modules)) (length (lent .seats))
+  shortTable = shortTables (length (lent .lengths)) (length (lent .modules)) (length (lent .seats))
 
   -- one of 12 to 16, or else 8
   applies-is : refusalOf lent ≡ orElse found (given (check 8 (short || shortTable) ∷ []))
@@ -168,26 +172,21 @@ fate-is u seat small few =
       rest-of (seat .contending) (seat .cleared) (seat .position) few,
     )
 
-fates-are : (n : ℕ) (modules : List Usi) (seats : List Seat) (others more : List ℕ) → Everyone Small modules
-    → Everyone Few seats → n ≤ length modules → n ≤ length seats
-    → take n (zipWith fateIn (map packed modules ++ others) (map packedSeat seats ++ more))
-    ≡ take n (zipWith fateOf modules seats)
+fates-are : (modules : List Usi) (seats others : List Seat) (more most : List ℕ) → Everyone Small modules
+    → Everyone Few seats → length modules ≡ length seats
+    → take (length modules) (zipWith fateIn (map packed modules ++ more) (map packedSeat seats ++ most))
+    ≡ zipWith fateOf modules (seats ++ others)
 unfolding zipWith
-fates-are zero modules seats others more small few within within-seats = refl
-fates-are (suc n) [] seats others more small few within within-seats = absurd (omega arith)
-fates-are (suc n) (u ∷ modules) [] others more small few within within-seats = absurd (omega arith)
-fates-are (suc n) (u ∷ modules) (seat ∷ seats) others more (also first rest) (also few fews) within within-seats =
+fates-are [] seats others more most small few same = refl
+fates-are (u ∷ modules) [] others more most small few same = absurd (omega (arith, same))
+fates-are (u ∷ modules) (seat ∷ seats) others more most (also first rest) (also few fews) same =
     ap₂ (λ (one : Fate) (fates : List Fate). one ∷ fates) (fate-is u seat first few)
-    (fates-are n modules seats others more rest fews (omega arith) (omega arith))
+    (fates-are modules seats others more most rest fews (omega (arith, same)))
 
 -- the modules at the end of a run
 final-small : (carried message : List ℕ) (loss : Option ℕ) → Small (finalUsi carried message loss)
 final-small carried message none = (omega arith, omega arith)
 final-small carried message (some position) = (omega arith, omega arith)
-
-all-small : (count : ℕ) (u : Usi) → Small u → Everyone Small (replicate count u)
-all-small zero u small = nobody
-all-small (suc count) u small = also small (all-small count u small)
 
 few-seats : (flags : List ℕ) (masters : List Master) → Everyone (λ (n : ℕ). n < 16) flags
     → Everyone Few (zipWith seatOf flags masters)
@@ -195,10 +194,6 @@ unfolding zipWith
 few-seats [] masters small = nobody
 few-seats (flag ∷ flags) [] small = nobody
 few-seats (flag ∷ flags) (master ∷ masters) (also here rest) = also here (few-seats flags masters rest)
-
-all-few : (count : ℕ) → Everyone Few (replicate count absent)
-all-few zero = nobody
-all-few (suc count) = also {a = absent} (omega arith) (all-few count)
 
 module _ (lent : Lent) (small : Bytes (lent .bytes)) (passes : found lent .number ≡ 0) (enough : short lent ≡ false)
     (roomy : shortTable lent ≡ false) where
@@ -211,30 +206,51 @@ module _ (lent : Lent) (small : Bytes (lent .bytes)) (passes : found lent .numbe
   abbrev reply : Arbitrated
   reply = answered (clearedOf lent) (busOf lent)
 
+  -- the modules and the seats of the masters
+  abbrev pub modules : List Usi
+  modules = map (λ (m : Master). m .usi) (busOf lent .masters)
+
+  abbrev pub seats : List Seat
+  seats = zipWith seatOf (clearedOf lent) (busOf lent .masters)
+
+  given-so : Arbitration messages (lent .acks)
+  given-so = arbitration (lent .bytes) (lent .lengths) (lent .acks) small passes
+
   -- the flags cleared are few enough for their bits
-  seats-few : Everyone Few (reply .seats)
-  unfolding answered
+  seats-few : Everyone Few seats
   seats-few =
-      let given-so = arbitration (lent .bytes) (lent .lengths) (lent .acks) small passes in
-      everyone-append
-      (subst (λ (flags : List ℕ). Everyone Few (zipWith seatOf flags (busOf lent .masters)))
+      subst (λ (flags : List ℕ). Everyone Few (zipWith seatOf flags (busOf lent .masters)))
       (sym (run-clears messages (lent .acks) given-so))
       (few-seats (map (λ (message : List ℕ). 0x03) messages) (busOf lent .masters)
-      (everyone-map (λ (message : List ℕ). 0x03) (everyone (λ message. omega arith) messages))))
-      (all-few (maxMasters - length (zipWith seatOf (clearedOf lent) (busOf lent .masters))))
+      (everyone-map (λ (message : List ℕ). 0x03) (everyone (λ message. omega arith) messages)))
 
-  modules-small : Everyone Small (reply .modules)
-  unfolding answered
+  modules-small : Everyone Small modules
   modules-small =
-      let given-so = arbitration (lent .bytes) (lent .lengths) (lent .acks) small passes in
-      everyone-append
-      (everyone-map (λ (m : Master). m .usi)
+      everyone-map (λ (m : Master). m .usi)
       (subst (Everyone (λ (m : Master). Small (m .usi))) (sym (final-masters messages (lent .acks) given-so))
       (everyone-map (finalMaster (carriedOf messages (lent .acks)))
       (everyone (λ message. final-small (carriedOf messages (lent .acks)) message
-      (lossFrom 0 (carriedOf messages (lent .acks)) message)) messages))))
-      (all-small (maxMasters - length (map (λ (m : Master). m .usi) (busOf lent .masters))) (powerUp 0 0)
-      (omega arith, omega arith))
+      (lossFrom 0 (carriedOf messages (lent .acks)) message)) messages)))
+
+  -- there is one of each for each message
+  masters-many : length (busOf lent .masters) ≡ length (lent .lengths)
+  masters-many =
+      ap length (final-masters messages (lent .acks) given-so)
+      ∙ length-map messages (finalMaster (carriedOf messages (lent .acks)))
+      ∙ cut-count (lent .lengths) (lent .bytes)
+
+  pub modules-many : length modules ≡ length (lent .lengths)
+  modules-many = length-map (busOf lent .masters) (λ (m : Master). m .usi) ∙ masters-many
+
+  flags-many : length (clearedOf lent) ≡ length (lent .lengths)
+  flags-many =
+      ap length (run-clears messages (lent .acks) given-so)
+      ∙ length-map messages (λ (message : List ℕ). 0x03)
+      ∙ cut-count (lent .lengths) (lent .bytes)
+
+  pub seats-many : length seats ≡ length (lent .lengths)
+  seats-many =
+      omega (arith, zipWith-length seatOf (clearedOf lent) (busOf lent .masters), flags-many, masters-many)
 
   count-small : reply .count < 65536
   unfolding answered
@@ -245,26 +261,6 @@ module _ (lent : Lent) (small : Bytes (lent .bytes)) (passes : found lent .numbe
         most-carried (lent .bytes) (lent .lengths) (lent .acks) small passes,
       )
 
-  many : (length (lent .lengths) ≤ length (reply .modules)) × (length (lent .lengths) ≤ length (reply .seats))
-  many =
-      let most = few (lent .bytes) (lent .lengths) (lent .acks) small passes in
-      (omega (arith, most, modules-long), omega (arith, most, seats-long))
-    where
-      padded-long : {A : Type 0} (empty : A) (list : List A) → maxMasters ≤ length (padded empty list)
-      padded-long empty list =
-          omega (
-            arith,
-            length-append list (replicate (maxMasters - length list) empty),
-            length-replicate (maxMasters - length list) empty,
-          )
-
-      modules-long : maxMasters ≤ length (reply .modules)
-      modules-long =
-          unfold answered in padded-long (powerUp 0 0) (map (λ (m : Master). m .usi) (busOf lent .masters))
-
-      seats-long : maxMasters ≤ length (reply .seats)
-      seats-long = unfold answered in padded-long absent (zipWith seatOf (clearedOf lent) (busOf lent .masters))
-
   count-back : countIn (packedReply reply) ≡ reply .count
   count-back =
       let number : reply .refusal .number ≡ 0 = unfold answered in refl in
@@ -274,31 +270,58 @@ module _ (lent : Lent) (small : Bytes (lent .bytes)) (passes : found lent .numbe
   abbrev got : Returned
   got = ran (clearedOf lent) (busOf lent) lent
 
-  shown-is : shownIn (length (lent .lengths)) got ≡ shown (length (lent .lengths)) reply (got .carried) (got .levels)
-  unfolding shownIn shown
-  shown-is =
+  -- the slices that the library was lent, at the end
+  abbrev pub slices : List Usi → shows.Lent
+  slices rest = record { table = modules ++ rest; carried = got .carried; levels = got .levels }
+
+  shown-is : (rest : List Usi) → shownIn (length (lent .lengths)) got
+      ≡ shown (length (lent .lengths)) reply (slices rest)
+  unfolding shownIn shown answered
+  shown-is rest =
       rw (
         count-back,
-        fates-are (length (lent .lengths)) (reply .modules) (reply .seats) _ _ modules-small seats-few (many .0) (many .1),
+        ← modules-many,
+        take-append-seam modules rest,
+        fates-are modules seats (replicate (maxMasters - length seats) absent) _ _ modules-small seats-few
+            (modules-many ∙ sym seats-many),
       )
 
-  pub ran-clauses : shown (length (lent .lengths)) reply (got .carried) (got .levels) ≡ outcome messages (lent .acks)
-      → Clauses lent got
+  pub ran-clauses : (rest : List Usi)
+      → shown (length (lent .lengths)) reply (slices rest) ≡ outcome messages (lent .acks) → Clauses lent got
   unfolding returned
-  ran-clauses follows-so = record { returns = rw (unrefused); follows = λ zero-so. shown-is ∙ follows-so }
+  ran-clauses rest follows-so =
+      record { returns = rw (unrefused); follows = λ zero-so. shown-is rest ∙ follows-so }
 
--- what the library's arbitrate answers, where the tables are long enough
-module _ (lent : Lent) (roomy : shortTable lent ≡ false) where
+-- what the library answers over a table of its own, where the caller's tables are long enough
+module _ (lent : Lent) (small : Bytes (lent .bytes)) (roomy : shortTable lent ≡ false) where
   abbrev pub applies : Refusal
-  applies = refusal (lent .bytes) (lent .lengths) (lent .acks) (length (lent .carried)) (length (lent .levels))
+  applies =
+      refusal (lent .bytes) (lent .lengths) (lent .acks) maxMasters (length (lent .carried)) (length (lent .levels))
 
   abbrev pub libraryReply : Arbitrated
   libraryReply =
-      arbitrated (lent .bytes) (lent .lengths) (lent .acks) (length (lent .carried)) (length (lent .levels))
+      arbitrated (lent .bytes) (lent .lengths) (lent .acks) maxMasters (length (lent .carried)) (length (lent .levels))
+
+  -- its own table is long enough for as many masters as 12 lets pass
+  applies-in-parts : applies ≡ orElse (found lent) (given (check 8 (short lent) ∷ []))
+  applies-in-parts = parts ∙ go (eqb (found lent .number) 0) refl
+    where
+      parts : applies ≡ orElse (found lent) (given (check 8 (short lent || ltb maxMasters (length (lent .lengths))) ∷ []))
+      parts =
+          own-parts (lent .bytes) (lent .lengths) (lent .acks) maxMasters (length (lent .carried))
+          (length (lent .levels))
+
+      go : (passes : Bool) → eqb (found lent .number) 0 ≡ passes
+          → cond passes (given (check 8 (short lent || ltb maxMasters (length (lent .lengths))) ∷ [])) (found lent)
+          ≡ cond passes (given (check 8 (short lent) ∷ [])) (found lent)
+      go true is =
+          let passes = eqb-true (found lent .number) 0 is in
+          let within = few (lent .bytes) (lent .lengths) (lent .acks) small passes in
+          rw (le-ltb maxMasters (length (lent .lengths)) within, or-false)
+      go false is = refl
 
   applies-alike : refusalOf lent ≡ applies
-  unfolding refusalOf refusal
-  applies-alike = rw (roomy, or-false)
+  applies-alike = applies-is lent ∙ rw (roomy, or-false) (sym applies-in-parts)
 
   reply-by : (passing : Bool) → eqb (applies .number) 0 ≡ passing
       → libraryReply ≡ cond passing (answered (clearedOf lent) (busOf lent)) (refused applies)
@@ -324,12 +347,6 @@ module _ (lent : Lent) (roomy : shortTable lent ≡ false) where
       go false is =
           absurd (eqb-false (applies .number) 0 is
           (sym (ap (λ (r : Arbitrated). r .refusal .number) (reply-by false is)) ∙ none-so))
-
-  applies-in-parts : applies ≡ orElse (found lent) (given (check 8 (short lent) ∷ []))
-  unfolding refusal
-  applies-in-parts =
-      in-parts (messageChecks (lent .bytes) (lent .lengths) (lent .acks)) (check 8 (short lent) ∷ [])
-      (message-numbered (lent .bytes) (lent .lengths) (lent .acks))
 
   pub applies-small : (applies .place < 65536) × (applies .number < 256)
   applies-small = go (eqb (found lent .number) 0) (short lent) applies-in-parts
@@ -360,9 +377,15 @@ module _ (lent : Lent) (roomy : shortTable lent ≡ false) where
       let stopped = stops (rw same at refuses) in
       omega (arith, ap (λ (r : Arbitrated). r .refusal .place) (same ∙ stopped .1), applies-small .0)
 
-  pub answered-small : Bytes (lent .bytes) → (done : Arbitrated) → done ≡ libraryReply → done .refusal .number ≡ 0
+  pub masters-few : (done : Arbitrated) → done ≡ libraryReply → done .refusal .number ≡ 0
+      → length (lent .lengths) ≤ maxMasters
+  masters-few done same none-so =
+      let ran-so = runs (rw same at none-so) in
+      few (lent .bytes) (lent .lengths) (lent .acks) small (passing (ran-so .0) .0)
+
+  pub answered-small : (done : Arbitrated) → done ≡ libraryReply → done .refusal .number ≡ 0
       → (done .refusal .place < 65536) × (done .count < 65536)
-  answered-small small done same none-so =
+  answered-small done same none-so =
       let ran-so = runs (rw same at none-so) in
       let two = passing (ran-so .0) in
       let place : answered (clearedOf lent) (busOf lent) .refusal .place ≡ 0 = unfold answered in refl in (
@@ -399,26 +422,39 @@ module _ (lent : Lent) (roomy : shortTable lent ≡ false) where
       of-refused : refused applies .refusal ≡ applies
       of-refused = unfold refused in refl
 
-  pub answered-by-library : Bytes (lent .bytes) → (reply : Arbitrated) (answer : ℕ)
-      (exit levelsExit modules seats : List ℕ) → reply ≡ libraryReply → reply .refusal .number ≡ 0
-      → answer ≡ packedReply reply
-      → exit ≡ carriedAfter (lent .bytes) (lent .lengths) (lent .acks) (reply .refusal) (lent .carried)
-      → levelsExit ≡ levelsAfter (lent .bytes) (lent .lengths) (lent .acks) (reply .refusal) (lent .levels)
-      → modules ≡ filled (map packed (reply .modules)) (lent .modules)
-      → seats ≡ filled (map packedSeat (reply .seats)) (lent .seats)
-      → (reply .refusal .number ≡ 0 → shown (length (lent .lengths)) reply exit levelsExit
+  -- a run: what the library's table and buffers hold, and what of it is put into the tables
+  pub answered-by-library : (done : Arbitrated) (answer : ℕ) (table : List Usi) (exit levelsExit entries numbers : List ℕ)
+      → done ≡ libraryReply → done .refusal .number ≡ 0 → answer ≡ packedReply done
+      → table ≡ tableAfter (lent .bytes) (lent .lengths) (lent .acks) (done .refusal) (replicate maxMasters (powerUp 0 0))
+      → exit ≡ carriedAfter (lent .bytes) (lent .lengths) (lent .acks) (done .refusal) (lent .carried)
+      → levelsExit ≡ levelsAfter (lent .bytes) (lent .lengths) (lent .acks) (done .refusal) (lent .levels)
+      → entries ≡ filled (map packed (take (length (lent .lengths)) table)) (lent .modules)
+      → numbers ≡ filled (map packedSeat (take (length (lent .lengths)) (done .seats))) (lent .seats)
+      → (done .refusal .number ≡ 0
+      → shown (length (lent .lengths)) done (record { table = table; carried = exit; levels = levelsExit })
       ≡ outcome (messagesOf (lent .lengths) (lent .bytes)) (lent .acks))
       → Clauses lent
-      (record { answer = answer; carried = exit; levels = levelsExit; modules = modules; seats = seats })
-  unfolding carriedAfter levelsAfter
-  answered-by-library small done answer exit levelsExit modules seats same none-so is carried-is levels-are
-      modules-are seats-are follows-so =
+      (record { answer = answer; carried = exit; levels = levelsExit; modules = entries; seats = numbers })
+  unfolding tableAfter carriedAfter levelsAfter answered
+  answered-by-library done answer table exit levelsExit entries numbers same none-so is table-is carried-is levels-are
+      entries-are numbers-are follows-so =
       let ran-so = runs (rw same at none-so) in
       let its : done ≡ answered (clearedOf lent) (busOf lent) = same ∙ ran-so .1 in
       let zero-so : eqb (done .refusal .number) 0 ≡ true = eq-eqb (done .refusal .number) 0 none-so in
       let bytes-are : exit ≡ filled (busOf lent .carried) (lent .carried) = carried-is ∙ rw zero-so in
       let recorded-are : levelsExit ≡ filled (busOf lent .levels) (lent .levels) = levels-are ∙ rw zero-so in
       let two = passing (ran-so .0) in
-      rw (is, modules-are, seats-are, bytes-are, recorded-are, its)
-      (ran-clauses lent small (two .0) (two .1) roomy
-      (rw (← bytes-are, ← recorded-are, ← its) (follows-so none-so)))
+      let own = modules lent small (two .0) (two .1) roomy in
+      let rest = drop (length own) (replicate maxMasters (powerUp 0 0)) in
+      let whole : table ≡ own ++ rest = table-is ∙ rw zero-so in
+      let front : take (length (lent .lengths)) table ≡ own =
+      ap (take (length (lent .lengths))) whole
+      ∙ take-at own rest (length (lent .lengths)) (modules-many lent small (two .0) (two .1) roomy) in
+      let sitting = seats lent small (two .0) (two .1) roomy in
+      let seated : take (length (lent .lengths)) (done .seats) ≡ sitting =
+      ap (λ (r : Arbitrated). take (length (lent .lengths)) (r .seats)) its
+      ∙ take-at sitting (replicate (maxMasters - length sitting) absent) (length (lent .lengths))
+      (seats-many lent small (two .0) (two .1) roomy) in
+      rw (is, entries-are, numbers-are, front, seated, bytes-are, recorded-are, its)
+      (ran-clauses lent small (two .0) (two .1) roomy rest
+      (rw (← bytes-are, ← recorded-are, ← whole, ← its) (follows-so none-so)))

@@ -3,8 +3,8 @@ use mathlib.Core.Path.{_≡_, sym, ap, _∙_}
 use mathlib.Core.List.{List, [], _∷_, _++_, map}
 use Prim.Native.Nat.{ℕ, suc, _+_, _≤_, _<_}
 use native.Mathlib.Numerals.{add-one}
-use lib.ListN.{length, drop, set, getD, drop-of-length-le, List·getD-map}
-use lib.Seq.{drop-cons}
+use lib.ListN.{length, take, drop, set, getD, length-map, drop-of-length-le, List·getD-map}
+use lib.Seq.{drop-cons, length-take-le, getD-take}
 use Rattle.laws.specs.Buffer.{filled}
 use Rattle.laws.proofs.Buffer.{Writing, writing-none, writing-long, writing-more, writing-done}
 
@@ -30,7 +30,13 @@ module _ (whole table₀ table : List ℕ) (count : ℕ) (room : length whole �
   pub written-done : length whole ≤ count → table ≡ filled whole table₀
   written-done all = writing-done whole (drop count whole) table₀ table count room written (drop-of-length-le whole all)
 
--- an entry that stands for the element at an index stands there in the list of entries
-pub mapped-entry : {A : Type 0} (f : A → ℕ) (list : List A) (index : ℕ) (other : A) (entry : ℕ)
-    → entry ≡ f (getD list index other) → entry ≡ getD (map f list) index (f other)
-mapped-entry f list index other entry e = e ∙ sym (List·getD-map f list index other)
+-- the first of a list's elements, so many, as entries
+module _ {A : Type 0} (f : A → ℕ) (list : List A) (count : ℕ) (within : count ≤ length list) where
+  pub entries-long : length (map f (take count list)) ≡ count
+  entries-long = length-map (take count list) f ∙ length-take-le count list within
+
+  -- an entry that stands for the element at an index stands there
+  pub entry-at : (index : ℕ) (other : A) (entry : ℕ) → index < count → entry ≡ f (getD list index other)
+      → entry ≡ getD (map f (take count list)) index (f other)
+  entry-at index other entry less e =
+      e ∙ ap f (sym (getD-take count list index other less)) ∙ sym (List·getD-map f (take count list) index other)

@@ -1,5 +1,5 @@
 -- An arbitration for callers in C or Rust: what they lend, and what is returned, one 64-bit number and two tables of an
--- entry for each of the most masters.
+-- entry for each message.
 use Prim.Native.Nat.{ℕ, _+_, _*_, _/_, _%_, _^_}
 use mathlib.Core.Path.{_≡_}
 use mathlib.Core.Bool.{Bool, cond, _||_}
@@ -14,9 +14,9 @@ use Rattle.laws.specs.declared.Refusal.{Refusal}
 use Rattle.laws.specs.Refusals.{check, given}
 use Rattle.arbitration_rules.specs.declared.Arbitrated.{Arbitrated}
 use Rattle.arbitration_rules.specs.declared.Seat.{Seat}
-use Rattle.arbitration_rules.specs.Limits.{maxMasters}
+use Rattle.arbitration_rules.specs.Masters.{Master}
 use Rattle.arbitration_rules.specs.Outcome.{Fate, Outcome, levelCount}
-use Rattle.arbitration_rules.specs.Reply.{messagesOf, messageChecks, shortBuffer, refused, answered}
+use Rattle.arbitration_rules.specs.Reply.{messagesOf, messageChecks, shortBuffer, seatOf, refused, answered}
 use Rattle.arbitration_rules.specs.Run.{Bus, run}
 use Rattle.arbitration_rules.specs.Cleared.{clearedBy}
 use Rattle.export.specs.Packed.{packed, unpacked}
@@ -56,9 +56,9 @@ abbrev pub gave : ℕ → List ℕ → List ℕ → List ℕ → List ℕ → Re
 gave answer carried levels modules seats =
     record { answer = answer; carried = carried; levels = levels; modules = modules; seats = seats }
 
--- 8: a lent slice is shorter than the reply needs, which has an entry in each table for each of the most masters
-abbrev pub shortTables : ℕ → ℕ → Bool
-shortTables modules seats = ltb modules maxMasters || ltb seats maxMasters
+-- 8: a lent slice is shorter than the reply needs, which has an entry in each table for each message
+abbrev pub shortTables : ℕ → ℕ → ℕ → Bool
+shortTables masters modules seats = ltb modules masters || ltb seats masters
 
 abbrev pub busOf : Lent → Bus
 busOf lent = run (messagesOf (lent .lengths) (lent .bytes)) (lent .acks)
@@ -73,7 +73,7 @@ refusalOf lent =
     (messageChecks (lent .bytes) (lent .lengths) (lent .acks)
     ++ check 8
     (shortBuffer (busOf lent) (length (lent .carried)) (length (lent .levels))
-    || shortTables (length (lent .modules)) (length (lent .seats)))
+    || shortTables (length (lent .lengths)) (length (lent .modules)) (length (lent .seats)))
     ∷ [])
 
 -- a seat as a number: 1 while it contends, from bit 1 on the flags that its writes cleared, from bit 5 on the position
@@ -102,8 +102,8 @@ ran cleared bus lent =
       answer = packedReply (answered cleared bus);
       carried = filled (bus .carried) (lent .carried);
       levels = filled (bus .levels) (lent .levels);
-      modules = filled (map packed (answered cleared bus .modules)) (lent .modules);
-      seats = filled (map packedSeat (answered cleared bus .seats)) (lent .seats);
+      modules = filled (map packed (map (λ (master : Master). master .usi) (bus .masters))) (lent .modules);
+      seats = filled (map packedSeat (zipWith seatOf cleared (bus .masters))) (lent .seats);
     }
 
 unfoldable pub returned : Lent → Returned

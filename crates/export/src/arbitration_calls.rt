@@ -1,9 +1,8 @@
-// Arbitration for callers in C or Rust: the reply as a number, and two tables of an entry for each of the most
-// masters.
+// Arbitration for callers in C or Rust: the reply as a number, and two tables of an entry for each message.
 ghost use mathlib.Core.Path.{_≡_};
 ghost use mathlib.Core.List.{map};
 ghost use Prim.Native.Nat.{_<_, _≤_, _%_};
-ghost use lib.ListN.{length};
+ghost use lib.ListN.{length, take};
 ghost use Rattle.laws.specs.Buffer.{filled};
 ghost use Rattle.arbitration_rules.specs.Limits.{maxMasters};
 ghost use Rattle.arbitration_rules.specs.Outcome.{outcome};
@@ -43,23 +42,25 @@ fn seat_number(seat: Seat) -> u32
     rest
 }
 
-fn put_modules(modules: [Usi; MAX_MASTERS], table: &mut [u64])
-    requires { ⌜ maxMasters ≤ length (now table) ⌝ }
-    ensures { λ r. ⌜ now (table .exit) ≡ filled (map packedModule modules) (now (table .entry)) ⌝ }
+// The first of the modules, so many.
+fn put_modules(modules: [Usi; MAX_MASTERS], count: usize, table: &mut [u64])
+    requires { ⌜ (count ≤ maxMasters) × (count ≤ length (now table)) ⌝ }
+    ensures { λ r. ⌜ now (table .exit) ≡ filled (map packedModule (take count modules)) (now (table .entry)) ⌝ }
 {
     let mut i: usize = 0;
-    while i < MAX_MASTERS {
+    while i < count {
         table[i] = crate::packed(modules[i]);
         i += 1;
     }
 }
 
-fn put_seats(seats: [Seat; MAX_MASTERS], table: &mut [u32])
-    requires { ⌜ maxMasters ≤ length (now table) ⌝ }
-    ensures { λ r. ⌜ now (table .exit) ≡ filled (map packedSeat seats) (now (table .entry)) ⌝ }
+// The first of the seats, so many.
+fn put_seats(seats: [Seat; MAX_MASTERS], count: usize, table: &mut [u32])
+    requires { ⌜ (count ≤ maxMasters) × (count ≤ length (now table)) ⌝ }
+    ensures { λ r. ⌜ now (table .exit) ≡ filled (map packedSeat (take count seats)) (now (table .entry)) ⌝ }
 {
     let mut i: usize = 0;
-    while i < MAX_MASTERS {
+    while i < count {
         table[i] = seat_number(seats[i]);
         i += 1;
     }
@@ -85,7 +86,8 @@ pub extern "C" fn arbitrate(
         (gave r (now (carried .exit)) (now (levels .exit)) (now (modules .exit)) (now (seats .exit)))
         ≡ outcome (messagesOf (now (lengths .entry)) (now (bytes .entry))) (now (acks .entry))) ⌝ }
 {
-    if (modules.len() < MAX_MASTERS) | (seats.len() < MAX_MASTERS) {
+    let masters = lengths.len();
+    if (modules.len() < masters) | (seats.len() < masters) {
         let settled = arbitration_checks::settle(bytes, lengths, acks);
         let found = settled.refusal;
         if found.number != 0 {
@@ -93,14 +95,15 @@ pub extern "C" fn arbitrate(
         }
         return 8;
     }
-    let done = arbitration::arbitrate(bytes, lengths, acks, carried, levels);
-    let found = done.refusal;
+    let done = arbitration::rehearse(bytes, lengths, acks, carried, levels);
+    let answer = done.reply;
+    let found = answer.refusal;
     if found.number != 0 {
         return refused(found);
     }
     let final_modules = done.modules;
-    put_modules(final_modules, modules);
-    let final_seats = done.seats;
-    put_seats(final_seats, seats);
-    reply(done)
+    put_modules(final_modules, masters, modules);
+    let final_seats = answer.seats;
+    put_seats(final_seats, masters, seats);
+    reply(answer)
 }

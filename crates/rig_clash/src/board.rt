@@ -19,6 +19,9 @@ use verdict::Verdict;
 // The columns of a message.
 const MESSAGE: usize = 23;
 
+// So many boards have numbers of one digit.
+const ONE_DIGIT: usize = 10;
+
 // The bits on the bus for each byte: eight, and the acknowledge.
 const BITS: u16 = 9;
 
@@ -46,17 +49,23 @@ fn belongs(group: Group, load: Load, outcome: Outcome, board: usize) -> bool {
     }
 }
 
+// A board's number, at the right of two columns where the load has numbers of two digits.
+fn put_number(page: &mut [u8; PAGE], at: usize, load: Load, board: usize) -> usize {
+    let next = put_blank(page, at, (load.boards > ONE_DIGIT) & (board < ONE_DIGIT));
+    put_decimal(page, next, board as u64)
+}
+
 // A board's number, and its name padded to a width.
 fn put_who(
     page: &mut [u8; PAGE],
     at: usize,
     kept: &[u8],
-    named: bool,
+    load: Load,
     board: usize,
     width: usize,
 ) -> usize {
-    let number = put_decimal(page, at, board as u64);
-    if !named {
+    let number = put_number(page, at, load, board);
+    if !load.named {
         return number;
     }
     let space = put_byte(page, number, b' ');
@@ -73,13 +82,13 @@ pub(crate) fn put_begin(
     board: usize,
 ) -> usize {
     let word = phrase::put_line(page, at, kept, front, 0, [0; 4]);
-    let who = put_who(page, word, kept, load.named, board, load.widest);
+    let who = put_who(page, word, kept, load, board, load.widest);
     put_bytes(page, who, b"  ")
 }
 
-fn put_silent(page: &mut [u8; PAGE], at: usize, kept: &[u8], named: bool, board: usize) -> usize {
+fn put_silent(page: &mut [u8; PAGE], at: usize, kept: &[u8], load: Load, board: usize) -> usize {
     let word = phrase::put_line(page, at, kept, b"  silent ", 0, [0; 4]);
-    let who = put_who(page, word, kept, named, board, 0);
+    let who = put_who(page, word, kept, load, board, 0);
     put_byte(page, who, b'\n')
 }
 
@@ -227,7 +236,7 @@ fn put_member(
         return at;
     }
     match group {
-        Group::Silent => put_silent(page, at, kept, load.named, board),
+        Group::Silent => put_silent(page, at, kept, load, board),
         Group::In => put_contender(page, at, kept, load, outcome, board),
         Group::Lost => put_loser(page, at, kept, load, seat.position, board),
     }

@@ -24,7 +24,7 @@ use text::put_byte;
 use text::put_bytes;
 
 // The boards by number, as the library takes them.
-const NUMBERS: [u32; MAX_MASTERS] = [0, 1, 2, 3, 4, 5, 6, 7];
+const NUMBERS: [u32; MAX_MASTERS] = [0, 1, 2, 3, 4, 5, 6, 7, 8, 9, 10, 11, 12, 13, 14, 15];
 
 // The library's answer of a board that is in neither list.
 const ABSENT: u8 = 42;
@@ -39,16 +39,13 @@ fn cut(length: u32) -> u32 {
 }
 
 fn cut_all(lengths: [u32; MAX_MASTERS]) -> [u32; MAX_MASTERS] {
-    [
-        cut(lengths[0]),
-        cut(lengths[1]),
-        cut(lengths[2]),
-        cut(lengths[3]),
-        cut(lengths[4]),
-        cut(lengths[5]),
-        cut(lengths[6]),
-        cut(lengths[7]),
-    ]
+    let mut all = lengths;
+    let mut board: usize = 0;
+    while board < MAX_MASTERS {
+        all[board] = cut(lengths[board]);
+        board += 1;
+    }
+    all
 }
 
 // A correction for the load that is being read marks that it was met.

@@ -125,9 +125,9 @@ fn put_of_file(
 ) -> usize {
     let words = b"\nexpected boards or load first, not $\nexpected load or end, not $\n\
         expected load, board, ack, expect or end, not $\na second boards line, the first is line #\n\
-        boards must stand before the first load\nexpected load, board or ack, not $\nmore than 8 boards\n\
+        boards must stand before the first load\nexpected load, board or ack, not $\nmore than 16 boards\n\
         expected a name of 1 to 16 bytes that begins with a letter and is no byte, not $\n\
-        board $ is named twice\nexpected boards and 1 to 8 names\nexpected nothing after -, not $\n\
+        board $ is named twice\nexpected boards and 1 to 16 names\nexpected nothing after -, not $\n\
         expected bytes of two hexadecimal digits, not $\n\
         expected bytes of one or two hexadecimal digits, not $\n\
         a second line for board @, the first is line #\nexpected board NAME and its bytes, or - for none\n\
@@ -141,7 +141,7 @@ fn put_of_file(
         after end (line #); the rest of the file is not read\nlonger than 4096 bytes\n\
         a byte that is no text\nthe file ends without an end line\nno load in the file\n\
         no load $ in the files\nload @ has no board line\nexpected load NAME, one word, not $\n\
-        board @ has # bytes, and at most 32 may be sent\nmore than 256 corrections\n\
+        board @ has # bytes, and at most 64 may be sent\nmore than 256 corrections\n\
         end says #, and the file has &\nafter end (line #)\nexpected load, board or end, not $";
     put_words(page, at, line_of(words, form), word, number, loads, last)
 }

@@ -42,7 +42,8 @@ pub(crate) const SLOTS_AT: usize = TONIGHT_AT + BYTES;
 
 pub(crate) const SLOTS: usize = 256;
 
-pub(crate) const SLOT: usize = 122;
+// A mark, the load's name and line, the board's name and line, and a message with its length.
+pub(crate) const SLOT: usize = 1 + LOAD_NAME + NUMBER + BOARD_NAME + NUMBER + 1 + MAX_LENGTH;
 
 // The names of the file's loads, each in a slot with its line.
 pub(crate) const NAMES_AT: usize = SLOTS_AT + SLOTS * SLOT;

@@ -85,7 +85,7 @@ pub(crate) fn with_board(kept: &mut [u8; ROOM], state: State, rest: &[u8]) -> St
     with_line(kept, state, board, rest)
 }
 
-// A row more, of which the first eight are kept.
+// A row more, of which the first sixteen are kept.
 fn with_row(mut state: State) -> State {
     let board = state.load.boards;
     let rows = more(state.load.rows);

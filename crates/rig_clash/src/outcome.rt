@@ -5,7 +5,7 @@ use crate::kept::ACKS_AT;
 use crate::kept::BYTES;
 use crate::kept::MESSAGES_AT;
 use crate::load::Load;
-use arbitration_rules::Arbitrated;
+use arbitration::Rehearsed;
 use arbitration_rules::MAX_LENGTH;
 use arbitration_rules::MAX_MASTERS;
 use arbitration_rules::Seat;
@@ -141,11 +141,12 @@ fn last(carried: &[u8], count: usize) -> u8 {
     }
 }
 
-// The outcome of a reply.
-fn told(load: Load, reply: Arbitrated, verdict: Verdict, carried: &[u8]) -> Outcome {
+// The outcome of a rehearsal.
+fn told(load: Load, done: Rehearsed, verdict: Verdict, carried: &[u8]) -> Outcome {
+    let reply = done.reply;
     let refusal = reply.refusal;
     let seats = reply.seats;
-    let modules = reply.modules;
+    let modules = done.modules;
     let mut outcome = Outcome {
         verdict,
         expected: true,
@@ -189,9 +190,9 @@ fn rehearsed(
     carried: &mut [u8],
     levels: &mut [u8],
 ) -> Outcome {
-    let reply = arbitration::arbitrate(bytes, lengths, acks, carried, levels);
-    let verdict = verdict::judge(reply, bytes, lengths, acks);
-    told(load, reply, refused_first(load, verdict), carried)
+    let done = arbitration::rehearse(bytes, lengths, acks, carried, levels);
+    let verdict = verdict::judge(done.reply, bytes, lengths, acks);
+    told(load, done, refused_first(load, verdict), carried)
 }
 
 // Rehearses a load: the library gets the messages of the boards that are not silent, in the order of their numbers.

@@ -45,7 +45,7 @@ fn masters_form(load: Load, brief: bool) -> usize {
 
 fn put_masters(page: &mut [u8; PAGE], at: usize, load: Load, brief: bool) -> usize {
     let words =
-        b"every board is silent\nno board\n# boards, and at most 8 may start together\n# boards";
+        b"every board is silent\nno board\n# boards, and at most 16 may start together\n# boards";
     let form = line_of(words, masters_form(load, brief));
     put_numbers(page, at, form, [load.rows, 0, 0, 0])
 }
@@ -80,7 +80,7 @@ fn put_message_of(
 ) -> usize {
     let length = load.length_of(board);
     let first = order::byte_at(kept::message(kept, board, length), 0);
-    let words = b" has no bytes\n has # bytes, and at most 32 may be sent\n has # bytes\n\
+    let words = b" has no bytes\n has # bytes, and at most 64 may be sent\n has # bytes\n\
         \x20begins with %, which is odd, a read\n begins with %";
     let who = put_board(page, at, kept, load, board, brief);
     let form = line_of(words, message_form(number, length, brief));

@@ -16,7 +16,7 @@ use Rattle.arbitration_rules.specs.declared.Arbitrated.{Arbitrated}
 use Rattle.arbitration_rules.specs.declared.Seat.{Seat}
 use Rattle.arbitration_rules.specs.Final.{finalMaster}
 use Rattle.arbitration_rules.specs.Outcome.{least, carriedCount, carriedOf, lossFrom, fate, undecided}
-use Rattle.arbitration_rules.specs.Reply.{messagesOf, messageChecks, shortBuffer, refusal, refused, absent, seatOf}
+use Rattle.arbitration_rules.specs.Reply.{messagesOf, messageChecks, shortSlice, refusal, refused, absent, seatOf}
 use Rattle.arbitration_rules.specs.Reply.{padded, answered, arbitrated}
 use Rattle.arbitration_rules.specs.Run.{Bus, run}
 use Rattle.arbitration_rules.specs.Cleared.{clearedBy}
@@ -78,9 +78,9 @@ unbeaten-every {P} carried (also {a} {l} holds more) = go (lossFrom 0 carried a)
     go (some position) holds rest = rest
 
 -- a reply that is not refused
-module _ (bytes lengths acknowledges : List ℕ) (carriedRoom levelRoom : ℕ) where
+module _ (bytes lengths acknowledges : List ℕ) (tableRoom carriedRoom levelRoom : ℕ) where
   abbrev pub replyTo : Arbitrated
-  replyTo = arbitrated bytes lengths acknowledges carriedRoom levelRoom
+  replyTo = arbitrated bytes lengths acknowledges tableRoom carriedRoom levelRoom
 
   abbrev messages : List (List ℕ)
   messages = messagesOf lengths bytes
@@ -92,27 +92,27 @@ module _ (bytes lengths acknowledges : List ℕ) (carriedRoom levelRoom : ℕ) w
   carried = carriedOf messages acknowledges
 
   module _ (small : Bytes bytes) (unrefused : replyTo .refusal .number ≡ 0) where
-    none-applies : refusal bytes lengths acknowledges carriedRoom levelRoom .number ≡ 0
+    none-applies : refusal bytes lengths acknowledges tableRoom carriedRoom levelRoom .number ≡ 0
     unfolding arbitrated refused
-    none-applies = go (eqb (refusal bytes lengths acknowledges carriedRoom levelRoom .number) 0) refl
+    none-applies = go (eqb (refusal bytes lengths acknowledges tableRoom carriedRoom levelRoom .number) 0) refl
       where
-        go : (none-so : Bool) → eqb (refusal bytes lengths acknowledges carriedRoom levelRoom .number) 0 ≡ none-so
-            → refusal bytes lengths acknowledges carriedRoom levelRoom .number ≡ 0
-        go true is = eqb-true (refusal bytes lengths acknowledges carriedRoom levelRoom .number) 0 is
+        go : (none-so : Bool) → eqb (refusal bytes lengths acknowledges tableRoom carriedRoom levelRoom .number) 0 ≡ none-so
+            → refusal bytes lengths acknowledges tableRoom carriedRoom levelRoom .number ≡ 0
+        go true is = eqb-true (refusal bytes lengths acknowledges tableRoom carriedRoom levelRoom .number) 0 is
         go false is = rw is at unrefused
 
     reply-is : replyTo ≡ answered (clearedBy messages acknowledges) bus
     unfolding arbitrated
-    reply-is = rw (eq-eqb (refusal bytes lengths acknowledges carriedRoom levelRoom .number) 0 none-applies)
+    reply-is = rw (eq-eqb (refusal bytes lengths acknowledges tableRoom carriedRoom levelRoom .number) 0 none-applies)
 
     pub given : Arbitration messages acknowledges
-    given = accepted bytes lengths acknowledges carriedRoom levelRoom small none-applies
+    given = accepted bytes lengths acknowledges tableRoom carriedRoom levelRoom small none-applies
 
     -- refusal 16 does not apply
     pub decides : undecided messages acknowledges ≡ false
     unfolding refusal
     decides =
-        let room : List Check = check 8 (shortBuffer bus carriedRoom levelRoom) ∷ [] in
+        let room : List Check = check 8 (shortSlice lengths bus tableRoom carriedRoom levelRoom) ∷ [] in
         let numbered : Numbered (messageChecks bytes lengths acknowledges ++ room) =
         numbered-both (messageChecks bytes lengths acknowledges) room
         (message-numbered bytes lengths acknowledges) ((λ e. omega arith), tt) in

@@ -85,10 +85,10 @@ refused-exactly reply messages acknowledges number = (to, from)
     from (is, some) = rw (ne-eqb (reply .refusal .number) 0 (λ zero. some (sym is ∙ zero))) (ap Refused is)
 
 -- a reply of arbitrate that is not refused; the bytes lent are bytes
-module _ (bytes lengths acknowledges : List ℕ) (carriedRoom levelRoom : ℕ) (small : Bytes bytes)
-    (unrefused : arbitrated bytes lengths acknowledges carriedRoom levelRoom .refusal .number ≡ 0) where
+module _ (bytes lengths acknowledges : List ℕ) (tableRoom carriedRoom levelRoom : ℕ) (small : Bytes bytes)
+    (unrefused : arbitrated bytes lengths acknowledges tableRoom carriedRoom levelRoom .refusal .number ≡ 0) where
   abbrev reply : Arbitrated
-  reply = arbitrated bytes lengths acknowledges carriedRoom levelRoom
+  reply = arbitrated bytes lengths acknowledges tableRoom carriedRoom levelRoom
 
   abbrev messages : List (List ℕ)
   messages = messagesOf lengths bytes
@@ -106,7 +106,7 @@ module _ (bytes lengths acknowledges : List ℕ) (carriedRoom levelRoom : ℕ) (
   -- where every byte is acknowledged every byte is carried, and all of those still in end together
   count-whole : allAcknowledged winner acknowledges ≡ true → reply .count ≡ length winner
   count-whole every =
-      count-is bytes lengths acknowledges carriedRoom levelRoom small unrefused
+      count-is bytes lengths acknowledges tableRoom carriedRoom levelRoom small unrefused
       ∙ sym (carried-count winner acknowledges)
       ∙ ap length (whole winner acknowledges every)
 
@@ -115,8 +115,8 @@ module _ (bytes lengths acknowledges : List ℕ) (carriedRoom levelRoom : ℕ) (
   all-together every =
       go
       (ends-together messages acknowledges
-      (given bytes lengths acknowledges carriedRoom levelRoom small unrefused .bits)
-      (decides bytes lengths acknowledges carriedRoom levelRoom small unrefused))
+      (given bytes lengths acknowledges tableRoom carriedRoom levelRoom small unrefused .bits)
+      (decides bytes lengths acknowledges tableRoom carriedRoom levelRoom small unrefused))
     where
       go : CutShort winner acknowledges
           ⊎ ((allAcknowledged winner acknowledges ≡ true)
@@ -125,7 +125,7 @@ module _ (bytes lengths acknowledges : List ℕ) (carriedRoom levelRoom : ℕ) (
       go (inl cut) = absurd (not-cut winner acknowledges (cut .last) every (cut .count) (cut .refused))
       go (inr (all-so, ends)) =
           rw (
-            those-in bytes lengths acknowledges carriedRoom levelRoom small unrefused,
+            those-in bytes lengths acknowledges tableRoom carriedRoom levelRoom small unrefused,
             whole winner acknowledges every,
           )
           (unbeaten-every winner ends)
@@ -152,7 +152,7 @@ module _ (bytes lengths acknowledges : List ℕ) (carriedRoom levelRoom : ℕ) (
       go
       (rw (eq-eqb (reply .refusal .number) 0 unrefused)
       (decision remaining winner (reply .count) acknowledges
-      (winner-in bytes lengths acknowledges carriedRoom levelRoom small unrefused)))
+      (winner-in bytes lengths acknowledges tableRoom carriedRoom levelRoom small unrefused)))
     where
       go : Decision winner remaining verdict (ended winner (reply .count) acknowledges) → Way
       go (together every is) = by-end every is
@@ -166,7 +166,7 @@ module _ (bytes lengths acknowledges : List ℕ) (carriedRoom levelRoom : ℕ) (
       to : Way → verdict ≡ Sent m → Whole winner acknowledges (reply .count) × (m ≡ length winner)
       to (sent all-so is) says =
           let sendable = least-sendable messages
-          (given bytes lengths acknowledges carriedRoom levelRoom small unrefused) in (
+          (given bytes lengths acknowledges tableRoom carriedRoom levelRoom small unrefused) in (
             record {
               carried = count-whole all-so;
               acknowledged = each-acknowledged winner acknowledges all-so (sendable .answered);
@@ -190,7 +190,7 @@ module _ (bytes lengths acknowledges : List ℕ) (carriedRoom levelRoom : ℕ) (
   cut-exactly k = (to way, from way)
     where
       counted : reply .count ≡ carriedCount winner acknowledges
-      counted = count-is bytes lengths acknowledges carriedRoom levelRoom small unrefused
+      counted = count-is bytes lengths acknowledges tableRoom carriedRoom levelRoom small unrefused
 
       to : Way → verdict ≡ Cut k → Everyone (λ own. own ≡ winner) remaining × FirstRefused winner acknowledges k
       to (sent all-so is) says = absurd (omega (arith, ap kind (sym is ∙ says)))
@@ -199,7 +199,7 @@ module _ (bytes lengths acknowledges : List ℕ) (carriedRoom levelRoom : ℕ) (
             every,
             rw (← k-is)
                 (some-refused winner
-                (given bytes lengths acknowledges carriedRoom levelRoom small unrefused .bits) some-so),
+                (given bytes lengths acknowledges tableRoom carriedRoom levelRoom small unrefused .bits) some-so),
           )
       to (differs differ is) says = absurd (omega (arith, ap kind (sym is ∙ says)))
 

@@ -15,10 +15,10 @@ use Rattle.verdict.specs.declared.Verdict.{Verdict}
 use Rattle.verdict.specs.declared.Verdict.the-variants.{Refused, Undecided, Cut, Sent}
 use Rattle.verdict.specs.Verdict.{ended, verdictOf}
 
--- the verdict of the reply to a load, with room for two bytes
+-- the verdict of the reply to a load, with room for three masters and two bytes
 abbrev pub verdict : List ℕ → List ℕ → List ℕ → Verdict
 verdict bytes lengths acknowledges =
-    verdictOf (arbitrated bytes lengths acknowledges 2 41) (messagesOf lengths bytes) acknowledges
+    verdictOf (arbitrated bytes lengths acknowledges 3 2 41) (messagesOf lengths bytes) acknowledges
 
 -- all that it is made of unfolds with this
 unfoldable computed : List ℕ → List ℕ → List ℕ → Verdict

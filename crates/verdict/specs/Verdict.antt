@@ -12,7 +12,7 @@ use Rattle.arbitration_rules.specs.Outcome.{allAcknowledged}
 use Rattle.verdict.specs.declared.Verdict.{Verdict}
 use Rattle.verdict.specs.declared.Verdict.the-variants.{Refused, Undecided, Cut, Sent}
 
--- The messages of the boards that are still in, in their order. Messages past the eight seats don't count.
+-- The messages of the boards that are still in, in their order. Messages past the sixteen seats don't count.
 abbrev pub stillIn : Seat → Bool
 stillIn seat = seat .contending
 

@@ -6,52 +6,51 @@ use lib.ListN.{replicate}
 use Rattle.arbitration_rules.specs.Reply.{arbitrated, messagesOf}
 use Rattle.arbitration_checks.specs.Order.{leastIndex}
 use Rattle.worked_numbers.proofs.Computed as computed
-use Rattle.worked_numbers.proofs.Worked.{answer, stopped, winner, idle, in-seat, no-seat}
+use Rattle.worked_numbers.proofs.Worked.{answer, stopped, in-seat, no-seat}
 
--- 12: no message, or more than eight; then nothing else is read
-pub refuses-12 : (arbitrated [] [] [] 0 0 ≡ stopped 12 0)
-    × (arbitrated (0x91 ∷ []) (replicate 9 0) (2 ∷ []) 0 0 ≡ stopped 12 0)
+-- 12: no message, or more than sixteen; then nothing else is read
+pub refuses-12 : (arbitrated [] [] [] 0 0 0 ≡ stopped 12 0)
+    × (arbitrated (0x91 ∷ []) (replicate 17 0) (2 ∷ []) 0 0 0 ≡ stopped 12 0)
 unfolding computed.arbitrated
 refuses-12 = (refl, refl)
 
--- 13: a message of 0 or over 32 bytes, at the first such; else lengths that don't sum to the bytes, at their count
-pub refuses-13 : (arbitrated (0x91 ∷ []) (1 ∷ 0 ∷ 33 ∷ []) [] 0 0 ≡ stopped 13 1)
-    × (arbitrated (0x91 ∷ []) (1 ∷ 33 ∷ []) [] 0 0 ≡ stopped 13 1)
-    × (arbitrated (0x91 ∷ []) (1 ∷ 1 ∷ []) [] 0 0 ≡ stopped 13 2)
-    × (arbitrated (0x91 ∷ 0x91 ∷ []) (1 ∷ []) [] 0 0 ≡ stopped 13 1)
+-- 13: a message of 0 or over 64 bytes, at the first such; else lengths that don't sum to the bytes, at their count
+pub refuses-13 : (arbitrated (0x91 ∷ []) (1 ∷ 0 ∷ 65 ∷ []) [] 0 0 0 ≡ stopped 13 1)
+    × (arbitrated (0x91 ∷ []) (1 ∷ 65 ∷ []) [] 0 0 0 ≡ stopped 13 1)
+    × (arbitrated (0x91 ∷ []) (1 ∷ 1 ∷ []) [] 0 0 0 ≡ stopped 13 2)
+    × (arbitrated (0x91 ∷ 0x91 ∷ []) (1 ∷ []) [] 0 0 0 ≡ stopped 13 1)
 unfolding computed.arbitrated
 refuses-13 = (refl, refl, refl, refl)
 
 -- 14: a first byte that is odd, at the first such message
-pub refuses-14 : (arbitrated (0x90 ∷ 0x91 ∷ 0x91 ∷ []) (1 ∷ 1 ∷ 1 ∷ []) [] 0 0 ≡ stopped 14 1)
+pub refuses-14 : (arbitrated (0x90 ∷ 0x91 ∷ 0x91 ∷ []) (1 ∷ 1 ∷ 1 ∷ []) [] 0 0 0 ≡ stopped 14 1)
 unfolding computed.arbitrated
 refuses-14 = refl
 
 -- 15: not as many acknowledges as the longest message has bytes, or one above 1
-pub refuses-15 : (arbitrated (0x90 ∷ 0x90 ∷ 0 ∷ []) (1 ∷ 2 ∷ []) (0 ∷ []) 0 0 ≡ stopped 15 0)
-    × (arbitrated (0x90 ∷ 0x90 ∷ 0 ∷ []) (1 ∷ 2 ∷ []) (0 ∷ 0 ∷ 0 ∷ []) 0 0 ≡ stopped 15 0)
-    × (arbitrated (0x90 ∷ 0x90 ∷ 0 ∷ []) (1 ∷ 2 ∷ []) (0 ∷ 2 ∷ []) 0 0 ≡ stopped 15 0)
+pub refuses-15 : (arbitrated (0x90 ∷ 0x90 ∷ 0 ∷ []) (1 ∷ 2 ∷ []) (0 ∷ []) 0 0 0 ≡ stopped 15 0)
+    × (arbitrated (0x90 ∷ 0x90 ∷ 0 ∷ []) (1 ∷ 2 ∷ []) (0 ∷ 0 ∷ 0 ∷ []) 0 0 0 ≡ stopped 15 0)
+    × (arbitrated (0x90 ∷ 0x90 ∷ 0 ∷ []) (1 ∷ 2 ∷ []) (0 ∷ 2 ∷ []) 0 0 0 ≡ stopped 15 0)
 unfolding computed.arbitrated
 refuses-15 = (refl, refl, refl)
 
--- 16 before 8 (P10); 8: room for k bytes and 5 + 18k levels
-pub refuses-8 : (arbitrated (0x90 ∷ []) (1 ∷ []) (0 ∷ []) 0 23 ≡ stopped 8 0)
-    × (arbitrated (0x90 ∷ []) (1 ∷ []) (0 ∷ []) 1 22 ≡ stopped 8 0)
-    × (arbitrated (0x90 ∷ []) (1 ∷ []) (0 ∷ []) 1 23
-    ≡ answer (winner ∷ replicate 7 idle) 1 (in-seat ∷ replicate 7 no-seat))
+-- 16 before 8 (P10); 8: an entry of the table for each message, room for k bytes and for 5 + 18k levels
+pub refuses-8 : (arbitrated (0x90 ∷ 0x90 ∷ []) (1 ∷ 1 ∷ []) (0 ∷ []) 1 1 23 ≡ stopped 8 0)
+    × (arbitrated (0x90 ∷ []) (1 ∷ []) (0 ∷ []) 1 0 23 ≡ stopped 8 0)
+    × (arbitrated (0x90 ∷ []) (1 ∷ []) (0 ∷ []) 1 1 22 ≡ stopped 8 0)
+    × (arbitrated (0x90 ∷ []) (1 ∷ []) (0 ∷ []) 1 1 23 ≡ answer 1 (in-seat ∷ replicate 15 no-seat))
 unfolding computed.arbitrated
-refuses-8 = (refl, refl, refl)
+refuses-8 = (refl, refl, refl, refl)
 
--- eight messages of one byte; one message of 32 bytes
-pub takes-eight : arbitrated (replicate 8 0x90) (replicate 8 1) (0 ∷ []) 1 23
-    ≡ answer (replicate 8 winner) 1 (replicate 8 in-seat)
+-- sixteen messages of one byte; one message of 64 bytes, the first of which nobody acknowledges
+pub takes-sixteen : arbitrated (replicate 16 0x90) (replicate 16 1) (0 ∷ []) 16 1 23 ≡ answer 1 (replicate 16 in-seat)
 unfolding computed.arbitrated
-takes-eight = refl
+takes-sixteen = refl
 
-pub takes-32 : arbitrated (replicate 32 0x90) (32 ∷ []) (replicate 32 0) 32 581
-    ≡ answer (winner ∷ replicate 7 idle) 32 (in-seat ∷ replicate 7 no-seat)
+pub takes-64 : arbitrated (replicate 64 0x90) (64 ∷ []) (1 ∷ replicate 63 0) 1 1 23
+    ≡ answer 1 (in-seat ∷ replicate 15 no-seat)
 unfolding computed.arbitrated
-takes-32 = refl
+takes-64 = refl
 
 -- the least message: P8's second, a beginning of another, the first of equal ones, one that is cut by the bytes' end
 pub least-messages : (leastIndex (messagesOf (2 ∷ 2 ∷ []) (0x90 ∷ 0x12 ∷ 0x90 ∷ 0x0F ∷ [])) ≡ 1)

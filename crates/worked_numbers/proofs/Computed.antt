@@ -67,13 +67,18 @@ unfoldable pub read-into : Decoded → List ℕ → List ℕ → List ℕ
 unfolding starts stops takes withBit next cut lists
 read-into answer levels buffer = decode.eventsAfter answer levels buffer
 
--- what arbitrate replies, and the buffers after it
-unfoldable pub arbitrated : List ℕ → List ℕ → List ℕ → ℕ → ℕ → Arbitrated
+-- what arbitrate replies, and the table and the buffers after it
+unfoldable pub arbitrated : List ℕ → List ℕ → List ℕ → ℕ → ℕ → ℕ → Arbitrated
 unfolding countFlags conditionFlags conditionCount lossControl lossFlags endFlags phaseAfter followed settled writeByte
     edged fallen risen step.sample step.tick zipWith applied judged undecided refusal refused answered wire performed
     through run clearedAt clearedIn clearedBy reply.arbitrated
-arbitrated bytes lengths acknowledges carriedRoom levelRoom =
-    reply.arbitrated bytes lengths acknowledges carriedRoom levelRoom
+arbitrated bytes lengths acknowledges tableRoom carriedRoom levelRoom =
+    reply.arbitrated bytes lengths acknowledges tableRoom carriedRoom levelRoom
+
+unfoldable pub tableAfter : List ℕ → List ℕ → List ℕ → Refusal → List Usi → List Usi
+unfolding countFlags conditionFlags conditionCount lossControl lossFlags endFlags phaseAfter followed settled writeByte
+    edged fallen risen step.sample step.tick zipWith applied judged wire performed through run reply.tableAfter
+tableAfter bytes lengths acknowledges found table = reply.tableAfter bytes lengths acknowledges found table
 
 unfoldable pub carriedAfter : List ℕ → List ℕ → List ℕ → Refusal → List ℕ → List ℕ
 unfolding countFlags conditionFlags conditionCount lossControl lossFlags endFlags phaseAfter followed settled writeByte

@@ -19,7 +19,7 @@ use Rattle.decode.specs.DecodeReply as decode
 use Rattle.arbitration_rules.specs.declared.Arbitrated.{Arbitrated}
 use Rattle.arbitration_rules.specs.declared.Seat.{Seat}
 use Rattle.arbitration_rules.specs.Reply as reply
-use Rattle.worked_numbers.proofs.Computed.{read, write, writeWord, sample, encoded, drawn, decoded, read-into, arbitrated}
+use Rattle.worked_numbers.proofs.Computed.{read, write, writeWord, sample, encoded, drawn, decoded, read-into, arbitrated, tableAfter}
 use Rattle.worked_numbers.proofs.Computed.{carriedAfter, levelsAfter}
 
 abbrev written : ℕ → ℕ → Usi → Usi
@@ -150,24 +150,6 @@ ended usictl0 usictl1 usicnt usisrl latch enable =
       stretch = false;
     }
 
-abbrev pub idle : Usi
-idle =
-    record {
-      usictl0 = 0x01;
-      usictl1 = 0x01;
-      usickctl = 0x00;
-      usicnt = 0x00;
-      usisrl = 0x00;
-      usisrh = 0x00;
-      latch = true;
-      enable = false;
-      phase = true;
-      seen = false;
-      scl = false;
-      sda = false;
-      stretch = false;
-    }
-
 -- it ends with C8 45 22 00 and FF where it is still in
 abbrev pub winner : Usi
 winner = ended 0xc8 0x45 0x00 0xff true true
@@ -181,24 +163,28 @@ lost-at position = record { contending = false; position = position; cleared = 0
 abbrev pub no-seat : Seat
 no-seat = record { contending = false; position = 0; cleared = 0 }
 
--- a reply with so many carried bytes, and a refused one: all else is 0, the modules are as powered up
-abbrev pub answer : List Usi → ℕ → List Seat → Arbitrated
-answer modules count seats = record { refusal = none; modules = modules; count = count; seats = seats }
+-- a reply with so many carried bytes, and a refused one: all else is 0
+abbrev pub answer : ℕ → List Seat → Arbitrated
+answer count seats = record { refusal = none; count = count; seats = seats }
 
 abbrev pub stopped : ℕ → ℕ → Arbitrated
-stopped number place =
-    record { refusal = refusedAt number place; modules = replicate 8 idle; count = 0; seats = replicate 8 no-seat }
+stopped number place = record { refusal = refusedAt number place; count = 0; seats = replicate 16 no-seat }
 
 -- P8: messages 90 12 and 90 0F, acknowledges 0 0: carried 90 0F; the first master lost at position 12. It ends with
 -- C0 4D 22 80 and USISRL 0F; the other with C8 45 22 00 and FF
 abbrev eighth : List ℕ
 eighth = 0x90 ∷ 0x12 ∷ 0x90 ∷ 0x0f ∷ []
 
-pub P8 : reply.arbitrated eighth (2 ∷ 2 ∷ []) (0 ∷ 0 ∷ []) 2 41
-    ≡ answer (ended 0xc0 0x4d 0x80 0x0f false false ∷ winner ∷ replicate 6 idle) 2
-    (lost-at 12 ∷ in-seat ∷ replicate 6 no-seat)
+pub P8 : reply.arbitrated eighth (2 ∷ 2 ∷ []) (0 ∷ 0 ∷ []) 2 2 41
+    ≡ answer 2 (lost-at 12 ∷ in-seat ∷ replicate 14 no-seat)
 unfolding arbitrated
 P8 = refl
+
+-- whatever the table held, and what is past the two stays
+pub P8-table : (a b c : Usi) → reply.tableAfter eighth (2 ∷ 2 ∷ []) (0 ∷ 0 ∷ []) none (a ∷ b ∷ c ∷ [])
+    ≡ ended 0xc0 0x4d 0x80 0x0f false false ∷ winner ∷ c ∷ []
+unfolding tableAfter
+P8-table a b c = refl
 
 pub P8-carried : reply.carriedAfter eighth (2 ∷ 2 ∷ []) (0 ∷ 0 ∷ []) none (7 ∷ 7 ∷ 7 ∷ []) ≡ 0x90 ∷ 0x0f ∷ 7 ∷ []
 unfolding carriedAfter
@@ -211,10 +197,15 @@ unfolding levelsAfter
 P8-levels = refl
 
 -- P9: the same messages, acknowledges 1 0: carried 90, none lost
-pub P9 : reply.arbitrated eighth (2 ∷ 2 ∷ []) (1 ∷ 0 ∷ []) 1 23
-    ≡ answer (winner ∷ winner ∷ replicate 6 idle) 1 (in-seat ∷ in-seat ∷ replicate 6 no-seat)
+pub P9 : reply.arbitrated eighth (2 ∷ 2 ∷ []) (1 ∷ 0 ∷ []) 2 1 23
+    ≡ answer 1 (in-seat ∷ in-seat ∷ replicate 14 no-seat)
 unfolding arbitrated
 P9 = refl
+
+pub P9-table : (a b c : Usi) → reply.tableAfter eighth (2 ∷ 2 ∷ []) (1 ∷ 0 ∷ []) none (a ∷ b ∷ c ∷ [])
+    ≡ winner ∷ winner ∷ c ∷ []
+unfolding tableAfter
+P9-table a b c = refl
 
 pub P9-carried : reply.carriedAfter eighth (2 ∷ 2 ∷ []) (1 ∷ 0 ∷ []) none (7 ∷ 7 ∷ []) ≡ 0x90 ∷ 7 ∷ []
 unfolding carriedAfter
@@ -225,13 +216,18 @@ pub P9-levels : reply.levelsAfter eighth (2 ∷ 2 ∷ []) (1 ∷ 0 ∷ []) none 
 unfolding levelsAfter
 P9-levels = refl
 
--- P10: messages 90 and 90 00, acknowledges 0 0: refusal 16, whatever the buffers, and they stay
+-- P10: messages 90 and 90 00, acknowledges 0 0: refusal 16, whatever table and buffers are, and they stay
 abbrev tenth : List ℕ
 tenth = 0x90 ∷ 0x90 ∷ 0x00 ∷ []
 
-pub P10 : reply.arbitrated tenth (1 ∷ 2 ∷ []) (0 ∷ 0 ∷ []) 0 0 ≡ stopped 16 0
+pub P10 : reply.arbitrated tenth (1 ∷ 2 ∷ []) (0 ∷ 0 ∷ []) 0 0 0 ≡ stopped 16 0
 unfolding arbitrated
 P10 = refl
+
+pub P10-table : (table : List Usi)
+    → reply.tableAfter tenth (1 ∷ 2 ∷ []) (0 ∷ 0 ∷ []) (refusedAt 16 0) table ≡ table
+unfolding tableAfter
+P10-table table = refl
 
 pub P10-carried : (buffer : List ℕ)
     → reply.carriedAfter tenth (1 ∷ 2 ∷ []) (0 ∷ 0 ∷ []) (refusedAt 16 0) buffer ≡ buffer
@@ -244,10 +240,15 @@ unfolding levelsAfter
 P10-levels buffer = refl
 
 -- P11: acknowledges 1 0: carried 90
-pub P11 : reply.arbitrated tenth (1 ∷ 2 ∷ []) (1 ∷ 0 ∷ []) 1 23
-    ≡ answer (winner ∷ winner ∷ replicate 6 idle) 1 (in-seat ∷ in-seat ∷ replicate 6 no-seat)
+pub P11 : reply.arbitrated tenth (1 ∷ 2 ∷ []) (1 ∷ 0 ∷ []) 2 1 23
+    ≡ answer 1 (in-seat ∷ in-seat ∷ replicate 14 no-seat)
 unfolding arbitrated
 P11 = refl
+
+pub P11-table : (a b : Usi) → reply.tableAfter tenth (1 ∷ 2 ∷ []) (1 ∷ 0 ∷ []) none (a ∷ b ∷ [])
+    ≡ winner ∷ winner ∷ []
+unfolding tableAfter
+P11-table a b = refl
 
 pub P11-carried : reply.carriedAfter tenth (1 ∷ 2 ∷ []) (1 ∷ 0 ∷ []) none (7 ∷ 7 ∷ []) ≡ 0x90 ∷ 7 ∷ []
 unfolding carriedAfter
@@ -257,12 +258,15 @@ P11-carried = refl
 abbrev twelfth : List ℕ
 twelfth = 0x90 ∷ 0x90 ∷ 0x00 ∷ 0x50 ∷ []
 
-pub P12 : reply.arbitrated twelfth (1 ∷ 2 ∷ 1 ∷ []) (0 ∷ 0 ∷ []) 1 23
-    ≡ answer
-    (ended 0xc0 0x4d 0x80 0x50 false false ∷ ended 0xc0 0x4d 0x80 0x50 false false ∷ winner ∷ replicate 5 idle) 1
-    (lost-at 0 ∷ lost-at 0 ∷ in-seat ∷ replicate 5 no-seat)
+pub P12 : reply.arbitrated twelfth (1 ∷ 2 ∷ 1 ∷ []) (0 ∷ 0 ∷ []) 3 1 23
+    ≡ answer 1 (lost-at 0 ∷ lost-at 0 ∷ in-seat ∷ replicate 13 no-seat)
 unfolding arbitrated
 P12 = refl
+
+pub P12-table : (a b c : Usi) → reply.tableAfter twelfth (1 ∷ 2 ∷ 1 ∷ []) (0 ∷ 0 ∷ []) none (a ∷ b ∷ c ∷ [])
+    ≡ ended 0xc0 0x4d 0x80 0x50 false false ∷ ended 0xc0 0x4d 0x80 0x50 false false ∷ winner ∷ []
+unfolding tableAfter
+P12-table a b c = refl
 
 pub P12-carried : reply.carriedAfter twelfth (1 ∷ 2 ∷ 1 ∷ []) (0 ∷ 0 ∷ []) none (7 ∷ 7 ∷ []) ≡ 0x50 ∷ 7 ∷ []
 unfolding carriedAfter

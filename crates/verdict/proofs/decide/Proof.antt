@@ -7,7 +7,7 @@ use borrow.Author.Needs.{needs}
 use Rattle.verdict.proofs.decide.Statement.{statement}
 use Rattle.verdict.proofs.decide.Tie as tie
 
--- there are eight seats
+-- there are sixteen seats
 seated : (s : tie.After-first) → length (s .before .before .before .before .args .seats) ≡ maxMasters
 seated s = search needs
 

@@ -6,10 +6,10 @@ use Rattle.cases_arbitration.proofs.show.masters.Statement.{statement}
 use Rattle.cases_arbitration.proofs.show.masters.Tie as tie
 
 abbrev Inv-loop : tie.InvT-loop
-Inv-loop modules seats i₀ i = Unit {0}
+Inv-loop count modules seats i₀ i = Unit {0}
 
 abbrev μ-loop : tie.MeasureT-loop
-μ-loop modules seats i₀ i = maxMasters - i
+μ-loop count modules seats i₀ i = maxMasters - i
 
 loop-holds : tie.Need-loop-holds Inv-loop μ-loop
 loop-holds c = search needs

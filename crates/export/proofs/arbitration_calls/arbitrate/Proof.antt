@@ -9,13 +9,12 @@ use borrow.Author.Needs.{needs}
 use borrow.Author.Tests.{ltb-false}
 use Rattle.laws.specs.declared.Refusal.{Refusal}
 use Rattle.laws.proofs.Bools.{neither}
-use Rattle.arbitration_rules.specs.Limits.{maxMasters}
 use Rattle.arbitration_rules.proofs.Carry.{Bytes}
 use Rattle.arbitration_checks.specs.declared.Settled.{Settled}
 use Rattle.arbitration.proofs.Given.{bytes-below, settled-some, settled-none}
 use Rattle.export.specs.Arbitration.{Lent}
 use Rattle.export.proofs.Contract.{found, short, shortTable, found-placed, refused-before, refused-short}
-use Rattle.export.proofs.Contract.{libraryReply, refused-place, answered-small, refused-by-library}
+use Rattle.export.proofs.Contract.{libraryReply, refused-place, masters-few, answered-small, refused-by-library}
 use Rattle.export.proofs.Contract.{answered-by-library}
 use Rattle.export.proofs.arbitration_calls.arbitrate.Statement.{statement}
 use Rattle.export.proofs.arbitration_calls.arbitrate.Tie as tie
@@ -71,23 +70,27 @@ returns-2 c =
     let all = refused-short lent 8 passes tight refl in
     (all .returns, all .follows)
 
-arbitrate-requires : tie.Need-arbitrate-requires
-arbitrate-requires c κs = search needs
+rehearse-requires : tie.Need-rehearse-requires
+rehearse-requires c κs = search needs
 
 -- the library's reply, with tables that are long enough
-abbrev lentAgain : tie.After-arbitrate → Lent
+abbrev lentAgain : tie.After-rehearse → Lent
 lentAgain s = lentAt (s .before .before .before .before)
 
-roomy : (s : tie.After-arbitrate) → shortTable (lentAgain s) ≡ false
+roomy : (s : tie.After-rehearse) → shortTable (lentAgain s) ≡ false
 roomy s = s .before .before .before .if1 .left
 
-replied : (s : tie.After-arbitrate) → s .arbitrate .result ≡ libraryReply (lentAgain s) (roomy s)
-replied s = s .arbitrate .ensures .0
+smallAgain : (s : tie.After-rehearse) → Bytes (lentAgain s .bytes)
+smallAgain s = small (s .before .before .before .before)
+
+replied : (s : tie.After-rehearse)
+    → s .rehearse .result .reply ≡ libraryReply (lentAgain s) (smallAgain s) (roomy s)
+replied s = s .rehearse .ensures .replies
 
 refused-requires-2 : tie.Need-refused-requires-2
 refused-requires-2 c κs =
-    let s = c .before .before .before .before .before .before .before in
-    refused-place (lentAgain s) (roomy s) (s .arbitrate .result) (replied s) (c .if3 .taken)
+    let s = c .before .before .before .before .before .before .before .before in
+    refused-place (lentAgain s) (smallAgain s) (roomy s) (s .rehearse .result .reply) (replied s) (c .if3 .taken)
 
 same-length : tie.Need-same-length
 same-length c = search needs
@@ -97,36 +100,45 @@ same-length-2 c = search needs
 
 returns-3 : tie.Need-returns-3
 returns-3 c =
-    let s = c .before .before .before .before .before .before .before .before in
-    let done = s .arbitrate .ensures in
-    let all = refused-by-library (lentAgain s) (roomy s) (s .arbitrate .result) (c .refused2 .result) _ _ (replied s)
-    (c .before .if3 .taken) (c .refused2 .ensures) (done .1 .0) (done .1 .1 .0) in
+    let s = c .before .before .before .before .before .before .before .before .before in
+    let done = s .rehearse .ensures in
+    let all = refused-by-library (lentAgain s) (smallAgain s) (roomy s) (s .rehearse .result .reply)
+    (c .refused2 .result) _ _ (replied s) (c .before .if3 .taken) (c .refused2 .ensures) (done .carried) (done .recorded)
+    in
     (all .returns, all .follows)
 
-long-enough : (s : tie.After-arbitrate)
-    → (maxMasters ≤ length (lentAgain s .modules)) × (maxMasters ≤ length (lentAgain s .seats))
+long-enough : (s : tie.After-rehearse)
+    → (length (lentAgain s .lengths) ≤ length (lentAgain s .modules))
+    × (length (lentAgain s .lengths) ≤ length (lentAgain s .seats))
 long-enough s =
     let lent = lentAgain s in
-    let two = neither (ltb (length (lent .modules)) maxMasters) (ltb (length (lent .seats)) maxMasters) (roomy s) in
-    (ltb-false (length (lent .modules)) maxMasters (two .0), ltb-false (length (lent .seats)) maxMasters (two .1))
+    let masters = length (lent .lengths) in
+    let two = neither (ltb (length (lent .modules)) masters) (ltb (length (lent .seats)) masters) (roomy s) in
+    (ltb-false (length (lent .modules)) masters (two .0), ltb-false (length (lent .seats)) masters (two .1))
 
 put-modules-requires : tie.Need-put-modules-requires
 put-modules-requires c κs =
-    let s = c .before .before .before .before .before .before .before .before .before in
-    long-enough s .0
+    let at = c .before .before in
+    let s = at .before .before .before .before .before .before .before .before in
+    (
+      masters-few (lentAgain s) (smallAgain s) (roomy s) (s .rehearse .result .reply) (replied s) (at .if3 .left),
+      long-enough s .0,
+    )
 
 put-seats-requires : tie.Need-put-seats-requires
 put-seats-requires c κs =
-    let filled = c .before .before .before .before .before in
-    let s = filled .before .before .before .before .before .before .before .before .before in
-    long-enough s .1
+    let at = c .before .before .before .before .before .before .before in
+    let s = at .before .before .before .before .before .before .before .before in
+    (
+      masters-few (lentAgain s) (smallAgain s) (roomy s) (s .rehearse .result .reply) (replied s) (at .if3 .left),
+      long-enough s .1,
+    )
 
 reply-requires : tie.Need-reply-requires
 reply-requires c κs =
     let at = c .before .before .before .before .before .before .before .before .before .before in
-    let s = at .before .before .before .before .before .before .before in
-    answered-small (lentAgain s) (roomy s) (small (s .before .before .before .before)) (s .arbitrate .result)
-    (replied s) (at .if3 .left)
+    let s = at .before .before .before .before .before .before .before .before in
+    answered-small (lentAgain s) (smallAgain s) (roomy s) (s .rehearse .result .reply) (replied s) (at .if3 .left)
 
 same-length-3 : tie.Need-same-length-3
 same-length-3 c = search needs
@@ -145,11 +157,11 @@ returns-4 c =
     let seated = c .before .before .before in
     let placed = seated .before .before .before .before .before in
     let at = placed .before .before .before in
-    let s = at .before .before .before .before .before .before .before in
-    let done = s .arbitrate .ensures in
-    let all = answered-by-library (lentAgain s) (roomy s) (small (s .before .before .before .before))
-    (s .arbitrate .result) (c .reply .result) _ _ _ _ (replied s) (at .if3 .left) (c .reply .ensures) (done .1 .0)
-    (done .1 .1 .0) (placed .put-modules .ensures) (seated .put-seats .ensures) (done .1 .1 .1 .0) in
+    let s = at .before .before .before .before .before .before .before .before in
+    let done = s .rehearse .ensures in
+    let all = answered-by-library (lentAgain s) (smallAgain s) (roomy s) (s .rehearse .result .reply) (c .reply .result)
+    (s .rehearse .result .modules) _ _ _ _ (replied s) (at .if3 .left) (c .reply .ensures) (done .stepped)
+    (done .carried) (done .recorded) (placed .put-modules .ensures) (seated .put-seats .ensures) (done .follows) in
     (all .returns, all .follows)
 
 pub arbitrate-spec : {M : Type 1} → statement M
@@ -160,7 +172,7 @@ arbitrate-spec =
     refused-requires
     returns
     returns-2
-    arbitrate-requires
+    rehearse-requires
     refused-requires-2
     same-length
     same-length-2

@@ -1,22 +1,28 @@
 -- The table is written entry by entry.
-use mathlib.Core.Path.{_≡_, _∙_}
+use mathlib.Core.Path.{_≡_}
 use mathlib.Core.List.{map}
 use Prim.Native.Nat.{_≤_, _<_, _-_}
 use native.Mathlib.Omega.{arith}
-use lib.ListN.{length, length-map}
+use lib.ListN.{length, take}
 use borrow.Author.Needs.{needs}
-use Rattle.arbitration_rules.specs.Limits.{maxMasters}
 use Rattle.export.specs.Packed.{packed}
 use Rattle.export.proofs.WrittenTable.{Written, written-none, written-long, written-more, written-done}
-use Rattle.export.proofs.WrittenTable.{mapped-entry}
+use Rattle.export.proofs.WrittenTable.{entries-long, entry-at}
 use Rattle.export.proofs.arbitration_calls.put_modules.Statement.{statement}
 use Rattle.export.proofs.arbitration_calls.put_modules.Tie as tie
 
 abbrev Inv-loop : tie.InvT-loop
-Inv-loop table₀ modules i₀ table i = (i ≤ maxMasters) × Written (map packed modules) table₀ table i
+Inv-loop count table₀ modules i₀ table i = (i ≤ count) × Written (map packed (take count modules)) table₀ table i
 
 abbrev μ-loop : tie.MeasureT-loop
-μ-loop table₀ modules i₀ table i = maxMasters - i
+μ-loop count table₀ modules i₀ table i = count - i
+
+long : (start : tie.Start Inv-loop μ-loop) → length (map packed (take (start .args .count) (start .args .t1))) ≡ start .args .count
+long start = entries-long packed (start .args .t1) (start .args .count) (search needs)
+
+room : (start : tie.Start Inv-loop μ-loop)
+    → length (map packed (take (start .args .count) (start .args .t1))) ≤ length (start .args .table .now)
+room start = rw (long start) (start .pre .1)
 
 loop-holds : tie.Need-loop-holds Inv-loop μ-loop
 loop-holds c = (omega arith, written-none _ _)
@@ -36,9 +42,7 @@ mul-table c = search needs
 slice-write-table : tie.Need-slice-write-table Inv-loop μ-loop
 slice-write-table c =
     let start = c .before .before .before .before .before in
-    let long : length (map packed (start .args .t1)) ≡ maxMasters = length-map (start .args .t1) packed ∙ search needs in
-    let room : length (map packed (start .args .t1)) ≤ length (start .args .table .now) = rw long (start .pre) in
-    omega (arith, written-long _ _ _ _ room (c .before .before .before .loop .inv .1), start .pre)
+    omega (arith, written-long _ _ _ _ (room start) (c .before .before .before .loop .inv .1), start .pre .1)
 
 add-i : tie.Need-add-i Inv-loop μ-loop
 add-i c = search needs
@@ -49,29 +53,23 @@ loop-less c = search needs
 loop-again : tie.Need-loop-again Inv-loop μ-loop
 loop-again c =
     let start = c .before .before .before .before .before in
-    let i = c .before .before .before .loop .i in
-    let long : length (map packed (start .args .t1)) ≡ maxMasters = length-map (start .args .t1) packed ∙ search needs in
-    let room : length (map packed (start .args .t1)) ≤ length (start .args .table .now) = rw long (start .pre) in
-    let more : i < length (map packed (start .args .t1)) = rw long (search needs) in (
+    let less = c .before .before .loop-test .taken in
+    let more : c .before .before .before .loop .i < length (map packed (take (start .args .count) (start .args .t1))) =
+    rw (long start) less in (
       search needs,
-      written-more _ _ _ _ room (c .before .before .before .loop .inv .1) (c .packed .result) _ more
-          (mapped-entry packed (start .args .t1) i _ (c .packed .result) (c .packed .ensures .0)),
+      written-more _ _ _ _ (room start) (c .before .before .before .loop .inv .1) (c .packed .result) _ more
+          (entry-at packed (start .args .t1) (start .args .count) (search needs) _ _ (c .packed .result) less (c .packed .ensures .0)),
     )
 
 same-length : tie.Need-same-length Inv-loop μ-loop
-same-length c =
-    let start = c .before .before .before in
-    let long : length (map packed (start .args .t1)) ≡ maxMasters = length-map (start .args .t1) packed ∙ search needs in
-    let room : length (map packed (start .args .t1)) ≤ length (start .args .table .now) = rw long (start .pre) in
-    written-long _ _ _ _ room (c .before .loop .inv .1)
+same-length c = written-long _ _ _ _ (room (c .before .before .before)) (c .before .loop .inv .1)
 
 returns : tie.Need-returns Inv-loop μ-loop
 returns c =
     let start = c .before .before .before in
-    let long : length (map packed (start .args .t1)) ≡ maxMasters = length-map (start .args .t1) packed ∙ search needs in
-    let room : length (map packed (start .args .t1)) ≤ length (start .args .table .now) = rw long (start .pre) in
-    let all : length (map packed (start .args .t1)) ≤ c .before .loop .i = rw long (search needs) in
-    written-done _ _ _ _ room (c .before .loop .inv .1) all
+    let all : length (map packed (take (start .args .count) (start .args .t1))) ≤ c .before .loop .i =
+    rw (long start) (omega (arith, c .loop-test .left)) in
+    written-done _ _ _ _ (room start) (c .before .loop .inv .1) all
 
 pub put-modules-spec : {M : Type 1} → statement M
 put-modules-spec =
