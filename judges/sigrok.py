@@ -106,10 +106,10 @@ def read(folder, levels):
 
 
 def load(rng):
-    """Two to eight boards with a long shared beginning, and all acknowledged but perhaps one byte."""
+    """Two to sixteen boards with a long shared beginning, and all acknowledged but perhaps one byte."""
     shared = [rng.randrange(0, 256, 2)] + [rng.randrange(256) for _ in range(rng.randint(0, 4))]
     size = len(shared) + rng.randint(1, 4)
-    boards = [shared + [rng.randrange(256) for _ in range(size - len(shared))] for _ in range(rng.randint(2, 8))]
+    boards = [shared + [rng.randrange(256) for _ in range(size - len(shared))] for _ in range(rng.randint(2, 16))]
     acks = [0] * size
     if rng.randrange(3) == 0:
         acks[rng.randrange(size)] = 1

@@ -649,7 +649,7 @@ building() {
     local calls="clash $examples/p8.loads"
     scratch
     # shellcheck disable=SC2086
-    RT_SLOW=3 RIG_PATIENCE=1 pretend $calls
+    RT_SLOW=6 RIG_PATIENCE=1 pretend $calls
     holds "[ $? = 0 ]" "the first use: $(tail -n 1 out)"
     holds 'grep -qx "rig: crate 1 of 3: text proved (1 s)" err' "no count of crates: $(cat err)"
     holds 'grep -q "^rig: crate 1 of 3: still at text (" err' "a silent build: $(cat err)"

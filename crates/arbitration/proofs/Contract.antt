@@ -28,10 +28,11 @@ use Rattle.arbitration_run.specs.Rows.{rowsOf}
 use Rattle.arbitration_run.specs.Sequence.{first}
 use Rattle.arbitration_turns.specs.Turns.{Turn, Reached, ended, more}
 use Rattle.arbitration_turns.proofs.Ran as ran
-use Rattle.arbitration.specs.declared.plan.Plan.{Plan}
+use Rattle.arbitration.specs.declared.prepare.Prepared.{Prepared}
 use Rattle.arbitration.specs.Shown as shows
-use Rattle.arbitration.specs.Shown.{Lent, shown, clearedIn, allCleared, OnlyUndecided, Arbitrates, Planned, begunBy}
-use Rattle.arbitration.specs.Shown.{repliedBy, repliedTo}
+use Rattle.arbitration.specs.Shown.{Lent, shown, clearedIn, allCleared, OnlyUndecided, Arbitrates}
+use Rattle.arbitration.specs.Prepared.{Prepares, begunBy}
+use Rattle.arbitration.specs.Prepared.{repliedBy, repliedTo}
 use Rattle.arbitration.proofs.Given.{bytes-below, arbitration, whole, short, carried-length, levels-length}
 use Rattle.arbitration.proofs.Given.{Unrefused, unrefused-gives}
 
@@ -245,32 +246,32 @@ module _ (bytes lengths acknowledges : List ℕ) (entry : Lent) where
   stays (ended turn still) stopped = refl
   stays (more turn final runs after) stopped = absurd (false≢true (sym stopped ∙ runs))
 
-  -- what was planned, and where it ended
-  pub promised : (plan : Plan)
-      → Planned bytes lengths acknowledges (length (entry .table)) (length (entry .carried)) (length (entry .levels)) plan
+  -- what was prepares, and where it ended
+  pub promised : (prepared : Prepared)
+      → Prepares bytes lengths acknowledges (length (entry .table)) (length (entry .carried)) (length (entry .levels)) prepared
       → (final : Turn)
-      → Reached (plan .count) (rowsOf messages) acknowledges
+      → Reached (prepared .count) (rowsOf messages) acknowledges
       (record {
-        sequencer = plan .first;
+        sequencer = prepared .first;
         table = entry .table;
         carried = entry .carried;
         levels = entry .levels;
       })
       final
-      → (reply : Arbitrated) → reply ≡ repliedTo plan (final .sequencer)
+      → (reply : Arbitrated) → reply ≡ repliedTo prepared (final .sequencer)
       → Promise (record { table = final .table; carried = final .carried; levels = final .levels }) reply
   unfolding begunBy repliedTo
-  promised plan planned final reached reply is = go (eqb (plan .refusal .number) 0) refl
+  promised prepared prepares final reached reply is = go (eqb (prepared .refusal .number) 0) refl
     where
-      go : (runs : Bool) → eqb (plan .refusal .number) 0 ≡ runs
+      go : (runs : Bool) → eqb (prepared .refusal .number) 0 ≡ runs
           → Promise (record { table = final .table; carried = final .carried; levels = final .levels }) reply
       go true runs =
           let number : whatApplies .number ≡ 0 =
-          ap (λ (r : Refusal). r .number) (sym (planned .applies)) ∙ eqb-true (plan .refusal .number) 0 runs in
-          ran-clauses (bytes-below bytes (planned .small)) number final
-          (rw (planned .masters, planned .begins, runs) at reached) reply
-          (rw (planned .masters, runs) at is)
+          ap (λ (r : Refusal). r .number) (sym (prepares .applies)) ∙ eqb-true (prepared .refusal .number) 0 runs in
+          ran-clauses (bytes-below bytes (prepares .small)) number final
+          (rw (prepares .masters, prepares .begins, runs) at reached) reply
+          (rw (prepares .masters, runs) at is)
       go false runs =
-          let same = stays reached (rw (planned .begins, runs)) in
-          rw same (refused-clauses (plan .refusal) reply (sym (planned .applies))
-          (eqb-false (plan .refusal .number) 0 runs) (rw runs at is))
+          let same = stays reached (rw (prepares .begins, runs)) in
+          rw same (refused-clauses (prepared .refusal) reply (sym (prepares .applies))
+          (eqb-false (prepared .refusal .number) 0 runs) (rw runs at is))

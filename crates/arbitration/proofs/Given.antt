@@ -25,7 +25,7 @@ use Rattle.arbitration_rules.proofs.Accepted.{message-numbered, passes}
 use Rattle.arbitration_checks.specs.Settled.{stoppedBy, carrying, settledBy, settled}
 use Rattle.arbitration_checks.proofs.Sums.{longest-within}
 use Rattle.arbitration_checks.proofs.Decided.{good-acknowledges, least-within}
-use Rattle.arbitration.specs.Shown.{Short}
+use Rattle.arbitration.specs.Prepared.{Short}
 
 -- bytes, index by index
 pub bytes-below : (bytes : List ℕ) → ((i : ℕ) → getD bytes i 0 < 256) → Bytes bytes

@@ -5,5 +5,5 @@ pub mod Inputs
 pub mod PassLaws
 pub mod Weight
 pub mod Given
-pub mod Planning
+pub mod Preparing
 pub mod Contract

@@ -31,8 +31,8 @@ use Rattle.arbitration_rules.proofs.Arbitrated.Laws as reply-laws
 use Rattle.arbitration.proofs.Rehearsed as rehearsed-type
 use Rattle.arbitration.proofs.Rehearsed.Laws as rehearsed-laws
 use Rattle.arbitration.specs.declared.Rehearsed.{Rehearsed}
-use Rattle.arbitration.proofs.plan.Plan as plan-type
-use Rattle.arbitration.proofs.plan.Plan.Laws as plan-laws
+use Rattle.arbitration.proofs.prepare.Prepared as prepared-type
+use Rattle.arbitration.proofs.prepare.Prepared.Laws as prepared-laws
 use Rattle.usi.specs.declared.Usi.{Usi}
 use Rattle.arbitration_rules.specs.Limits.{maxMasters, maxLength}
 use Rattle.arbitration_run.specs.declared.sequencer.Sequencer.{Sequencer}
@@ -85,14 +85,14 @@ abbrev pub rows : ByValue rows-row
 rows = array (array (uint w8) maxLength) maxMasters
 
 -- what a call is to do
-abbrev pub plan-row : RattleType
-plan-row = plan-type.the-row
+abbrev pub prepared-row : RattleType
+prepared-row = prepared-type.the-row
 
-abbrev pub plan-mir : Ty
-plan-mir = plan-laws.mir
+abbrev pub prepared-mir : Ty
+prepared-mir = prepared-laws.mir
 
-abbrev pub plan : ByValue plan-row
-plan = declared plan-type.the-type plan-laws.the-laws plan-laws.the-plain
+abbrev pub prepared : ByValue prepared-row
+prepared = declared prepared-type.the-type prepared-laws.the-laws prepared-laws.the-plain
 
 -- the reply
 abbrev pub reply-row : RattleType

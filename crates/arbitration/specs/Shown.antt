@@ -1,10 +1,9 @@
 -- What a caller sees of an arbitration, for its contract.
-use Prim.Native.Nat.{ℕ, _+_, _<_, _≤_}
+use Prim.Native.Nat.{ℕ, _+_}
 use mathlib.Core.Path.{_≡_}
-use mathlib.Core.Bool.{Bool, cond, false, _||_}
+use mathlib.Core.Bool.{cond, false}
 use mathlib.Core.List.{List, map, zipWith}
-use lib.Dec.{eqb, ltb}
-use lib.ListN.{length, getD, take, replicate}
+use lib.ListN.{length, take, replicate}
 use Rattle.bits.specs.Positions.{on}
 use Rattle.laws.specs.declared.Refusal.{Refusal}
 use Rattle.laws.specs.Refusals.{refusedAt, none}
@@ -13,15 +12,10 @@ use Rattle.usi_registers.specs.Registers.{USIAL, USISTTIFG, USIIFG}
 use Rattle.usi.specs.declared.Usi.{Usi}
 use Rattle.arbitration_rules.specs.declared.Arbitrated.{Arbitrated}
 use Rattle.arbitration_rules.specs.declared.Seat.{Seat}
-use Rattle.arbitration_rules.specs.Limits.{maxMasters}
 use Rattle.arbitration_rules.specs.Outcome.{Fate, Outcome, outcome, levelCount, undecided}
-use Rattle.arbitration_rules.specs.Reply.{messagesOf, badCount, badLengths, reads, badAcknowledges, shortSlice, refusal}
-use Rattle.arbitration_rules.specs.Reply.{refused, arbitrated, tableAfter, carriedAfter, levelsAfter}
+use Rattle.arbitration_rules.specs.Reply.{messagesOf, badCount, badLengths, reads, badAcknowledges, shortSlice}
+use Rattle.arbitration_rules.specs.Reply.{arbitrated, tableAfter, carriedAfter, levelsAfter}
 use Rattle.arbitration_rules.specs.Run.{run}
-use Rattle.arbitration_run.specs.declared.sequencer.Sequencer.{Sequencer}
-use Rattle.arbitration_run.specs.Members.{seats}
-use Rattle.arbitration_run.specs.Sequence.{first}
-use Rattle.arbitration.specs.declared.plan.Plan.{Plan}
 
 -- the fate of a master: whether it is still in, its position, and its AL
 abbrev pub fateOf : Usi → Seat → Fate
@@ -67,10 +61,11 @@ OnlyUndecided bytes lengths acknowledges lent found =
     ≡ false
     → found ≡ cond (undecided (messagesOf lengths bytes) acknowledges) (refusedAt 16 0) none
 
--- What an arbitration promises. The reply is that of 01's steps 1 to 4, or the first refusal that applies; each lent slice
--- holds what the run gives, and its rest stays, or at a refusal all of it. What a run shows is what follows from messages
--- and acknowledges alone (01: demand 3); the writes of each master cleared STTIFG and IFG (02: Ask 12); and what no other
--- refusal stops is refused exactly when the smallest message is acknowledged to its end and another goes on from there.
+-- What an arbitration promises. The reply is that of 01's steps 1 to 4, or the first refusal that applies; each lent
+-- slice holds what the run gives, and its rest stays, or at a refusal all of it. What a run shows is what follows from
+-- messages and acknowledges alone (01: demand 3); the writes of each master cleared STTIFG and IFG (02: Ask 12); and
+-- what no other refusal stops is refused exactly when the smallest message is acknowledged to its end and another goes
+-- on from there.
 pub record Arbitrates (bytes lengths acknowledges : List ℕ) (entry exit : Lent) (reply : Arbitrated) : Type 0 where
   pub replies : reply
       ≡ arbitrated bytes lengths acknowledges (length (entry .table)) (length (entry .carried)) (length (entry .levels))
@@ -81,49 +76,3 @@ pub record Arbitrates (bytes lengths acknowledges : List ℕ) (entry exit : Lent
       → shown (length lengths) reply exit ≡ outcome (messagesOf lengths bytes) acknowledges
   pub clears : reply .refusal .number ≡ 0 → clearedIn (length lengths) reply ≡ allCleared (length lengths)
   pub refuses : OnlyUndecided bytes lengths acknowledges entry (reply .refusal)
-
--- a lent slice is too short for so many masters and bytes
-abbrev pub Short : ℕ → ℕ → ℕ → ℕ → ℕ → Bool
-Short masters count tableRoom carriedRoom levelRoom =
-    ltb carriedRoom count || ltb levelRoom (levelCount count) || ltb tableRoom masters
-
--- a sequencer that makes no turn
-abbrev pub stopped : Sequencer → Sequencer
-stopped sequencer =
-    record {
-      running = false;
-      part = sequencer .part;
-      at = sequencer .at;
-      loading = sequencer .loading;
-      index = sequencer .index;
-      sent = sequencer .sent;
-      wire = sequencer .wire;
-      members = sequencer .members;
-    }
-
--- the sequencer before its first turn; after a refusal it makes none
-unfoldable pub begunBy : Refusal → List ℕ → Sequencer
-begunBy found lengths = cond (eqb (found .number) 0) (first lengths) (stopped (first lengths))
-
--- what a call is to do: it runs all masters, or after a refusal none, and there is room for those that run
-pub record Planned (bytes lengths acknowledges : List ℕ) (tableRoom carriedRoom levelRoom : ℕ) (plan : Plan) : Type 0 where
-  pub small : (i : ℕ) → getD bytes i 0 < 256
-  pub applies : plan .refusal ≡ refusal bytes lengths acknowledges tableRoom carriedRoom levelRoom
-  pub masters : plan .count ≡ cond (eqb (plan .refusal .number) 0) (length lengths) 0
-  pub begins : plan .first ≡ begunBy (plan .refusal) lengths
-  pub few : plan .count ≤ maxMasters
-  pub fit : plan .count ≤ tableRoom
-
--- the reply of a run that ended so
-unfoldable pub repliedBy : Sequencer → ℕ → Arbitrated
-repliedBy ended count =
-    record {
-      refusal = none;
-      count = ended .sent;
-      seats = seats (ended .members .contending) (ended .members .positions) count;
-    }
-
--- the reply of what was planned so, and ended so
-unfoldable pub repliedTo : Plan → Sequencer → Arbitrated
-repliedTo plan ended =
-    cond (eqb (plan .refusal .number) 0) (repliedBy ended (plan .count)) (refused (plan .refusal))

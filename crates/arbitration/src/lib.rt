@@ -1,10 +1,7 @@
 // I2C arbitration: masters that start together on an idle bus, and who of them keeps it (01: the clash runner).
-ghost use lib.ListN.{replicate};
-ghost use Rattle.usi.specs.Module.{powerUp};
-ghost use Rattle.arbitration_rules.specs.Limits.{maxMasters};
 ghost use Rattle.arbitration.specs.Shown.{Arbitrates};
 
-mod plan; // plan.rt: what a call is to do, decided before anything is written
+mod prepare; // prepare.rt: what a call is to do, decided before anything is written
 mod reply; // reply.rt: what arbitrate answers, of a refusal and of a run
 mod table; // table.rt: a pass over a table of modules, and a run
 
@@ -29,7 +26,7 @@ pub fn arbitrate(
         (record { table = now (table .entry); carried = now (carried .entry); levels = now (levels .entry) })
         (record { table = now (table .exit); carried = now (carried .exit); levels = now (levels .exit) }) r ⌝ }
 {
-    let plan = plan::planned(
+    let prepared = prepare::prepare(
         bytes,
         lengths,
         acks,
@@ -38,18 +35,27 @@ pub fn arbitrate(
         levels.len(),
     );
     let rows = arbitration_run::cut(bytes, lengths);
-    let ended = table::run(table, plan.count, plan.first, rows, acks, carried, levels);
-    reply::replied(plan, ended)
+    let ended = table::run(
+        table,
+        prepared.count,
+        prepared.first,
+        rows,
+        acks,
+        carried,
+        levels,
+    );
+    reply::replied(prepared, ended)
 }
 
-// An arbitration over a table of its own.
+// A rehearsal: the reply, and the table of modules as it then stands.
 pub struct Rehearsed {
     pub reply: Arbitrated,
     pub modules: [Usi; MAX_MASTERS],
 }
 
-// The same over modules that are powered up, for callers by value.
+// The same over a table by value, for callers that hold none to lend.
 pub fn rehearse(
+    mut modules: [Usi; MAX_MASTERS],
     bytes: &[u8],
     lengths: &[u32],
     acks: &[u8],
@@ -57,14 +63,9 @@ pub fn rehearse(
     levels: &mut [u8],
 ) -> Rehearsed
     ensures { λ r. ⌜ Arbitrates (now (bytes .entry)) (now (lengths .entry)) (now (acks .entry))
-        (record {
-          table = replicate maxMasters (powerUp 0 0);
-          carried = now (carried .entry);
-          levels = now (levels .entry);
-        })
+        (record { table = modules; carried = now (carried .entry); levels = now (levels .entry) })
         (record { table = r .modules; carried = now (carried .exit); levels = now (levels .exit) }) (r .reply) ⌝ }
 {
-    let mut modules = [Usi::power_up(0, 0); MAX_MASTERS];
     let reply = arbitrate(&mut modules, bytes, lengths, acks, carried, levels);
     Rehearsed { reply, modules }
 }

@@ -1,8 +1,8 @@
 // The reply: of a refusal, and of a run.
 ghost use mathlib.Core.Path.{_≡_};
 ghost use Rattle.arbitration_rules.specs.Reply.{refused as refusedReply};
-ghost use Rattle.arbitration.specs.Shown.{repliedBy, repliedTo};
-use crate::plan::Plan;
+ghost use Rattle.arbitration.specs.Prepared.{repliedBy, repliedTo};
+use crate::prepare::Prepared;
 use arbitration_rules::Arbitrated;
 use arbitration_rules::MAX_MASTERS;
 use arbitration_rules::Seat;
@@ -42,12 +42,12 @@ fn answered(sequencer: Sequencer, count: usize) -> Arbitrated
 }
 
 // The reply of what was refused, or else ran.
-pub(crate) fn replied(plan: Plan, sequencer: Sequencer) -> Arbitrated
-    ensures { λ r. ⌜ r ≡ repliedTo plan sequencer ⌝ }
+pub(crate) fn replied(prepared: Prepared, sequencer: Sequencer) -> Arbitrated
+    ensures { λ r. ⌜ r ≡ repliedTo prepared sequencer ⌝ }
 {
-    let refusal = plan.refusal;
+    let refusal = prepared.refusal;
     if refusal.number != 0 {
         return refused(refusal);
     }
-    answered(sequencer, plan.count)
+    answered(sequencer, prepared.count)
 }

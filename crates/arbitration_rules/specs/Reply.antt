@@ -66,8 +66,8 @@ messageChecks bytes lengths acknowledges =
     ∷ check 16 (undecided (messagesOf lengths bytes) acknowledges)
     ∷ []
 
--- 8: a lent slice is shorter than the reply needs: a buffer than what the run carries, or records; or a table that has no
--- entry for each message.
+-- 8: a lent slice is shorter than the reply needs: a buffer than what the run carries, or records; or a table that has
+-- no entry for each message.
 abbrev pub shortBuffer : Bus → ℕ → ℕ → Bool
 shortBuffer bus carriedRoom levelRoom =
     ltb carriedRoom (length (bus .carried)) || ltb levelRoom (length (bus .levels))
@@ -116,7 +116,8 @@ arbitrated bytes lengths acknowledges tableRoom carriedRoom levelRoom =
     cond (eqb (found .number) 0) (answered (clearedBy messages acknowledges) (run messages acknowledges))
     (refused found)
 
--- The table after it: the modules of the run, one for each message, and the rest as it was; at a refusal all as it was.
+-- The table after it: the modules of the run, one for each message, and the rest as it was; at a refusal all as it
+-- was.
 unfoldable pub tableAfter : List ℕ → List ℕ → List ℕ → Refusal → List Usi → List Usi
 tableAfter bytes lengths acknowledges found table =
     cond (eqb (found .number) 0)

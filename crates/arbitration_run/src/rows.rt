@@ -1,4 +1,4 @@
-// Messages as rows by value, one for each master (01: up to eight plans of up to 32 bytes each).
+// Messages as rows by value, one for each master (01: plans; up to sixteen of up to 64 bytes each).
 ghost use mathlib.Core.Path.{_≡_};
 ghost use Prim.Native.Nat.{_-_, _≤_};
 ghost use lib.ListN.{length, getD, take, drop};

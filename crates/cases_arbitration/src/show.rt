@@ -9,6 +9,9 @@ use usi::Usi;
 // Room for a module.
 const MODULE: usize = 96;
 
+// The shift bytes of the table's modules before a run.
+const HELD: u8 = 0xee;
+
 // What a buffer holds.
 enum Entries {
     Bytes,
@@ -124,7 +127,8 @@ pub fn arbitration(
     carried: &mut [u8],
     levels: &mut [u8],
 ) {
-    let done = arbitration::rehearse(bytes, lengths, acks, carried, levels);
+    let held = [Usi::power_up(HELD, HELD); MAX_MASTERS];
+    let done = arbitration::rehearse(held, bytes, lengths, acks, carried, levels);
     replied(done, lengths.len());
     buffer(b"  carried ", carried, Entries::Bytes);
     buffer(b"  levels ", levels, Entries::Levels);

@@ -95,7 +95,8 @@ pub extern "C" fn arbitrate(
         }
         return 8;
     }
-    let done = arbitration::rehearse(bytes, lengths, acks, carried, levels);
+    let table = [Usi::power_up(0, 0); MAX_MASTERS];
+    let done = arbitration::rehearse(table, bytes, lengths, acks, carried, levels);
     let answer = done.reply;
     let found = answer.refusal;
     if found.number != 0 {

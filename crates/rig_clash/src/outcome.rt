@@ -190,7 +190,8 @@ fn rehearsed(
     carried: &mut [u8],
     levels: &mut [u8],
 ) -> Outcome {
-    let done = arbitration::rehearse(bytes, lengths, acks, carried, levels);
+    let table = [Usi::power_up(0, 0); MAX_MASTERS];
+    let done = arbitration::rehearse(table, bytes, lengths, acks, carried, levels);
     let verdict = verdict::judge(done.reply, bytes, lengths, acks);
     told(load, done, refused_first(load, verdict), carried)
 }

@@ -3,10 +3,12 @@ use mathlib.Core.Path.{_≡_, refl}
 use mathlib.Core.List.{List, [], _∷_, _++_}
 use Prim.Native.Nat.{ℕ}
 use lib.ListN.{replicate}
-use Rattle.arbitration_rules.specs.Reply.{arbitrated, messagesOf}
+use Rattle.laws.specs.Refusals.{none}
+use Rattle.usi.specs.declared.Usi.{Usi}
+use Rattle.arbitration_rules.specs.Reply.{arbitrated, tableAfter, messagesOf}
 use Rattle.arbitration_checks.specs.Order.{leastIndex}
 use Rattle.worked_numbers.proofs.Computed as computed
-use Rattle.worked_numbers.proofs.Worked.{answer, stopped, in-seat, no-seat}
+use Rattle.worked_numbers.proofs.Worked.{answer, stopped, winner, in-seat, no-seat}
 
 -- 12: no message, or more than sixteen; then nothing else is read
 pub refuses-12 : (arbitrated [] [] [] 0 0 0 ≡ stopped 12 0)
@@ -46,6 +48,12 @@ refuses-8 = (refl, refl, refl, refl)
 pub takes-sixteen : arbitrated (replicate 16 0x90) (replicate 16 1) (0 ∷ []) 16 1 23 ≡ answer 1 (replicate 16 in-seat)
 unfolding computed.arbitrated
 takes-sixteen = refl
+
+pub takes-sixteen-table : (held past : Usi)
+    → tableAfter (replicate 16 0x90) (replicate 16 1) (0 ∷ []) none (replicate 16 held ++ past ∷ [])
+    ≡ replicate 16 winner ++ past ∷ []
+unfolding computed.tableAfter
+takes-sixteen-table held past = refl
 
 pub takes-64 : arbitrated (replicate 64 0x90) (64 ∷ []) (1 ∷ replicate 63 0) 1 1 23
     ≡ answer 1 (in-seat ∷ replicate 15 no-seat)

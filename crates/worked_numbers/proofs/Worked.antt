@@ -131,7 +131,7 @@ pub P7-events : decode.eventsAfter (decode.decoded seventhStamps seventhLevels 4
 unfolding decoded read-into
 P7-events = refl
 
--- a module at the end of a run: SCL and SDA high, the clock phase high, nothing stretched; and one as powered up
+-- a module at the end of a run: SCL and SDA high, the clock phase high, nothing stretched
 abbrev pub ended : (usictl0 usictl1 usicnt usisrl : ℕ) (latch enable : Bool) → Usi
 ended usictl0 usictl1 usicnt usisrl latch enable =
     record {

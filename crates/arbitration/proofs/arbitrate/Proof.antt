@@ -1,4 +1,4 @@
--- `arbitrate` meets its contract, by a walk of its MIR: what is planned, the messages as rows, the run over the table and
+-- `arbitrate` meets its contract, by a walk of its MIR: what is prepares, the messages as rows, the run over the table and
 -- the buffers, which are lent on and come back, and the reply.
 -- Assumes nothing.
 use mathlib.Core.Path.{_≡_, refl, sym, _∙_, ap, subst}
@@ -49,11 +49,12 @@ use Rattle.arbitration_run.proofs.cut as cut′
 use Rattle.arbitration_run.proofs.cut.Symbol as cut-def
 use Rattle.arbitration_run.proofs.cut.Met as cut-met
 use Rattle.arbitration_turns.specs.Turns.{Turn, Reached}
-use Rattle.arbitration.specs.declared.plan.Plan.{Plan}
-use Rattle.arbitration.specs.Shown.{Lent, Arbitrates, Planned, repliedTo}
-use Rattle.arbitration.proofs.plan.planned as planned′
-use Rattle.arbitration.proofs.plan.planned.Symbol as planned-def
-use Rattle.arbitration.proofs.plan.planned.Met as planned-met
+use Rattle.arbitration.specs.declared.prepare.Prepared.{Prepared}
+use Rattle.arbitration.specs.Shown.{Lent, Arbitrates}
+use Rattle.arbitration.specs.Prepared.{Prepares, repliedTo}
+use Rattle.arbitration.proofs.prepare.prepare as prepare′
+use Rattle.arbitration.proofs.prepare.prepare.Symbol as prepare-def
+use Rattle.arbitration.proofs.prepare.prepare.Met as prepare-met
 use Rattle.arbitration.proofs.table.run as run′
 use Rattle.arbitration.proofs.table.run.Symbol as run-def
 use Rattle.arbitration.proofs.table.run.Met as run-met
@@ -66,7 +67,7 @@ use Rattle.arbitration.proofs.Walk.{free-locals, local-at, field-at, se
 use Rattle.arbitration.proofs.Walk.{by-value}
 use Rattle.arbitration.proofs.Lent.{word, lent-as, Borrowed, token, shared, mine, lent, AsLong, Fits, lend, back}
 use Rattle.arbitration.proofs.Lent.{twice}
-use Rattle.arbitration.proofs.Module.{usi-row, sequencer-row, sequencer-mir, sequencer, plan-row, plan-mir, plan}
+use Rattle.arbitration.proofs.Module.{usi-row, sequencer-row, sequencer-mir, sequencer, prepared-row, prepared-mir, prepared}
 use Rattle.arbitration.proofs.Module.{reply-row, reply-mir, reply, rows-row, rows-mir, rows as rows-type}
 use Rattle.arbitration.proofs.Inputs.{tokens-then, Passed, Passed-at, hands, takes, tokens-back}
 use Rattle.arbitration.proofs.arbitrate as arbitrate
@@ -95,8 +96,8 @@ stayed = (
 
 module _ {X : Type 1} (𝓤 : URA X) (H : Heap 𝓤) (A : Atoms 𝓤) (mem : Memory → SProp 𝓤) (run : Routine → Fun 𝓤) where
   -- the contracts that the walk cites
-  abbrev Planner : Contract 𝓤
-  Planner = Meant 𝓤 H A planned′.ended (planned′.clauses 𝓤 H A mem run)
+  abbrev Prepare : Contract 𝓤
+  Prepare = Meant 𝓤 H A prepare′.ended (prepare′.clauses 𝓤 H A mem run)
 
   abbrev Cut : Contract 𝓤
   Cut = Meant 𝓤 H A cut′.ended (cut′.clauses 𝓤 H A mem run)
@@ -107,11 +108,11 @@ module _ {X : Type 1} (𝓤 : URA X) (H : Heap 𝓤) (A : Atoms 𝓤) (mem : Mem
   abbrev Replied : Contract 𝓤
   Replied = Meant 𝓤 H A replied′.ended (replied′.clauses 𝓤 H A mem run)
 
-  -- `planned` and `cut`, which read the messages
+  -- `prepares` and `cut`, which read the messages
   module _ (W : Given 𝓤 H A) (bytes lengths acks : Borrowed ℕ) where
     module _ (table-long carried-long levels-long : ℕ) where
-      abbrev to-planned : Planner .Ghost
-      to-planned = (
+      abbrev to-prepare : Prepare .Ghost
+      to-prepare = (
         (
           (bytes .lifetime, (lengths .lifetime, (acks .lifetime, tt))),
           (bytes .share, (lengths .share, (acks .share, tt))),
@@ -136,9 +137,9 @@ module _ {X : Type 1} (𝓤 : URA X) (H : Heap 𝓤) (A : Atoms 𝓤) (mem : Mem
           ‵ (token bytes) ∷ ‵ (shared u8 bytes) ∷ ‵ (token lengths) ∷ ‵ (shared u32 lengths) ∷ ‵ (token acks)
           ∷ ‵ (shared u8 acks) ∷ []
 
-      goes-planned : table-long < 2 ^ 64 → carried-long < 2 ^ 64 → levels-long < 2 ^ 64
-          → ent 𝓤 (⋆ 𝓤 H A Read-all) (Planner .pre to-planned)
-      goes-planned table-fits carried-fits levels-fits =
+      goes-prepare : table-long < 2 ^ 64 → carried-long < 2 ^ 64 → levels-long < 2 ^ 64
+          → ent 𝓤 (⋆ 𝓤 H A Read-all) (Prepare .pre to-prepare)
+      goes-prepare table-fits carried-fits levels-fits =
           qed W Read-all ∵ nothing ! $ move ! (5 ∷ 0 ∷ []) $ fjoin ! $ move ! (3 ∷ 0 ∷ []) $ fjoin ! $
           move ! (1 ∷ 0 ∷ []) $ fjoin ! $
           -- [the tokens; bytes; lengths; acks]
@@ -148,15 +149,15 @@ module _ {X : Type 1} (𝓤 : URA X) (H : Heap 𝓤) (A : Atoms 𝓤) (mem : Mem
           move ! (4 ∷ 0 ∷ []) $ fjoin ! $ move ! (3 ∷ 0 ∷ []) $ fjoin ! $ move ! (2 ∷ 0 ∷ []) $ fjoin ! $
           move ! (1 ∷ 0 ∷ []) $ join ! $ frame ! $ done !
 
-      abbrev Decided : Plan → Last 𝓤 H A planned′.ended (planned′.clauses 𝓤 H A mem run) to-planned → Type 0
+      abbrev Decided : Prepared → Last 𝓤 H A prepare′.ended (prepare′.clauses 𝓤 H A mem run) to-prepare → Type 0
       Decided r fs =
-          Planned (bytes .slice .now) (lengths .slice .now) (acks .slice .now) table-long carried-long levels-long r
+          Prepares (bytes .slice .now) (lengths .slice .now) (acks .slice .now) table-long carried-long levels-long r
 
-      gets-planned : (fs : Last 𝓤 H A planned′.ended (planned′.clauses 𝓤 H A mem run) to-planned)
-          → ent 𝓤 (mean 𝓤 H A (Back 𝓤 H A planned′.ended (planned′.clauses 𝓤 H A mem run) to-planned fs))
+      gets-prepare : (fs : Last 𝓤 H A prepare′.ended (prepare′.clauses 𝓤 H A mem run) to-prepare)
+          → ent 𝓤 (mean 𝓤 H A (Back 𝓤 H A prepare′.ended (prepare′.clauses 𝓤 H A mem run) to-prepare fs))
           (⋆ 𝓤 H A (‵ (token bytes) ∷ ‵ (token lengths) ∷ ‵ (token acks) ∷ []))
-      gets-planned fs =
-          qed W (Back 𝓤 H A planned′.ended (planned′.clauses 𝓤 H A mem run) to-planned fs ∷ []) ∵ split ! $
+      gets-prepare fs =
+          qed W (Back 𝓤 H A prepare′.ended (prepare′.clauses 𝓤 H A mem run) to-prepare fs ∷ []) ∵ split ! $
           use1 W (‵ (fsep (token bytes) (fsep (token lengths) (fsep (token acks) ftrue)))) (id⊢ 𝓤 _) $
           fsplit ! $ move ! (1 ∷ []) $ fsplit ! $ move ! (1 ∷ []) $ fsplit ! $ keep ! (3 ∷ 2 ∷ 0 ∷ []) $ done !
 
@@ -413,23 +414,23 @@ module _
         move ! (2 ∷ 0 ∷ []) $ fjoin ! $ move ! (2 ∷ 0 ∷ []) $ fjoin ! $ move ! (1 ∷ 0 ∷ []) $ fjoin ! $
         have ! reply (x .answer) (x .is) $ move ! (1 ∷ 0 ∷ []) $ done !
 
-    -- the fields of a plan
-    count-fits : (p : Plan) → Is plan-row p (plan .val p ∷ []) → p .count < 2 ^ 64
+    -- the fields of a prepared
+    count-fits : (p : Prepared) → Is prepared-row p (prepared .val p ∷ []) → p .count < 2 ^ 64
     count-fits p is = is .1 .1 .1 .0 .1
 
-    first-is : (p : Plan) → Is plan-row p (plan .val p ∷ []) → Is sequencer-row (p .first) (sequencer .val (p .first) ∷ [])
+    first-is : (p : Prepared) → Is prepared-row p (prepared .val p ∷ []) → Is sequencer-row (p .first) (sequencer .val (p .first) ∷ [])
     first-is p is =
         let own = is .1 .1 .1 .1 .0 in
         subst (Is sequencer-row (p .first)) (sequencer .tells (p .first) (is .0 .1 .1 .0) own) own
 
-    abbrev Plans : Plan → Type 0
-    Plans p =
-        Planned (bytes .slice .now) (lengths .slice .now) (acks .slice .now) (length (table .slice .now))
+    abbrev Prepared-so : Prepared → Type 0
+    Prepared-so p =
+        Prepares (bytes .slice .now) (lengths .slice .now) (acks .slice .now) (length (table .slice .now))
         (length (carried .slice .now)) (length (levels .slice .now)) p
 
     module _
         (𝓣 : Tables 𝓤 H)
-        (planned-known : Triple 𝓤 (𝓣 .C planned-def.name) (Planner 𝓤 H A mem run))
+        (prepare-known : Triple 𝓤 (𝓣 .C prepare-def.name) (Prepare 𝓤 H A mem run))
         (cut-known : Triple 𝓤 (𝓣 .C cut-def.name) (Cut 𝓤 H A mem run))
         (run-known : Triple 𝓤 (𝓣 .C run-def.name) (Run 𝓤 H A mem run))
         (replied-known : Triple 𝓤 (𝓣 .C replied-def.name) (Replied 𝓤 H A mem run))
@@ -468,14 +469,14 @@ module _
         levels-type = sliceTy (tyRef (named 5) mut (tyInt w8))
 
         module _
-            (result-at table-at bytes-at lengths-at acks-at carried-at levels-at plan-at rows-at ended-at : ℕ)
+            (result-at table-at bytes-at lengths-at acks-at carried-at levels-at prepared-at rows-at ended-at : ℕ)
             (table-long-at carried-long-at levels-long-at table-ref-at table-lent-at : ℕ)
             (carried-ref-at carried-lent-at levels-ref-at levels-lent-at : ℕ)
           where
             abbrev En : Env 𝓤 H
             En =
                 (reply-mir, result-at) ∷ (table-type, table-at) ∷ (bytes-type, bytes-at) ∷ (lengths-type, lengths-at)
-                ∷ (acks-type, acks-at) ∷ (carried-type, carried-at) ∷ (levels-type, levels-at) ∷ (plan-mir, plan-at)
+                ∷ (acks-type, acks-at) ∷ (carried-type, carried-at) ∷ (levels-type, levels-at) ∷ (prepared-mir, prepared-at)
                 ∷ (rows-mir, rows-at) ∷ (sequencer-mir, ended-at) ∷ (tyInt w64, table-long-at)
                 ∷ (tyInt w64, carried-long-at) ∷ (tyInt w64, levels-long-at)
                 ∷ (table-ref-type, table-ref-at) ∷ (sliceTy table-ref-type, table-lent-at)
@@ -514,11 +515,11 @@ module _
                 ∷ holds table-ref-type table-ref-at (vptr (table .slice .ptr .0) (table .slice .ptr .1)) ∷ rest
 
             -- what the calls gave
-            abbrev Got : Plan → List (List ℕ) → Local → Local → List Local
+            abbrev Got : Prepared → List (List ℕ) → Local → Local → List Local
             Got p rows ended result =
-                ended ∷ holds rows-mir rows-at (rows-type .val rows) ∷ holds plan-mir plan-at (plan .val p) ∷ Params result
+                ended ∷ holds rows-mir rows-at (rows-type .val rows) ∷ holds prepared-mir prepared-at (prepared .val p) ∷ Params result
 
-            replies : (p : Plan) → Is plan-row p (plan .val p ∷ []) → (rows : List (List ℕ)) → (s : Sequencer)
+            replies : (p : Prepared) → Is prepared-row p (prepared .val p ∷ []) → (rows : List (List ℕ)) → (s : Sequencer)
                 → Is sequencer-row s (sequencer .val s ∷ []) → (now : Lent) → AsLong usi-row table (now .table)
                 → AsLong u8 carried (now .carried) → AsLong u8 levels (now .levels)
                 → Arbitrates (bytes .slice .now) (lengths .slice .now) (acks .slice .now) lists now (repliedTo p s)
@@ -527,7 +528,7 @@ module _
                 (runs C Λ En body.t-13 (atRet En Post))
             replies p p-is rows s s-is now table-long carried-long levels-long promise =
                 by-value ! frames replied′.ended (replied′.clauses 𝓤 H A mem run) replied-known tt tt tt refl
-                (plan, (sequencer, tt)) (p, (s, tt)) tt (p-is, (s-is, tt)) refl reply (repliedTo p s) (λ r fs. refl)
+                (prepared, (sequencer, tt)) (p, (s, tt)) tt (p-is, (s-is, tt)) refl reply (repliedTo p s) (λ r fs. refl)
                 (and-then ! (local-at ! 34 refl) (and-then ! (local-at ! 30 refl) (no-more !))) (λ is.
                 puts ! (init ! 48 refl (typed W reply (repliedTo p s) is .0)) $
                 returns ! (look ! 48 refl) $
@@ -552,12 +553,12 @@ module _
                 ∷ ‵ (mine u8 carried (carried .slice .now)) ∷ ‵ (token carried)
                 ∷ ‵ (mine u8 levels (levels .slice .now)) ∷ ‵ (token levels) ∷ []
 
-            lends : (p : Plan) → Is plan-row p (plan .val p ∷ []) → Plans p → (rows : List (List ℕ))
+            lends : (p : Prepared) → Is prepared-row p (prepared .val p ∷ []) → Prepared-so p → (rows : List (List ℕ))
                 → Is rows-row rows (rows-type .val rows ∷ [])
                 → rows ≡ rowsOf (messagesOf (lengths .slice .now) (bytes .slice .now))
                 → Sq W (Ready ++ locals (Unlent (Measured (Got p rows (empty sequencer-mir ended-at) (empty reply-mir result-at)))) [])
                 (runs C Λ En body.t-6 (atRet En Post))
-            lends p p-is plans rows rows-are same =
+            lends p p-is prepares rows rows-are same =
                 let running = to-run 𝓤 H A mem run W table (p .count) (p .first) rows acks carried levels in
                 let ended = final 𝓤 H A mem run W table (p .count) (p .first) rows acks carried levels in
                 sets ! (addr ! (from ! (fld ! refl (hop ! (look-in ! 46 (sub ! 0 refl (whole !))) (stop !)))))
@@ -575,12 +576,13 @@ module _
                 move ! (6 ∷ 7 ∷ []) $ lend ! tt usi-row table (table .slice .now) refl table-room (λ ν name.
                 move ! (9 ∷ 10 ∷ []) $ lend ! tt u8 carried (carried .slice .now) refl carried-room (λ ν₁ name₁.
                 move ! (12 ∷ 13 ∷ []) $ lend ! tt u8 levels (levels .slice .now) refl levels-room (λ ν₂ name₂.
-                -- [ν₂; levels; what is kept of them; ν₁; carried; what is kept; ν; the table; what is kept; bytes' token; lengths'; lengths; bytes; acks' token; acks]
+                -- [ν₂; levels; what is kept of them; ν₁; carried; what is kept; ν; the table; what is kept; bytes' token; lengths';
+                -- lengths; bytes; acks' token; acks]
                 move ! (14 ∷ []) $ use1 W (‵ (shared u8 acks) ⊛ ‵ (shared u8 acks)) (twice 𝓤 H A W u8 acks) $ split ! $
                 move ! (9 ∷ 8 ∷ 6 ∷ 5 ∷ 3 ∷ 2 ∷ 15 ∷ 0 ∷ []) $ group ! 8 $
                 use1 W (raw (Run 𝓤 H A mem run .pre (running ν name ν₁ name₁ ν₂ name₂)))
                 (goes-run 𝓤 H A mem run W table (p .count) (p .first) rows acks carried levels ν name ν₁ name₁ ν₂ name₂
-                (count-fits p p-is) (first-is p p-is) rows-are (plans .few) (plans .fit)) $
+                (count-fits p p-is) (first-is p p-is) rows-are (prepares .few) (prepares .fit)) $
                 calls-on ! run′.ended (run′.clauses 𝓤 H A mem run) (running ν name ν₁ name₁ ν₂ name₂) sequencer
                 (Ran 𝓤 H A mem run W table (p .count) (p .first) rows acks carried levels ν name ν₁ name₁ ν₂ name₂)
                 (λ r fs. id⊢ 𝓤 _) frames run-known
@@ -593,8 +595,10 @@ module _
                 (Kept-long 𝓤 H A mem run W table (p .count) (p .first) rows acks carried levels ν name ν₁ name₁ ν₂ name₂
                 (ended ν name ν₁ name₁ ν₂ name₂ r fs))
                 (gets-run 𝓤 H A mem run W table (p .count) (p .first) rows acks carried levels ν name ν₁ name₁ ν₂ name₂ r fs) (λ long.
-                -- [ν₂; last levels; ν₁; last carried; ν; last table; acks' token; acks; what is kept of levels, of carried and of the table; bytes' token; lengths'; lengths; bytes]
-                move ! (0 ∷ 1 ∷ 8 ∷ []) $ back ! tt u8 levels (levels .slice .now) (ended ν name ν₁ name₁ ν₂ name₂ r fs .levels) refl (long .2) levels-room $
+                -- [ν₂; last levels; ν₁; last carried; ν; last table; acks' token; acks; what is kept of levels, of carried and of
+                -- the table; bytes' token; lengths'; lengths; bytes]
+                move ! (0 ∷ 1 ∷ 8 ∷ []) $
+                back ! tt u8 levels (levels .slice .now) (ended ν name ν₁ name₁ ν₂ name₂ r fs .levels) refl (long .2) levels-room $
                 move ! (2 ∷ 3 ∷ 8 ∷ []) $
                 back ! tt u8 carried (carried .slice .now) (ended ν name ν₁ name₁ ν₂ name₂ r fs .carried) refl (long .1) carried-room $
                 move ! (4 ∷ 5 ∷ 8 ∷ []) $ back ! tt usi-row table (table .slice .now) (fs .0) refl (long .0) table-room $
@@ -606,19 +610,19 @@ module _
                   levels = ended ν name ν₁ name₁ ν₂ name₂ r fs .levels;
                 })
                 (long .0) (long .1) (long .2)
-                (promised (bytes .slice .now) (lengths .slice .now) (acks .slice .now) lists p plans
+                (promised (bytes .slice .now) (lengths .slice .now) (acks .slice .now) lists p prepares
                 (ended ν name ν₁ name₁ ν₂ name₂ r fs) (rw same at reached) (repliedTo p r) refl))))))
 
             -- the messages as rows
-            cuts : (p : Plan) → Is plan-row p (plan .val p ∷ []) → Plans p
+            cuts : (p : Prepared) → Is prepared-row p (prepared .val p ∷ []) → Prepared-so p
                 → Sq W (‵ (token bytes) ∷ ‵ (token lengths) ∷ ‵ (token acks) ∷ ‵ (shared u32 lengths) ∷ ‵ (shared u8 bytes)
                 ∷ ‵ (shared u8 acks) ∷ ‵ (mine usi-row table (table .slice .now)) ∷ ‵ (token table)
                 ∷ ‵ (mine u8 carried (carried .slice .now)) ∷ ‵ (token carried)
                 ∷ ‵ (mine u8 levels (levels .slice .now)) ∷ ‵ (token levels)
                 ∷ locals (Unlent (Measured (empty sequencer-mir ended-at ∷ empty rows-mir rows-at
-                ∷ holds plan-mir plan-at (plan .val p) ∷ Params (empty reply-mir result-at)))) [])
+                ∷ holds prepared-mir prepared-at (prepared .val p) ∷ Params (empty reply-mir result-at)))) [])
                 (runs C Λ En body.t-5 (atRet En Post))
-            cuts p p-is plans =
+            cuts p p-is prepares =
                 move ! (4 ∷ []) $ use1 W (‵ (shared u8 bytes) ⊛ ‵ (shared u8 bytes)) (twice 𝓤 H A W u8 bytes) $ split ! $
                 move ! (5 ∷ []) $ use1 W (‵ (shared u32 lengths) ⊛ ‵ (shared u32 lengths)) (twice 𝓤 H A W u32 lengths) $ split ! $
                 -- [lengths twice; bytes twice; bytes' token; lengths'; acks'; acks; the rest]
@@ -629,15 +633,15 @@ module _
                 (Cuts 𝓤 H A mem run W bytes lengths acks) (λ r fs. id⊢ 𝓤 _) frames cut-known
                 (and-then ! (local-at ! 43 refl) (and-then ! (local-at ! 41 refl) (no-more !))) (λ r fs same r-are.
                 unpack ! (‵ (token bytes) ∷ ‵ (token lengths) ∷ []) (gets-cut 𝓤 H A mem run W bytes lengths acks fs) $
-                puts ! (init ! 32 refl (typed W rows-type r r-are .0)) $ lends p p-is plans r r-are same)
+                puts ! (init ! 32 refl (typed W rows-type r r-are .0)) $ lends p p-is prepares r r-are same)
 
             starts : Sq W (locals (Unlent (empty (tyInt w64) levels-long-at ∷ empty (tyInt w64) carried-long-at
                 ∷ empty (tyInt w64) table-long-at ∷ empty sequencer-mir ended-at ∷ empty rows-mir rows-at
-                ∷ empty plan-mir plan-at ∷ Params (empty reply-mir result-at))) (Refs lists))
+                ∷ empty prepared-mir prepared-at ∷ Params (empty reply-mir result-at))) (Refs lists))
                 (runs C Λ En body.t-1 (atRet En Post))
             starts =
-                let planning =
-                to-planned 𝓤 H A mem run W bytes lengths acks (length (table .slice .now)) (length (carried .slice .now))
+                let preparing =
+                to-prepare 𝓤 H A mem run W bytes lengths acks (length (table .slice .now)) (length (carried .slice .now))
                 (length (levels .slice .now)) in
                 move ! (38 ∷ 39 ∷ 40 ∷ 41 ∷ 42 ∷ 43 ∷ 44 ∷ 45 ∷ 46 ∷ 47 ∷ 48 ∷ 49 ∷ []) $
                 sets ! (of-opd ! (field-at ! 46 refl (sub ! 1 refl (whole !)))) (init ! 28 refl (tt, record { fits = table-room .0 })) $
@@ -648,20 +652,20 @@ module _
                 move ! (13 ∷ []) $ use1 W (‵ (shared u32 lengths) ⊛ ‵ (shared u32 lengths)) (twice 𝓤 H A W u32 lengths) $ split ! $
                 -- [lengths twice; bytes twice; acks twice; table; its token; carried; its; levels; its; acks' token; bytes'; lengths']
                 move ! (13 ∷ 2 ∷ 14 ∷ 0 ∷ 12 ∷ 4 ∷ []) $ group ! 6 $
-                use1 W (raw (Planner 𝓤 H A mem run .pre planning))
-                (goes-planned 𝓤 H A mem run W bytes lengths acks (length (table .slice .now)) (length (carried .slice .now))
+                use1 W (raw (Prepare 𝓤 H A mem run .pre preparing))
+                (goes-prepare 𝓤 H A mem run W bytes lengths acks (length (table .slice .now)) (length (carried .slice .now))
                 (length (levels .slice .now)) (table-room .0) (carried-room .0) (levels-room .0)) $
-                calls-on ! planned′.ended (planned′.clauses 𝓤 H A mem run) planning plan
+                calls-on ! prepare′.ended (prepare′.clauses 𝓤 H A mem run) preparing prepared
                 (Decided 𝓤 H A mem run W bytes lengths acks (length (table .slice .now)) (length (carried .slice .now))
                 (length (levels .slice .now)))
-                (λ r fs. id⊢ 𝓤 _) frames planned-known
+                (λ r fs. id⊢ 𝓤 _) frames prepare-known
                 (and-then ! (local-at ! 42 refl) (and-then ! (local-at ! 40 refl) (and-then ! (local-at ! 38 refl)
                 (and-then ! (local-at ! 26 refl) (and-then ! (local-at ! 24 refl) (and-then ! (local-at ! 22 refl) (no-more !)))))))
-                (λ r fs plans r-is.
+                (λ r fs prepares r-is.
                 unpack ! (‵ (token bytes) ∷ ‵ (token lengths) ∷ ‵ (token acks) ∷ [])
-                (gets-planned 𝓤 H A mem run W bytes lengths acks (length (table .slice .now)) (length (carried .slice .now))
+                (gets-prepare 𝓤 H A mem run W bytes lengths acks (length (table .slice .now)) (length (carried .slice .now))
                 (length (levels .slice .now)) fs) $
-                puts ! (init ! 34 refl (typed W plan r r-is .0)) $ cuts r r-is plans)
+                puts ! (init ! 34 refl (typed W prepared r r-is .0)) $ cuts r r-is prepares)
 
         abbrev words : List Val
         words =
@@ -674,7 +678,7 @@ module _
             qed W (raw (onEntry 𝓤 H A arbitrate.signature (bound .0 .0) (bound .0 .1) a vals) ∷ []) ∵
             unpack ! (Refs lists) entry $ enter ! C Λ code.function words _ $
             alloc1 ! (λ result-at. alloc1 ! (λ table-at. alloc1 ! (λ bytes-at. alloc1 ! (λ lengths-at. alloc1 ! (λ acks-at.
-            alloc1 ! (λ carried-at. alloc1 ! (λ levels-at. alloc1 ! (λ plan-at. alloc1 ! (λ rows-at. alloc1 ! (λ ended-at.
+            alloc1 ! (λ carried-at. alloc1 ! (λ levels-at. alloc1 ! (λ prepared-at. alloc1 ! (λ rows-at. alloc1 ! (λ ended-at.
             alloc1 ! (λ table-long-at. alloc1 ! (λ carried-long-at. alloc1 ! (λ levels-long-at.
             alloc1 ! (λ table-ref-at. alloc1 ! (λ table-lent-at. alloc1 ! (λ carried-ref-at. alloc1 ! (λ carried-lent-at.
             alloc1 ! (λ levels-ref-at. alloc1 ! (λ levels-lent-at.
@@ -685,7 +689,7 @@ module _
             pass1 ! (init ! 28 refl (tt, (tt, (record { fits = acks-room .0 }, tt)))) $
             pass1 ! (init ! 26 refl (tt, (tt, (record { fits = carried-room .0 }, tt)))) $
             pass1 ! (init ! 24 refl (tt, (tt, (record { fits = levels-room .0 }, tt)))) $ pass0 ! $
-            starts result-at table-at bytes-at lengths-at acks-at carried-at levels-at plan-at rows-at ended-at table-long-at
+            starts result-at table-at bytes-at lengths-at acks-at carried-at levels-at prepared-at rows-at ended-at table-long-at
             carried-long-at levels-long-at table-ref-at table-lent-at carried-ref-at carried-lent-at levels-ref-at
             levels-lent-at)))))))))))))))))))
 
@@ -698,7 +702,7 @@ module _
     (mem : Memory → SProp 𝓤)
     (run : Routine → Fun 𝓤)
     (𝓣 : Tables 𝓤 H)
-    (planned-known : Triple 𝓤 (𝓣 .C planned-def.name) (Planner 𝓤 H A mem run))
+    (prepare-known : Triple 𝓤 (𝓣 .C prepare-def.name) (Prepare 𝓤 H A mem run))
     (cut-known : Triple 𝓤 (𝓣 .C cut-def.name) (Cut 𝓤 H A mem run))
     (run-known : Triple 𝓤 (𝓣 .C run-def.name) (Run 𝓤 H A mem run))
     (replied-known : Triple 𝓤 (𝓣 .C replied-def.name) (Replied 𝓤 H A mem run))
@@ -747,7 +751,7 @@ module _
         (record { slice = a .1 .1 .1 .1 .0; lifetime = κs .1 .1 .1 .1 .0; share = qs .1 .1 .1 .1 .0 })
         (record { slice = a .1 .1 .1 .1 .1 .0; lifetime = κs .1 .1 .1 .1 .1 .0; share = qs .1 .1 .1 .1 .1 .0 })
         (are .0 .0 .1) (are .1 .0 .0 .1) (are .1 .1 .0 .0 .1) (are .1 .1 .1 .0 .0 .1) (are .1 .1 .1 .1 .0 .0 .1)
-        (are .1 .1 .1 .1 .1 .0 .0 .1) 𝓣 planned-known cut-known run-known replied-known)))
+        (are .1 .1 .1 .1 .1 .0 .0 .1) 𝓣 prepare-known cut-known run-known replied-known)))
 
 pub arbitrate-spec : {M : Type 1} → stated.statement M
 unfolding code.routine tablesOf
@@ -755,8 +759,8 @@ arbitrate-spec 𝓤 H 𝓜 𝓖 𝓡 =
     entered 𝓤 H (tripleOf 𝓤 H (𝓖 .A) arbitrate.signature (arbitrate.spec 𝓤 H (𝓖 .A) (𝓜 .mem) (𝓡 .run)))
     (tables 𝓤 H 𝓜 𝓡 code.env .C) (tables 𝓤 H 𝓜 𝓡 code.env .Λ) key.name code.function (code.unfolded 𝓤 H 𝓜 𝓡)
     (meets 𝓤 H (𝓖 .A) (givenOf 𝓤 H 𝓜 𝓖) (𝓜 .mem) (𝓡 .run) (tablesOf 𝓤 H 𝓜 (tables 𝓤 H 𝓜 𝓡 code.env))
-    (cited 𝓤 H (Planner 𝓤 H (𝓖 .A) (𝓜 .mem) (𝓡 .run)) 𝓜 𝓡 code.env planned-def.name planned-def.routine
-    code.calls-arbitration·plan·planned (planned-met.met 𝓤 H 𝓜 𝓖 𝓡))
+    (cited 𝓤 H (Prepare 𝓤 H (𝓖 .A) (𝓜 .mem) (𝓡 .run)) 𝓜 𝓡 code.env prepare-def.name prepare-def.routine
+    code.calls-arbitration·prepare·prepare (prepare-met.met 𝓤 H 𝓜 𝓖 𝓡))
     (cited 𝓤 H (Cut 𝓤 H (𝓖 .A) (𝓜 .mem) (𝓡 .run)) 𝓜 𝓡 code.env cut-def.name cut-def.routine
     code.calls-arbitration-run·cut (cut-met.met 𝓤 H 𝓜 𝓖 𝓡))
     (cited 𝓤 H (Run 𝓤 H (𝓖 .A) (𝓜 .mem) (𝓡 .run)) 𝓜 𝓡 code.env run-def.name run-def.routine

@@ -1,5 +1,5 @@
 -- What became of each master.
-use Rattle.arbitration.specs.Shown.{repliedBy}
+use Rattle.arbitration.specs.Prepared.{repliedBy}
 use borrow.Author.Needs.{needs}
 use Rattle.arbitration.proofs.reply.answered.Statement.{statement}
 use Rattle.arbitration.proofs.reply.answered.Tie as tie

@@ -1,7 +1,7 @@
 -- Refused, or run.
 use borrow.Author.Needs.{needs}
 use borrow.Author.Tests.{ne-eqb, eq-eqb}
-use Rattle.arbitration.specs.Shown.{repliedTo}
+use Rattle.arbitration.specs.Prepared.{repliedTo}
 use Rattle.arbitration.proofs.reply.replied.Statement.{statement}
 use Rattle.arbitration.proofs.reply.replied.Tie as tie
 

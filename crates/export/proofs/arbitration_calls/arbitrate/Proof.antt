@@ -4,7 +4,7 @@ use native.Mathlib.Omega.{arith}
 use mathlib.Core.Path.{_≡_, refl, sym, ap, _∙_}
 use mathlib.Core.Bool.{false, true, _||_, or-true}
 use lib.Dec.{ltb}
-use lib.ListN.{length}
+use lib.ListN.{length, replicate}
 use borrow.Author.Needs.{needs}
 use borrow.Author.Tests.{ltb-false}
 use Rattle.laws.specs.declared.Refusal.{Refusal}
@@ -12,6 +12,9 @@ use Rattle.laws.proofs.Bools.{neither}
 use Rattle.arbitration_rules.proofs.Carry.{Bytes}
 use Rattle.arbitration_checks.specs.declared.Settled.{Settled}
 use Rattle.arbitration.proofs.Given.{bytes-below, settled-some, settled-none}
+use Rattle.usi.specs.Module.{powerUp}
+use Rattle.arbitration_rules.specs.Limits.{maxMasters}
+use Rattle.arbitration.specs.Shown.{Arbitrates}
 use Rattle.export.specs.Arbitration.{Lent}
 use Rattle.export.proofs.Contract.{found, short, shortTable, found-placed, refused-before, refused-short}
 use Rattle.export.proofs.Contract.{libraryReply, refused-place, masters-few, answered-small, refused-by-library}
@@ -70,22 +73,41 @@ returns-2 c =
     let all = refused-short lent 8 passes tight refl in
     (all .returns, all .follows)
 
+power-up-requires : tie.Need-power-up-requires
+power-up-requires c κs = search needs
+
 rehearse-requires : tie.Need-rehearse-requires
 rehearse-requires c κs = search needs
 
 -- the library's reply, with tables that are long enough
 abbrev lentAgain : tie.After-rehearse → Lent
-lentAgain s = lentAt (s .before .before .before .before)
+lentAgain s = lentAt (s .before .before .before .before .before)
 
 roomy : (s : tie.After-rehearse) → shortTable (lentAgain s) ≡ false
-roomy s = s .before .before .before .if1 .left
+roomy s = s .before .before .before .before .if1 .left
 
 smallAgain : (s : tie.After-rehearse) → Bytes (lentAgain s .bytes)
-smallAgain s = small (s .before .before .before .before)
+smallAgain s = small (s .before .before .before .before .before)
+
+-- what the library promises of modules that are powered up
+promise : (s : tie.After-rehearse)
+    → Arbitrates (lentAgain s .bytes) (lentAgain s .lengths) (lentAgain s .acks)
+    (record {
+      table = replicate maxMasters (powerUp 0 0);
+      carried = lentAgain s .carried;
+      levels = lentAgain s .levels;
+    })
+    (record {
+      table = s .rehearse .result .modules;
+      carried = s .rehearse .last .1 .1 .1 .1 .0;
+      levels = s .rehearse .last .1 .1 .1 .1 .1 .0;
+    })
+    (s .rehearse .result .reply)
+promise s = rw (s .before .before .before .power-up .ensures) at (s .rehearse .ensures)
 
 replied : (s : tie.After-rehearse)
     → s .rehearse .result .reply ≡ libraryReply (lentAgain s) (smallAgain s) (roomy s)
-replied s = s .rehearse .ensures .replies
+replied s = promise s .replies
 
 refused-requires-2 : tie.Need-refused-requires-2
 refused-requires-2 c κs =
@@ -101,7 +123,7 @@ same-length-2 c = search needs
 returns-3 : tie.Need-returns-3
 returns-3 c =
     let s = c .before .before .before .before .before .before .before .before .before in
-    let done = s .rehearse .ensures in
+    let done = promise s in
     let all = refused-by-library (lentAgain s) (smallAgain s) (roomy s) (s .rehearse .result .reply)
     (c .refused2 .result) _ _ (replied s) (c .before .if3 .taken) (c .refused2 .ensures) (done .carried) (done .recorded)
     in
@@ -119,8 +141,7 @@ long-enough s =
 put-modules-requires : tie.Need-put-modules-requires
 put-modules-requires c κs =
     let at = c .before .before in
-    let s = at .before .before .before .before .before .before .before .before in
-    (
+    let s = at .before .before .before .before .before .before .before .before in (
       masters-few (lentAgain s) (smallAgain s) (roomy s) (s .rehearse .result .reply) (replied s) (at .if3 .left),
       long-enough s .0,
     )
@@ -128,8 +149,7 @@ put-modules-requires c κs =
 put-seats-requires : tie.Need-put-seats-requires
 put-seats-requires c κs =
     let at = c .before .before .before .before .before .before .before in
-    let s = at .before .before .before .before .before .before .before .before in
-    (
+    let s = at .before .before .before .before .before .before .before .before in (
       masters-few (lentAgain s) (smallAgain s) (roomy s) (s .rehearse .result .reply) (replied s) (at .if3 .left),
       long-enough s .1,
     )
@@ -158,7 +178,7 @@ returns-4 c =
     let placed = seated .before .before .before .before .before in
     let at = placed .before .before .before in
     let s = at .before .before .before .before .before .before .before .before in
-    let done = s .rehearse .ensures in
+    let done = promise s in
     let all = answered-by-library (lentAgain s) (smallAgain s) (roomy s) (s .rehearse .result .reply) (c .reply .result)
     (s .rehearse .result .modules) _ _ _ _ (replied s) (at .if3 .left) (c .reply .ensures) (done .stepped)
     (done .carried) (done .recorded) (placed .put-modules .ensures) (seated .put-seats .ensures) (done .follows) in
@@ -172,6 +192,7 @@ arbitrate-spec =
     refused-requires
     returns
     returns-2
+    power-up-requires
     rehearse-requires
     refused-requires-2
     same-length

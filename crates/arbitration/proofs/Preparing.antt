@@ -13,7 +13,7 @@ use Rattle.arbitration_rules.specs.Limits.{maxMasters}
 use Rattle.arbitration_rules.specs.Reply.{refusal}
 use Rattle.arbitration_rules.proofs.Carry.{Bytes}
 use Rattle.arbitration_checks.specs.Settled.{settled}
-use Rattle.arbitration.specs.Shown.{Short}
+use Rattle.arbitration.specs.Prepared.{Short}
 use Rattle.arbitration.proofs.Given.{settled-none, settled-some, short-is, applies-is, passes-some, lacks}
 use Rattle.arbitration.proofs.Given.{Unrefused, unrefused-gives}
 

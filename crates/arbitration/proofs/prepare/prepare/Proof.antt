@@ -3,10 +3,10 @@ use Prim.Native.Nat.{ℕ, _<_}
 use lib.ListN.{getD}
 use native.Mathlib.Omega.{arith}
 use Rattle.arbitration.proofs.Given.{bytes-below}
-use Rattle.arbitration.proofs.Planning.{room-for}
+use Rattle.arbitration.proofs.Preparing.{room-for}
 use borrow.Author.Needs.{needs}
-use Rattle.arbitration.proofs.plan.planned.Statement.{statement}
-use Rattle.arbitration.proofs.plan.planned.Tie as tie
+use Rattle.arbitration.proofs.prepare.prepare.Statement.{statement}
+use Rattle.arbitration.proofs.prepare.prepare.Tie as tie
 
 refusal-requires : tie.Need-refusal-requires
 refusal-requires c κs = search needs
@@ -34,5 +34,5 @@ returns c =
       fit = rw (c .before .masters .ensures) (room .1);
     }
 
-pub planned-spec : {M : Type 1} → statement M
-planned-spec = tie.close (tie.spec refusal-requires masters-requires begun-requires returns)
+pub prepare-spec : {M : Type 1} → statement M
+prepare-spec = tie.close (tie.spec refusal-requires masters-requires begun-requires returns)

@@ -1,7 +1,7 @@
 -- None after a refusal.
 use borrow.Author.Tests.{ne-eqb, eq-eqb}
-use Rattle.arbitration.proofs.plan.masters.Statement.{statement}
-use Rattle.arbitration.proofs.plan.masters.Tie as tie
+use Rattle.arbitration.proofs.prepare.masters.Statement.{statement}
+use Rattle.arbitration.proofs.prepare.masters.Tie as tie
 
 returns : tie.Need-returns
 returns c = rw (ne-eqb _ _ (c .if1 .taken))

@@ -6,12 +6,12 @@ ghost use lib.Dec.{eqb};
 ghost use lib.ListN.{length};
 ghost use Rattle.arbitration_rules.specs.Limits.{maxLength};
 ghost use Rattle.arbitration_rules.specs.Reply.{refusal as applies};
-ghost use Rattle.arbitration.specs.Shown.{Short, Planned, begunBy};
+ghost use Rattle.arbitration.specs.Prepared.{Short, Prepares, begunBy};
 use arbitration_run::Sequencer;
 use laws::Refusal;
 
 // The refusal or none, how many masters run, and the sequencer before its first turn.
-pub(crate) struct Plan {
+pub(crate) struct Prepared {
     pub(crate) refusal: Refusal,
     pub(crate) count: usize,
     pub(crate) first: Sequencer,
@@ -35,7 +35,8 @@ fn refusal(
     carried: usize,
     levels: usize,
 ) -> Refusal
-    ensures { λ r. ⌜ r ≡ applies (now (bytes .entry)) (now (lengths .entry)) (now (acks .entry)) table carried levels ⌝ }
+    ensures { λ r. ⌜ r ≡ applies (now (bytes .entry)) (now (lengths .entry)) (now (acks .entry))
+        table carried levels ⌝ }
 {
     let settled = arbitration_checks::settle(bytes, lengths, acks);
     let stopped = settled.refusal;
@@ -75,18 +76,20 @@ fn masters(found: Refusal, count: usize) -> usize
     count
 }
 
-pub(crate) fn planned(
+// Decides what a call is to do, from what is lent and how long it is.
+pub(crate) fn prepare(
     bytes: &[u8],
     lengths: &[u32],
     acks: &[u8],
     table: usize,
     carried: usize,
     levels: usize,
-) -> Plan
-    ensures { λ r. ⌜ Planned (now (bytes .entry)) (now (lengths .entry)) (now (acks .entry)) table carried levels r ⌝ }
+) -> Prepared
+    ensures { λ r. ⌜ Prepares (now (bytes .entry)) (now (lengths .entry)) (now (acks .entry))
+        table carried levels r ⌝ }
 {
     let found = refusal(bytes, lengths, acks, table, carried, levels);
-    Plan {
+    Prepared {
         refusal: found,
         count: masters(found, lengths.len()),
         first: begun(found, lengths),

@@ -1,9 +1,9 @@
 -- A sequencer that runs, or after a refusal one that does not.
 use borrow.Author.Needs.{needs}
 use borrow.Author.Tests.{ne-eqb, eq-eqb}
-use Rattle.arbitration.specs.Shown.{begunBy}
-use Rattle.arbitration.proofs.plan.begun.Statement.{statement}
-use Rattle.arbitration.proofs.plan.begun.Tie as tie
+use Rattle.arbitration.specs.Prepared.{begunBy}
+use Rattle.arbitration.proofs.prepare.begun.Statement.{statement}
+use Rattle.arbitration.proofs.prepare.begun.Tie as tie
 
 first-requires : tie.Need-first-requires
 first-requires c κs = search needs

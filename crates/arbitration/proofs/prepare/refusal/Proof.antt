@@ -4,10 +4,10 @@ use mathlib.Core.Bool.{true, false}
 use mathlib.Core.Path.{sym, _∙_}
 use Rattle.arbitration_rules.proofs.Carry.{Bytes}
 use Rattle.arbitration.proofs.Given.{bytes-below, settled-none, count-small}
-use Rattle.arbitration.proofs.Planning.{stopped-before, decided-by-room}
+use Rattle.arbitration.proofs.Preparing.{stopped-before, decided-by-room}
 use borrow.Author.Needs.{needs}
-use Rattle.arbitration.proofs.plan.refusal.Statement.{statement}
-use Rattle.arbitration.proofs.plan.refusal.Tie as tie
+use Rattle.arbitration.proofs.prepare.refusal.Statement.{statement}
+use Rattle.arbitration.proofs.prepare.refusal.Tie as tie
 
 -- the bytes lent are bytes
 small : (s : tie.After-settle) → Bytes (s .before .before .before .before .args .bytes .now)
