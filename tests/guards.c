@@ -156,6 +156,8 @@ static void most(void)
     carries(&load, load.bytes + BYTES * (MASTERS - 1), BYTES, stands);
     load.lengths_length = MASTERS + 1, load.bytes_length = (MASTERS + 1) * BYTES, load.lengths[MASTERS] = BYTES;
     refused("12: seventeen", &load, BYTES, LEVELS, MASTERS + 1, MASTERS + 1, 12);
+    refused("12: seventeen, sixteen entries", &load, BYTES, LEVELS, MASTERS, MASTERS, 12);
+    refused("12: seventeen, no entry", &load, BYTES, LEVELS, 0, 0, 12);
     load.lengths_length = 2, load.bytes_length = 2 * BYTES + 1;
     load.lengths[1] = BYTES + 1, load.acks_length = BYTES + 1;
     refused("13: 65 bytes", &load, BYTES + 1, LEVELS + 18, 2, 2, 13 + 256);

@@ -220,9 +220,10 @@ P9-levels = refl
 abbrev tenth : List ℕ
 tenth = 0x90 ∷ 0x90 ∷ 0x00 ∷ []
 
-pub P10 : reply.arbitrated tenth (1 ∷ 2 ∷ []) (0 ∷ 0 ∷ []) 0 0 0 ≡ stopped 16 0
+pub P10 : (tableRoom carriedRoom levelRoom : ℕ)
+    → reply.arbitrated tenth (1 ∷ 2 ∷ []) (0 ∷ 0 ∷ []) tableRoom carriedRoom levelRoom ≡ stopped 16 0
 unfolding arbitrated
-P10 = refl
+P10 tableRoom carriedRoom levelRoom = refl
 
 pub P10-table : (table : List Usi)
     → reply.tableAfter tenth (1 ∷ 2 ∷ []) (0 ∷ 0 ∷ []) (refusedAt 16 0) table ≡ table
@@ -254,6 +255,11 @@ pub P11-carried : reply.carriedAfter tenth (1 ∷ 2 ∷ []) (1 ∷ 0 ∷ []) non
 unfolding carriedAfter
 P11-carried = refl
 
+pub P11-levels : reply.levelsAfter tenth (1 ∷ 2 ∷ []) (1 ∷ 0 ∷ []) none (replicate 24 7)
+    ≡ 3 ∷ 1 ∷ 2 ∷ 3 ∷ 0 ∷ 1 ∷ 0 ∷ 1 ∷ 2 ∷ 3 ∷ 0 ∷ 1 ∷ 0 ∷ 1 ∷ 0 ∷ 1 ∷ 0 ∷ 1 ∷ 2 ∷ 3 ∷ 0 ∷ 1 ∷ 3 ∷ 7 ∷ []
+unfolding levelsAfter
+P11-levels = refl
+
 -- P12: messages 90, 90 00, 50, acknowledges 0 0: carried 50, two lost at position 0
 abbrev twelfth : List ℕ
 twelfth = 0x90 ∷ 0x90 ∷ 0x00 ∷ 0x50 ∷ []
@@ -271,3 +277,8 @@ P12-table a b c = refl
 pub P12-carried : reply.carriedAfter twelfth (1 ∷ 2 ∷ 1 ∷ []) (0 ∷ 0 ∷ []) none (7 ∷ 7 ∷ []) ≡ 0x50 ∷ 7 ∷ []
 unfolding carriedAfter
 P12-carried = refl
+
+pub P12-levels : reply.levelsAfter twelfth (1 ∷ 2 ∷ 1 ∷ []) (0 ∷ 0 ∷ []) none (replicate 24 7)
+    ≡ 3 ∷ 1 ∷ 0 ∷ 1 ∷ 2 ∷ 3 ∷ 0 ∷ 1 ∷ 2 ∷ 3 ∷ 0 ∷ 1 ∷ 0 ∷ 1 ∷ 0 ∷ 1 ∷ 0 ∷ 1 ∷ 0 ∷ 1 ∷ 0 ∷ 1 ∷ 3 ∷ 7 ∷ []
+unfolding levelsAfter
+P12-levels = refl
