@@ -39,8 +39,8 @@ stopped sequencer =
 unfoldable pub begunBy : Refusal → List ℕ → Sequencer
 begunBy found lengths = cond (eqb (found .number) 0) (first lengths) (stopped (first lengths))
 
--- what a call is to do: it runs all masters, or after a refusal none, and there is room for those that run; and that the
--- bytes lent are bytes
+-- what a call is to do: it runs all masters, or after a refusal none, and there is room for those that run; and that
+-- the bytes lent are bytes
 pub record Prepares (bytes lengths acknowledges : List ℕ) (tableRoom carriedRoom levelRoom : ℕ)
     (prepared : Prepared) : Type 0 where
   pub small : (i : ℕ) → getD bytes i 0 < 256

@@ -95,7 +95,8 @@ anyThrough contending sizes sent =
 abbrev pub through : ℕ → Members → Bool
 through sent members = anyThrough (members .contending) (members .sizes) sent
 
--- the flags that the writes of each master clear over a run, STTIFG and IFG (arbitration_rules/proofs/ClearedFlags.antt)
+-- the flags that the writes of each master clear over a run, STTIFG and IFG
+-- (arbitration_rules/proofs/ClearedFlags.antt)
 abbrev pub writesClear : ℕ
 writesClear = 0x03
 

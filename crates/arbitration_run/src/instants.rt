@@ -75,8 +75,8 @@ fn sample(effect: Effect, ticks: bool) -> Instant
     }
 }
 
-// Step 1. The bus is idle, both lines high, until the pull; SCL stays high in the sample that shows START, and falls once
-// its flag is cleared.
+// Step 1. The bus is idle, both lines high, until the pull; SCL stays high in the sample that shows START, and falls
+// once its flag is cleared.
 fn opening(at: usize) -> Instant
     ensures { λ r. ⌜ r ≡ rows.opening at ⌝ }
 {

@@ -23,7 +23,8 @@ dumpChecks stamps levels room =
 unfoldable pub dumped : List ℕ → List ℕ → ℕ → Dumped
 dumped stamps levels room =
     let refusal = given (dumpChecks stamps levels room) in
-    cond (eqb (refusal .number) 0) (Written (length (dumpText stamps levels))) (Refused (refusal .number) (refusal .place))
+    cond (eqb (refusal .number) 0) (Written (length (dumpText stamps levels)))
+    (Refused (refusal .number) (refusal .place))
 
 -- the numbers of an answer: the refusal (0: none) and its place, and how many bytes; in a refused answer none
 pub record DumpedNumbers : Type 0 where

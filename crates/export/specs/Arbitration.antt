@@ -1,5 +1,5 @@
--- An arbitration for callers in C or Rust: what they lend, and what is returned, one 64-bit number and two tables of an
--- entry for each message.
+-- An arbitration for callers in C or Rust: what they lend, and what is returned, one 64-bit number and two tables of
+-- an entry for each message.
 use Prim.Native.Nat.{ℕ, _+_, _*_, _/_, _%_, _^_}
 use mathlib.Core.Path.{_≡_}
 use mathlib.Core.Bool.{Bool, cond, _||_}

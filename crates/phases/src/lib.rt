@@ -7,17 +7,19 @@ use decode::Decoded;
 
 mod phase; // phase.rt: the phases of SCL, and the first sample that ends a short one
 
-// What the bus behind a trace may do: anything, or what UM10204 allows in Standard-mode or in Fast-mode. In the last two
-// stamps count units of 100 ns.
+// What the bus behind a trace may do: anything, or what UM10204 allows in Standard-mode or in Fast-mode. In the last
+// two stamps count units of 100 ns.
 pub enum Mode {
     Unchecked,
     Standard,
     Fast,
 }
 
-// The events of a trace read in a mode. 18 comes after 5, 6, 4 and 7 and before 8; a refusal leaves the slice as it was.
+// The events of a trace read in a mode. 18 comes after 5, 6, 4 and 7 and before 8; a refusal leaves the slice as it
+// was.
 pub fn decode_in(mode: Mode, stamps: &[u32], levels: &[u8], events: &mut [u16]) -> Decoded
-    ensures answer { λ r. ⌜ r ≡ decodedIn mode (now (stamps .entry)) (now (levels .entry)) (length (now (events .entry))) ⌝ }
+    ensures answer { λ r. ⌜ r ≡ decodedIn mode (now (stamps .entry)) (now (levels .entry))
+        (length (now (events .entry))) ⌝ }
     ensures buffer { λ r. ⌜ now (events .exit) ≡ eventsAfter r (now (levels .entry)) (now (events .entry)) ⌝ }
 {
     let refusal = trace::check(stamps, levels);

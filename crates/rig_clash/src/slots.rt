@@ -1,5 +1,5 @@
-// The corrections as they are kept, each in a slot: a mark once its load was met, the load's name and line, the board's
-// name and line, and its message. Lines are kept as text.
+// The corrections as they are kept, each in a slot: a mark once its load was met, the load's name and line, the
+// board's name and line, and its message. Lines are kept as text.
 use crate::kept;
 use crate::kept::NUMBER;
 use crate::kept::ROOM;

@@ -95,18 +95,19 @@ abbrev pub endedWith : ℕ → ℕ → Source → Source
 endedWith n errno s =
     record { fd = s .fd; argument = s .argument; at = 0; end = n; line = s .line; done = true; errno = errno }
 
--- A piece read from its start on, so many bytes: each read delivers some behind those that are there, and what it leaves
--- past them is not known.
+-- A piece read from its start on, so many bytes: each read delivers some behind those that are there, and what it
+-- leaves past them is not known.
 pub data Read (piece : List ℕ) : List ℕ → ℕ → Type 0 where
   none : Read piece piece 0
   more : {now : List ℕ} {n : ℕ} (new : List ℕ) (count : ℕ) → Read piece now n → n + length new ≡ length now
       → count ≤ length new → Read piece (take n now ++ new) (n + count)
 
--- What filling a piece may leave: nothing is read where bytes of the last piece are left; else the piece is full, or the
--- input ended with it.
+-- What filling a piece may leave: nothing is read where bytes of the last piece are left; else the piece is full, or
+-- the input ended with it.
 pub data Filled (piece : List ℕ) (s : Source) (piece′ : List ℕ) (s′ : Source) : Type 0 where
   unread : s .at < s .end → piece′ ≡ piece → s′ ≡ s → Filled piece s piece′ s′
-  full : Read piece piece′ (length piece) → s .end ≤ s .at → s′ ≡ suppliedWith (length piece) s → Filled piece s piece′ s′
+  full : Read piece piece′ (length piece) → s .end ≤ s .at → s′ ≡ suppliedWith (length piece) s
+      → Filled piece s piece′ s′
   ended : (n errno : ℕ) → Read piece piece′ n → s .end ≤ s .at → s′ ≡ endedWith n errno s → Filled piece s piece′ s′
 
 -- a source that has no byte: its position is past its piece
@@ -142,7 +143,8 @@ pub data Took (piece line : List ℕ) (s : Source) (piece′ line′ : List ℕ)
       → taken .line ≡ judgedLine line′ (storedIn line bytes) → Took piece line s piece′ line′ taken
   last : (bytes : List ℕ) → every noNewline bytes ≡ true → line′ ≡ sets line 0 bytes
       → Fed piece (nextNumber s) bytes piece′ (taken .source) → Spent piece′ (taken .source)
-      → taken .line ≡ judgedLast (taken .source .errno) line′ (storedIn line bytes) → Took piece line s piece′ line′ taken
+      → taken .line ≡ judgedLast (taken .source .errno) line′ (storedIn line bytes)
+      → Took piece line s piece′ line′ taken
   endless : (bytes : List ℕ) → length bytes ≡ largest → line′ ≡ sets line 0 bytes
       → Fed piece (nextNumber s) bytes piece′ (taken .source)
       → taken .line ≡ TooLong → Took piece line s piece′ line′ taken

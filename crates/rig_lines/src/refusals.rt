@@ -4,8 +4,8 @@ ghost use Rattle.rig_lines.specs.Refusals.{refusalWords, refusalText, sa
 use crate::console::put_form;
 use crate::console::put_line;
 
-// What a refusal says, by its number: each stands in a line of its own, after the line of 0, which is none. Those of 12 to
-// 16 are told with boards, lines and counts where they are given.
+// What a refusal says, by its number: each stands in a line of its own, after the line of 0, which is none. Those of
+// 12 to 16 are told with boards, lines and counts where they are given.
 fn put_words(page: &mut [u8], at: usize, number: u8) -> usize
     ensures { λ r. ⌜ Put (now (page .entry)) at (refusalWords number) (now (page .exit)) r ⌝ }
 {

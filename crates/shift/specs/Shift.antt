@@ -1,5 +1,5 @@
--- The shift register of a serial module, over its width and its direction (02: Asks 1 and 7). Its bits stand at positions
--- top down to 0, so it is 1 + top bits wide.
+-- The shift register of a serial module, over its width and its direction (02: Asks 1 and 7). Its bits stand at
+-- positions top down to 0, so it is 1 + top bits wide.
 use Prim.Native.Nat.{ℕ, zero, suc, _+_, _-_, _*_, _/_, _%_, _^_}
 use mathlib.Core.Bool.{Bool, cond}
 use mathlib.Core.List.{List, [], _∷_}

@@ -1,4 +1,5 @@
--- A sample by the cases of SCL, for contracts inside the crate: proofs/Cases.antt shows that they make up Step's `edged`.
+-- A sample by the cases of SCL, for contracts inside the crate: proofs/Cases.antt shows that they make up Step's
+-- `edged`.
 use mathlib.Core.Bool.{Bool, cond, true, false}
 use Rattle.levels.specs.Levels as levels
 use Rattle.usi_i2c.specs.Rules as rules

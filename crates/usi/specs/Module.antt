@@ -1,4 +1,5 @@
--- The module's state as a value: power-up, one register replaced, the hidden state at rest, and the lines that it drives.
+-- The module's state as a value: power-up, one register replaced, the hidden state at rest, and the lines that it
+-- drives.
 use Prim.Native.Nat.{ℕ}
 use mathlib.Core.Bool.{Bool, cond, true, false, _&&_, _||_}
 use Rattle.usi_registers.specs.Registers.{USICTL0-powerUp, USICTL1-powerUp, USICKCTL-powerUp, USICNT-powerUp}
@@ -10,7 +11,8 @@ use Rattle.usi.specs.declared.Usi.{Usi}
 use Rattle.usi.specs.declared.Lines.{Lines}
 use Rattle.usi.specs.declared.SpiLines.{SpiLines}
 
--- Power-up is told the two shift bytes to keep; the hidden state is at rest: latch 1, enable 0, half high, no levels, not caught.
+-- Power-up is told the two shift bytes to keep; the hidden state is at rest: latch 1, enable 0, half high, no levels,
+-- not caught.
 abbrev pub powerUp : ℕ → ℕ → Usi
 powerUp low high =
     record {

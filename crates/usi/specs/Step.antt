@@ -47,8 +47,8 @@ latched u = withLatch (rules.firstBit (u .usisrl)) (setUp.outputEnable (u .usict
 unfoldable pub followed : Usi → Usi
 followed u = cond (setUp.transparent (u .usictl0)) (latched u) u
 
--- A write that changes which of none, I2C and SPI the set-up is rests the hidden state (02: Ask 1), and so does one that
--- leaves none.
+-- A write that changes which of none, I2C and SPI the set-up is rests the hidden state (02: Ask 1), and so does one
+-- that leaves none.
 abbrev pub kept : Bool → Usi → Usi
 kept same u = cond same u (atRest u)
 
@@ -80,7 +80,8 @@ writeByte u address value =
     (cond (eqb address USISRH) (Next (settled u (withUSISRH value u)))
     (Refused 1 u))))))
 
--- A word takes an even address (else 2), low byte there, high byte after it; a write is the low byte's, then the high byte's.
+-- A word takes an even address (else 2), low byte there, high byte after it; a write is the low byte's, then the high
+-- byte's.
 abbrev pub odd : ℕ → Bool
 odd address = eqb (address % 2) 1
 
@@ -98,8 +99,8 @@ writeWord u address value =
     cond (odd address) (Refused 2 u)
     (andThen (writeByte u address (value % 256)) (λ v. writeByte v (address + 1) (value / 256)))
 
--- A write's answer: the step's module and number, and the flags of USICTL1 that it cleared (02: Ask 12), of both widths
--- alike. A refused one clears none (proofs/Clearing.antt).
+-- A write's answer: the step's module and number, and the flags of USICTL1 that it cleared (02: Ask 12), of both
+-- widths alike. A refused one clears none (proofs/Clearing.antt).
 abbrev pub answered : ℕ → Step → Written
 answered before step =
     record {

@@ -44,8 +44,8 @@ pub enum Step {
     Refused(u8, Usi),
 }
 
-// What a write answers: the module, as it was where the write is refused; the refusal's number, 0 where it is not; and the
-// flags of USICTL1 that were 1 before it and are 0 after it (02: Ask 12).
+// What a write answers: the module, as it was where the write is refused; the refusal's number, 0 where it is not;
+// and the flags of USICTL1 that were 1 before it and are 0 after it (02: Ask 12).
 pub struct Written {
     pub usi: Usi,
     pub refusal: u8,

@@ -56,7 +56,8 @@ stretchAfter stretch fallen phase scl = (stretch || (fallen && phase)) && not sc
 abbrev pub clocks : ℕ → ℕ → ℕ → Bool
 clocks usictl0 usictl1 usicnt = on usictl0 USIMST && off usictl1 USIIFG && counting usicnt
 
--- Low half becomes high; high half becomes low only if SCL was last seen high. In every other case the half becomes high.
+-- Low half becomes high; high half becomes low only if SCL was last seen high. In every other case the half becomes
+-- high.
 unfoldable pub phaseAfter : Bool → Bool → Bool → Bool → Bool
 phaseAfter clocking phase seen scl = cond clocking (cond phase (not (seen && scl)) true) true
 

@@ -1,4 +1,5 @@
--- The USI's register table (01, "The module's registers"; TI's names): address, value after power-up, and the bits by position.
+-- The USI's register table (01, "The module's registers"; TI's names): address, value after power-up, and the bits by
+-- position.
 use Prim.Native.Nat.{ℕ, _+_, _*_}
 use Rattle.bits.specs.Positions.{bit, lowest}
 

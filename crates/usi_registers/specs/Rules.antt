@@ -40,7 +40,8 @@ abbrev pub fitsSpi : ℕ → ℕ → Bool
 fitsSpi usictl0 usictl1 =
     off usictl1 USII2C && off usictl0 USISWRST && on usictl0 USIPE5 && on usictl0 USIPE6 && on usictl0 USIPE7
 
--- Write to USICNT, its effect on USICTL1: CNT above 0 with IFGCC=0 clears IFG and STP; CNT=0 sets IFG; otherwise flags stay.
+-- Write to USICNT, its effect on USICTL1: CNT above 0 with IFGCC=0 clears IFG and STP; CNT=0 sets IFG; otherwise
+-- flags stay.
 unfoldable pub countFlags : ℕ → ℕ → ℕ
 countFlags usictl1 value =
     cond (counting value)

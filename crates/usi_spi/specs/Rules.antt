@@ -20,7 +20,8 @@ leads usickctl before sclk = Bool·beq before (idle usickctl) && not (Bool·beq 
 abbrev pub trails : ℕ → Bool → Bool → Bool
 trails usickctl before sclk = not (Bool·beq before (idle usickctl)) && Bool·beq sclk (idle usickctl)
 
--- CKPH=0: changed on the leading edge, captured on the trailing one. CKPH=1: captured on the leading, changed on the trailing.
+-- CKPH=0: changed on the leading edge, captured on the trailing one. CKPH=1: captured on the leading, changed on the
+-- trailing.
 unfoldable pub captures : ℕ → ℕ → Bool → Bool → Bool
 captures usictl1 usickctl before sclk =
     cond (on usictl1 USICKPH) (leads usickctl before sclk) (trails usickctl before sclk)
