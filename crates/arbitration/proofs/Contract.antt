@@ -246,7 +246,7 @@ module _ (bytes lengths acknowledges : List ℕ) (entry : Lent) where
   stays (ended turn still) stopped = refl
   stays (more turn final runs after) stopped = absurd (false≢true (sym stopped ∙ runs))
 
-  -- what was prepares, and where it ended
+  -- what was prepared, and where it ended
   pub promised : (prepared : Prepared)
       → Prepares bytes lengths acknowledges (length (entry .table)) (length (entry .carried)) (length (entry .levels)) prepared
       → (final : Turn)

@@ -59,7 +59,7 @@ repliedBy ended count =
       seats = seats (ended .members .contending) (ended .members .positions) count;
     }
 
--- the reply of what was prepares so, and ended so
+-- the reply of what was prepared so, and ended so
 unfoldable pub repliedTo : Prepared → Sequencer → Arbitrated
 repliedTo prepared ended =
     cond (eqb (prepared .refusal .number) 0) (repliedBy ended (prepared .count)) (refused (prepared .refusal))

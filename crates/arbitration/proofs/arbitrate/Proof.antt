@@ -1,4 +1,4 @@
--- `arbitrate` meets its contract, by a walk of its MIR: what is prepares, the messages as rows, the run over the table and
+-- `arbitrate` meets its contract, by a walk of its MIR: what is prepared, the messages as rows, the run over the table and
 -- the buffers, which are lent on and come back, and the reply.
 -- Assumes nothing.
 use mathlib.Core.Path.{_≡_, refl, sym, _∙_, ap, subst}
@@ -108,7 +108,7 @@ module _ {X : Type 1} (𝓤 : URA X) (H : Heap 𝓤) (A : Atoms 𝓤) (mem : Mem
   abbrev Replied : Contract 𝓤
   Replied = Meant 𝓤 H A replied′.ended (replied′.clauses 𝓤 H A mem run)
 
-  -- `prepares` and `cut`, which read the messages
+  -- `prepare` and `cut`, which read the messages
   module _ (W : Given 𝓤 H A) (bytes lengths acks : Borrowed ℕ) where
     module _ (table-long carried-long levels-long : ℕ) where
       abbrev to-prepare : Prepare .Ghost
@@ -414,7 +414,7 @@ module _
         move ! (2 ∷ 0 ∷ []) $ fjoin ! $ move ! (2 ∷ 0 ∷ []) $ fjoin ! $ move ! (1 ∷ 0 ∷ []) $ fjoin ! $
         have ! reply (x .answer) (x .is) $ move ! (1 ∷ 0 ∷ []) $ done !
 
-    -- the fields of a prepared
+    -- the fields of what is prepared
     count-fits : (p : Prepared) → Is prepared-row p (prepared .val p ∷ []) → p .count < 2 ^ 64
     count-fits p is = is .1 .1 .1 .0 .1
 
