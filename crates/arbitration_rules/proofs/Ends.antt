@@ -88,12 +88,12 @@ module _ {P : List ℕ → Type 0} (messages : List (List ℕ)) (one : Someone P
       (ap not everybody-pulls)
 
   pub clears-start : writes clearStart (same caught 1 (3 ∷ 1 ∷ []))
-      ≡ busOf (waits afterStart (λ message. stays) messages) false 1 0 (3 ∷ 1 ∷ []) []
+      ≡ busOf (waits (afterStart 0) (λ message. stays) messages) false 1 0 (3 ∷ 1 ∷ []) []
   unfolding applied writeByte settled followed
   clears-start = writes-all clearStart (alike caught) messages false 1 0 (3 ∷ 1 ∷ []) []
 
   pub start-is : started (prepared messages)
-      ≡ busOf (waits afterStart (λ message. stays) messages) false 1 0 (3 ∷ 1 ∷ []) []
+      ≡ busOf (waits (afterStart 0) (λ message. stays) messages) false 1 0 (3 ∷ 1 ∷ []) []
   unfolding started prepared applied writeByte settled followed
   start-is =
       ap (λ bus. writes clearStart (recorded (writes pullLow (recorded bus))))

@@ -2,76 +2,104 @@
 use Prim.Native.Nat.{ℕ, _≤_, _<_}
 use native.Mathlib.Omega.{arith}
 use mathlib.Core.Path.{_≡_, refl, sym, _∙_}
-use mathlib.Core.Bool.{Bool, cond, true, false, false≢true}
+use mathlib.Core.Bool.{Bool, cond, true, false, not, false≢true}
 use mathlib.Core.List.{List, [], _∷_}
 use lib.Dec.{eqb, ltb}
-use borrow.Author.Tests.{eq-eqb, eqb-true, eqb-false, ltb-true, ltb-false, lt-ltb, le-ltb}
-use Rattle.arbitration_rules.specs.Outcome.{atMost, lesser, leastFrom, least}
+use borrow.Author.Tests.{eq-eqb, eqb-true, eqb-false, ltb-true, ltb-false, lt-ltb, le-ltb, not-true, not-false}
+use Rattle.arbitration_rules.specs.Outcome.{restarts, atMost, lesser, leastFrom, least}
 use Rattle.laws.specs.Everyone.{Everyone, nobody, also, Someone, this, another}
 use Rattle.laws.proofs.Lists.{everyone-so, someone-both}
 
--- a message is at most another: it begins it, or the first bytes decide, or they are equal and leave it to the rest
+-- a message is at most another: both end; it ends where the other sends a byte; it restarts where the other ends; what
+-- they send first decides, or is equal and leaves it to the rest
 pub data AtMost : List ℕ → List ℕ → Type 0 where
-  beginning : {others : List ℕ} → AtMost [] others
-  by-first : {byte other : ℕ} {bytes others : List ℕ} → byte < other → AtMost (byte ∷ bytes) (other ∷ others)
-  by-rest : {byte other : ℕ} {bytes others : List ℕ} → byte ≡ other → AtMost bytes others
-      → AtMost (byte ∷ bytes) (other ∷ others)
+  both-end : AtMost [] []
+  ends : {other : ℕ} {others : List ℕ} → restarts other ≡ false → AtMost [] (other ∷ others)
+  restarts-first : {sent : ℕ} {message : List ℕ} → restarts sent ≡ true → AtMost (sent ∷ message) []
+  by-first : {sent other : ℕ} {message others : List ℕ} → sent < other → AtMost (sent ∷ message) (other ∷ others)
+  by-rest : {sent other : ℕ} {message others : List ℕ} → sent ≡ other → AtMost message others
+      → AtMost (sent ∷ message) (other ∷ others)
 
 -- what the test says
 pub at-most : (message other : List ℕ) → atMost message other ≡ true → AtMost message other
-at-most [] other holds = beginning
-at-most (byte ∷ bytes) [] holds = absurd (false≢true holds)
-at-most (byte ∷ bytes) (other ∷ others) holds =
-    go (at-most bytes others) (ltb byte other) (eqb byte other) refl refl
+at-most [] [] holds = both-end
+at-most [] (other ∷ others) holds = ends (not-true (restarts other) holds)
+at-most (sent ∷ message) [] holds = restarts-first holds
+at-most (sent ∷ message) (other ∷ others) holds =
+    go (at-most message others) (ltb sent other) (eqb sent other) refl refl
   where
-    go : (atMost bytes others ≡ true → AtMost bytes others) → (less same : Bool) → ltb byte other ≡ less
-        → eqb byte other ≡ same → AtMost (byte ∷ bytes) (other ∷ others)
-    go rest true same less? same? = by-first (ltb-true byte other less?)
-    go rest false true less? same? = by-rest (eqb-true byte other same?) (rest (rw (less?, same?) at holds))
+    go : (atMost message others ≡ true → AtMost message others) → (less same : Bool) → ltb sent other ≡ less
+        → eqb sent other ≡ same → AtMost (sent ∷ message) (other ∷ others)
+    go rest true same less? same? = by-first (ltb-true sent other less?)
+    go rest false true less? same? = by-rest (eqb-true sent other same?) (rest (rw (less?, same?) at holds))
     go rest false false less? same? = absurd (false≢true (rw (less?, same?) at holds))
 
 pub not-at-most : (message other : List ℕ) → atMost message other ≡ false → AtMost other message
-not-at-most [] other fails = absurd (false≢true (sym fails))
-not-at-most (byte ∷ bytes) [] fails = beginning
-not-at-most (byte ∷ bytes) (other ∷ others) fails =
-    go (not-at-most bytes others) (ltb byte other) (eqb byte other) refl refl
+not-at-most [] [] fails = absurd (false≢true (sym fails))
+not-at-most [] (other ∷ others) fails = restarts-first (not-false (restarts other) fails)
+not-at-most (sent ∷ message) [] fails = ends fails
+not-at-most (sent ∷ message) (other ∷ others) fails =
+    go (not-at-most message others) (ltb sent other) (eqb sent other) refl refl
   where
-    go : (atMost bytes others ≡ false → AtMost others bytes) → (less same : Bool) → ltb byte other ≡ less
-        → eqb byte other ≡ same → AtMost (other ∷ others) (byte ∷ bytes)
+    go : (atMost message others ≡ false → AtMost others message) → (less same : Bool) → ltb sent other ≡ less
+        → eqb sent other ≡ same → AtMost (other ∷ others) (sent ∷ message)
     go rest true same less? same? = absurd (false≢true (rw less? at (sym fails)))
-    go rest false true less? same? = by-rest (sym (eqb-true byte other same?)) (rest (rw (less?, same?) at fails))
+    go rest false true less? same? = by-rest (sym (eqb-true sent other same?)) (rest (rw (less?, same?) at fails))
     go rest false false less? same? =
-        let unequal : byte ≡ other → ⊥ = eqb-false byte other same? in
-        let below : other < byte = omega (arith, ltb-false byte other less?) in
+        let unequal : sent ≡ other → ⊥ = eqb-false sent other same? in
+        let below : other < sent = omega (arith, ltb-false sent other less?) in
         by-first below
 
 pub at-most-holds : {message other : List ℕ} → AtMost message other → atMost message other ≡ true
-at-most-holds beginning = refl
-at-most-holds (by-first {byte} {other} less) = rw (lt-ltb byte other less)
-at-most-holds (by-rest {byte} {other} same rest) =
-    rw (le-ltb byte other (omega arith), eq-eqb byte other same) (at-most-holds rest)
+at-most-holds both-end = refl
+at-most-holds (ends byte) = rw byte
+at-most-holds (restarts-first again) = again
+at-most-holds (by-first {sent} {other} less) = rw (lt-ltb sent other less)
+at-most-holds (by-rest {sent} {other} same rest) =
+    rw (le-ltb sent other (omega arith), eq-eqb sent other same) (at-most-holds rest)
 
 pub at-most-refl : (message : List ℕ) → AtMost message message
-at-most-refl [] = beginning
-at-most-refl (byte ∷ bytes) = by-rest refl (at-most-refl bytes)
+at-most-refl [] = both-end
+at-most-refl (sent ∷ message) = by-rest refl (at-most-refl message)
+
+-- a restart is a number below 256, a byte one from 256 on
+restart-below : (sent : ℕ) → restarts sent ≡ true → sent < 256
+restart-below sent again = ltb-true sent 256 again
+
+byte-above : (sent : ℕ) → restarts sent ≡ false → 256 ≤ sent
+byte-above sent byte = ltb-false sent 256 byte
 
 pub at-most-trans : {message other third : List ℕ} → AtMost message other → AtMost other third → AtMost message third
-at-most-trans beginning second = beginning
-at-most-trans (by-first {byte} less) (by-first {other = third} more) =
-    let below : byte < third = omega arith in by-first below
-at-most-trans (by-first {byte} less) (by-rest {other = third} same rest) =
-    let below : byte < third = omega arith in by-first below
-at-most-trans (by-rest {byte} same rest) (by-first {other = third} less) =
-    let below : byte < third = omega arith in by-first below
+at-most-trans both-end second = second
+at-most-trans (ends {other} byte) (restarts-first again) =
+    absurd (omega (arith, byte-above other byte, restart-below other again))
+at-most-trans (ends {other} byte) (by-first {other = third} less) =
+    ends (le-ltb third 256 (omega (arith, byte-above other byte)))
+at-most-trans (ends {other} byte) (by-rest {other = third} same rest) =
+    ends (le-ltb third 256 (omega (arith, byte-above other byte)))
+at-most-trans (restarts-first again) both-end = restarts-first again
+at-most-trans (restarts-first {sent} again) (ends {other = third} byte) =
+    let below : sent < third = omega (arith, restart-below sent again, byte-above third byte) in by-first below
+at-most-trans (by-first {sent} {other} less) (restarts-first again) =
+    restarts-first (lt-ltb sent 256 (omega (arith, restart-below other again)))
+at-most-trans (by-first {sent} less) (by-first {other = third} more) =
+    let below : sent < third = omega arith in by-first below
+at-most-trans (by-first {sent} less) (by-rest {other = third} same rest) =
+    let below : sent < third = omega arith in by-first below
+at-most-trans (by-rest {sent} {other} same rest) (restarts-first again) =
+    restarts-first (lt-ltb sent 256 (omega (arith, restart-below other again)))
+at-most-trans (by-rest {sent} same rest) (by-first {other = third} less) =
+    let below : sent < third = omega arith in by-first below
 at-most-trans (by-rest same rest) (by-rest alike others) = by-rest (same ∙ alike) (at-most-trans rest others)
 
--- the first bytes of two messages of which one is at most the other, and the rest where these are equal
-pub first-at-most : {byte other : ℕ} {bytes others : List ℕ} → AtMost (byte ∷ bytes) (other ∷ others) → byte ≤ other
+-- what two messages send first, of which one is at most the other, and the rest where that is equal
+pub first-at-most : {sent other : ℕ} {message others : List ℕ} → AtMost (sent ∷ message) (other ∷ others)
+    → sent ≤ other
 first-at-most (by-first less) = omega arith
 first-at-most (by-rest same rest) = omega arith
 
-pub rest-at-most : {byte other : ℕ} {bytes others : List ℕ} → AtMost (byte ∷ bytes) (other ∷ others) → byte ≡ other
-    → AtMost bytes others
+pub rest-at-most : {sent other : ℕ} {message others : List ℕ} → AtMost (sent ∷ message) (other ∷ others)
+    → sent ≡ other → AtMost message others
 rest-at-most (by-first less) same = absurd (omega arith)
 rest-at-most (by-rest same rest) alike = rest
 

@@ -20,26 +20,26 @@ use Rattle.arbitration_rules.proofs.Registers.{driving, released, liste
 use Rattle.arbitration_rules.proofs.Roles.{Role, drives, lost, gone, contends, masterOf, Sending}
 use Rattle.arbitration_rules.proofs.Standing.{Standing, stays, out, standingOf, entersAs}
 
--- after the START, or after a byte and its ninth bit
+-- after a START, with the byte last taken, or after a byte and its ninth bit
 pub data Pause : Type 0 where
-  afterStart : Pause
+  afterStart : (taken : ℕ) → Pause
   afterByte : (byte : ℕ) (ninth : Bool) → Pause
 
 -- the SDA last seen, and the latch and enable of those still in
 abbrev pub sdaAt : Pause → Bool
-sdaAt afterStart = false
+sdaAt (afterStart taken) = false
 sdaAt (afterByte byte ninth) = ninth
 
 abbrev pub latchAt : Pause → Bool
-latchAt afterStart = false
+latchAt (afterStart taken) = false
 latchAt (afterByte byte ninth) = rules.firstBit byte
 
 abbrev pub enableAt : Pause → Bool
-enableAt afterStart = true
+enableAt (afterStart taken) = true
 enableAt (afterByte byte ninth) = false
 
 abbrev pub waiting : Pause → Usi
-waiting afterStart = between 0xca 0x41 0 0 false true false
+waiting (afterStart taken) = between 0xca 0x41 0 0 false true false
 waiting (afterByte byte ninth) = listening 0 (rules.shifted byte ninth) (rules.firstBit byte) false ninth
 
 abbrev pub usiAt : Pause → Standing → Usi
@@ -56,15 +56,15 @@ positionOf (out register latch position) = position
 
 -- the acknowledge's pull, the level last sampled, and the byte last taken
 abbrev pub pullAt : Pause → Bool
-pullAt afterStart = false
+pullAt (afterStart taken) = false
 pullAt (afterByte byte ninth) = not ninth
 
 abbrev pub levelAt : Pause → ℕ
-levelAt afterStart = levelOf true false
+levelAt (afterStart taken) = levelOf true false
 levelAt (afterByte byte ninth) = levelOf true ninth
 
 abbrev pub takenAt : Pause → ℕ
-takenAt afterStart = 0
+takenAt (afterStart taken) = taken
 takenAt (afterByte byte ninth) = byte
 
 -- a master as it stands, with its module
@@ -80,7 +80,7 @@ pub loads : (pause : Pause) (own : ℕ) (standing : Standing) → own < 256
     → written USICNT 0x08 (written USICTL0 0xca (written USISRL own (masterAt pause standing)))
     ≡ masterOf 8 [] (sdaAt pause) (entersAs (latchAt pause) (enableAt pause) own standing)
 unfolding applied writeByte settled followed countFlags
-loads afterStart own stays small =
+loads (afterStart taken) own stays small =
     ap
     (λ r. record { usi = driving 8 r false true false; contending = true; lost = false; position = 0 })
     (sym (ap number (append-nil (byteBits own)) ∙ number-bits own small))
@@ -93,7 +93,7 @@ loads (afterByte byte ninth) own stays small =
       position = 0;
     })
     (sym (ap number (append-nil (byteBits own)) ∙ number-bits own small))
-loads afterStart own (out register latch position) small = refl
+loads (afterStart taken) own (out register latch position) small = refl
 loads (afterByte byte ninth) own (out register latch position) small = refl
 
 -- after the eight turns: who lost releases both lines, the rest listen for the acknowledge

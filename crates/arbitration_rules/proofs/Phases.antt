@@ -1,18 +1,18 @@
 -- The scripts of a run as functions on the bus, and the run as these.
 use Prim.Native.Nat.{ℕ, zero, suc, _+_, _*_}
 use mathlib.Core.Path.{_≡_, refl, ap, _∙_}
-use mathlib.Core.Bool.{Bool, cond, false, _||_}
+use mathlib.Core.Bool.{Bool, cond, true, false, _||_}
 use mathlib.Core.List.{List, [], _∷_, _++_, map, zipWith}
 use mir.Val.{boolByte}
 use lib.Dec.{eqb}
-use lib.ListN.{getD}
 use Rattle.levels.specs.Levels.{sda}
 use Rattle.usi_registers.specs.Registers.{USICTL0, USICTL1, USICKCTL, USICNT, USISRL}
-use Rattle.arbitration_rules.specs.Masters.{Master, Who, everybody, stillIn, beaten, Operation, Tick, Write}
-use Rattle.arbitration_rules.specs.Masters.{applied, judged, settled}
+use Rattle.arbitration_rules.specs.Masters.{Master, Who, everybody, stillIn, beaten, losers, Operation}
+use Rattle.arbitration_rules.specs.Masters.{Tick, Write, applied, judged, settled}
+use Rattle.arbitration_rules.specs.Outcome.{byteAt}
 use Rattle.arbitration_rules.specs.Run as script
 use Rattle.arbitration_rules.specs.Run.{Bus, Instant, wire, withMasters, sampledAt, performed, perform, powered}
-use Rattle.arbitration_rules.specs.Run.{through, bytes, run}
+use Rattle.arbitration_rules.specs.Run.{through, restarting, bytes, run}
 
 -- one operation of those meant
 abbrev pub every : Who → Operation → Bus → Bus
@@ -22,9 +22,12 @@ every who operation bus = withMasters (map (applied who operation) (bus .masters
 abbrev pub written : ℕ → ℕ → Master → Master
 written address value master = applied stillIn (Write address value) master
 
+abbrev pub writesBy : Who → List (ℕ × ℕ) → Bus → Bus
+writesBy who [] bus = bus
+writesBy who (write ∷ more) bus = writesBy who more (every who (Write (write .0) (write .1)) bus)
+
 abbrev pub writes : List (ℕ × ℕ) → Bus → Bus
-writes [] bus = bus
-writes (write ∷ more) bus = writes more (every stillIn (Write (write .0) (write .1)) bus)
+writes list bus = writesBy stillIn list bus
 
 unfoldable pub sampled : Bus → Bus
 sampled bus = sampledAt (wire (bus .pull) (bus .masters)) bus
@@ -78,7 +81,7 @@ dataTurns (suc count) position bus = dataTurns count (suc position) (dataTurn po
 unfoldable pub loaded : List (List ℕ) → ℕ → Bus → Bus
 loaded messages index bus =
     record {
-      masters = zipWith (λ master message. written USISRL (getD message index 0) master) (bus .masters) messages;
+      masters = zipWith (λ master message. written USISRL (byteAt index message) master) (bus .masters) messages;
       pull = bus .pull;
       level = bus .level;
       byte = 0;
@@ -118,10 +121,23 @@ unfoldable pub byteTurn : List (List ℕ) → ℕ → ℕ → Bus → Bus
 byteTurn messages index acknowledge bus =
     bitTurn (eqb acknowledge 0) (closed (dataTurns 8 (9 * index) (opened messages index bus)))
 
+-- a restart, and a byte with the restart before it
+unfoldable pub restarted : Bus → Bus
+restarted bus =
+    writesBy losers ((USICTL1, 0x49) ∷ (USICNT, 0x80) ∷ [])
+    (writes ((USICTL1, 0x41) ∷ [])
+    (recorded
+    (writes ((USISRL, 0x00) ∷ (USICTL0, 0xce) ∷ (USICTL0, 0xca) ∷ [])
+    (bitTurn false (writes ((USISRL, 0xff) ∷ (USICTL0, 0xca) ∷ (USICNT, 0x01) ∷ []) bus)))))
+
+abbrev pub turnOf : Bool → List (List ℕ) → ℕ → ℕ → Bus → Bus
+turnOf again messages index acknowledge bus =
+    byteTurn messages index acknowledge (cond again (restarted bus) bus)
+
 abbrev pub bytesTurn : List (List ℕ) → List ℕ → ℕ → Bus → Bus
 bytesTurn messages [] index bus = bus
 bytesTurn messages (acknowledge ∷ acknowledges) index bus =
-    let after = byteTurn messages index acknowledge bus in
+    let after = turnOf (restarting messages index (bus .masters)) messages index acknowledge bus in
     let rest = bytesTurn messages acknowledges (suc index) after in
     cond (eqb acknowledge 1 || through messages (suc index) (after .masters)) after rest
 
@@ -171,17 +187,34 @@ module _ (messages : List (List ℕ)) where
   unfolding performed bitTurn recorded sampled dataTurn loaded opened closed byteTurn
   byte-turn-is index acknowledge bus = refl
 
+  pub restart-is : (bus : Bus) → perform messages script.restart bus ≡ restarted bus
+  unfolding performed bitTurn recorded sampled restarted
+  restart-is bus = refl
+
+  pub turn-is : (again : Bool) (index acknowledge : ℕ) (bus : Bus)
+      → perform messages (script.turnOf again index acknowledge) bus ≡ turnOf again messages index acknowledge bus
+  turn-is true index acknowledge bus =
+      perform-append messages script.restart (script.byteTurn index acknowledge) bus
+      ∙ ap (perform messages (script.byteTurn index acknowledge)) (restart-is bus)
+      ∙ byte-turn-is index acknowledge (restarted bus)
+  turn-is false index acknowledge bus = byte-turn-is index acknowledge bus
+
   pub bytes-is : (acknowledges : List ℕ) (index : ℕ) (bus : Bus)
       → bytes messages acknowledges index bus ≡ bytesTurn messages acknowledges index bus
   bytes-is [] index bus = refl
   bytes-is (acknowledge ∷ acknowledges) index bus =
       ap (λ (after : Bus).
       cond (eqb acknowledge 1 || through messages (suc index) (after .masters)) after
-      (bytes messages acknowledges (suc index) after)) (byte-turn-is index acknowledge bus)
+      (bytes messages acknowledges (suc index) after)) (turn-is again index acknowledge bus)
       ∙ ap (λ (rest : Bus).
-      cond (eqb acknowledge 1 || through messages (suc index) (byteTurn messages index acknowledge bus .masters))
-      (byteTurn messages index acknowledge bus) rest)
-      (bytes-is acknowledges (suc index) (byteTurn messages index acknowledge bus))
+      cond (eqb acknowledge 1 || through messages (suc index) (next .masters)) next rest)
+      (bytes-is acknowledges (suc index) next)
+    where
+      again : Bool
+      again = restarting messages index (bus .masters)
+
+      next : Bus
+      next = turnOf again messages index acknowledge bus
 
   pub run-is : (acknowledges : List ℕ)
       → run messages acknowledges ≡ stopped (bytesTurn messages acknowledges 0 (started (prepared messages)))

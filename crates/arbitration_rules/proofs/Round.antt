@@ -5,7 +5,6 @@ use mathlib.Core.Path.{_≡_, refl, ap, ap₂, sym, _∙_}
 use mathlib.Core.Bool.{Bool, true, false, not, _||_, or-false, false≢true}
 use mathlib.Core.List.{List, [], _∷_, _++_, map, map-map, append-assoc}
 use lib.Dec.{eqb}
-use lib.ListN.{getD}
 use Rattle.usi_registers.specs.Registers.{USICTL0, USICNT, USISRL}
 use Rattle.encode.specs.Encode.{byteBits, drawBit, drawBits}
 use Rattle.arbitration_rules.specs.Masters.{Master, settled, applied, beaten, Write}
@@ -13,6 +12,7 @@ use Rattle.arbitration_rules.proofs.Phases.{written, withdrawn, writes,
 use Rattle.arbitration_rules.proofs.Phases.{closed, byteTurn}
 use Rattle.laws.specs.Search.{any}
 use Rattle.levels.specs.Levels.{levelOf}
+use Rattle.arbitration_rules.specs.Outcome.{byteAt}
 use Rattle.arbitration_rules.specs.Run.{Bus}
 use Rattle.laws.specs.Everyone.{Everyone, Someone}
 use Rattle.laws.proofs.Lists.{everyone, everyone-so, everyone-both, everyone-map, someone-so, someone-map, map-alike}
@@ -30,10 +30,6 @@ use Rattle.arbitration_rules.proofs.Pause.{loads, listener, listens, he
 pub three-maps : {A B C D : Type 0} (f : C → D) (g : B → C) (h : A → B) (l : List A)
     → map f (map g (map h l)) ≡ map (λ a. f (g (h a))) l
 three-maps f g h l = ap (map f) (map-map g h l) ∙ map-map f (λ a. g (h a)) l
-
--- a message's byte at an index
-abbrev pub byteAt : ℕ → List ℕ → ℕ
-byteAt index message = getD message index 0
 
 -- masters with messages, each as it stands
 abbrev pub waits : Pause → (List ℕ → Standing) → List (List ℕ) → List Master

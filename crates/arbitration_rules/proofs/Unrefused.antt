@@ -6,7 +6,6 @@ use mathlib.Core.Path.{_≡_, refl, sym, ap, _∙_}
 use mathlib.Core.Bool.{Bool, cond, true, false, not, _&&_, _||_}
 use mathlib.Core.List.{List, [], _∷_, _++_, map, zipWith, append-assoc}
 use lib.Dec.{eqb}
-use lib.ListN.{getD}
 use borrow.Author.Tests.{le-ltb}
 use Rattle.bits.specs.Positions.{on, off}
 use Rattle.laws.specs.Everyone.{Everyone, nobody, also}
@@ -25,13 +24,14 @@ use Rattle.usi.specs.Step.{refusal, moduleOf, followed, settled, writeByte, sam
 use Rattle.usi.proofs.SetUp.{count-flags, followed-fits, sampled-fits, ticked-fits}
 use Rattle.usi.proofs.SetUp.{followed-clock, sampled-clock, ticked-clock}
 use Rattle.arbitration_rules.specs.Masters as masters
-use Rattle.arbitration_rules.specs.Masters.{Master, Who, stillIn, beaten, everybody, meant, Operation, Sample}
-use Rattle.arbitration_rules.specs.Masters.{Write}
+use Rattle.arbitration_rules.specs.Masters.{Master, Who, stillIn, beaten, losers, everybody, meant}
+use Rattle.arbitration_rules.specs.Masters.{Operation, Sample, Write}
+use Rattle.arbitration_rules.specs.Outcome.{byteAt}
 use Rattle.arbitration_rules.specs.Masters.{entering, stepped, applied, refusedAt, judged}
 use Rattle.arbitration_rules.specs.Run.{Bus, Instant, does, loads, samples, records, pulls, judges, takes}
 use Rattle.arbitration_rules.specs.Run.{carries}
 use Rattle.arbitration_rules.specs.Run.{settles, wire, performed, perform, writes, powered, setUp, start}
-use Rattle.arbitration_rules.specs.Run.{bitTurn}
+use Rattle.arbitration_rules.specs.Run.{bitTurn, restart, turnOf, restarting}
 use Rattle.arbitration_rules.specs.Run.{dataTurns, byteTurn, stop, through, bytes, run, bytesScript, script}
 use Rattle.arbitration_rules.specs.Run.{refusedIn, refusals}
 use Rattle.arbitration_rules.proofs.Phases.{perform-append}
@@ -202,11 +202,11 @@ module _ (messages : List (List ℕ)) where
     everyone-map (applied who operation) (everyone-so (stays-fit who operation works) fit),
   )
   instant-smooth (loads index) works bus fit = (
-    everyone-zip (λ master message. refusedAt stillIn (Write USISRL (getD message index 0)) master)
-        (λ master message f. not-refused stillIn (Write USISRL (getD message index 0)) (write-fine toShift) master f)
+    everyone-zip (λ master message. refusedAt stillIn (Write USISRL (byteAt index message)) master)
+        (λ master message f. not-refused stillIn (Write USISRL (byteAt index message)) (write-fine toShift) master f)
         fit messages,
-    everyone-zip (λ master message. applied stillIn (Write USISRL (getD message index 0)) master)
-        (λ master message f. stays-fit stillIn (Write USISRL (getD message index 0)) (write-fine toShift) master f)
+    everyone-zip (λ master message. applied stillIn (Write USISRL (byteAt index message)) master)
+        (λ master message f. stays-fit stillIn (Write USISRL (byteAt index message)) (write-fine toShift) master f)
         fit messages,
   )
   instant-smooth samples works bus fit =
@@ -280,6 +280,25 @@ stop-keeps =
     (also tt (also tt nobody)))
     (writes-keep stillIn (also (toControl refl refl refl refl) nobody))
 
+restart-keeps : Everyone Keeps restart
+restart-keeps =
+    everyone-append
+    (everyone-append
+    (everyone-append
+    (everyone-append
+    (everyone-append
+    (writes-keep stillIn (also toShift (also (toControl refl refl refl refl) (also (toCount refl) nobody))))
+    (bit-turn-keeps false))
+    (writes-keep stillIn (also toShift (also (toControl refl refl refl refl)
+    (also (toControl refl refl refl refl) nobody)))))
+    (also tt (also tt nobody)))
+    (writes-keep stillIn (also (toFlags refl refl) nobody)))
+    (writes-keep losers (also (toFlags refl refl) (also (toCount refl) nobody)))
+
+turn-keeps : (again : Bool) (index acknowledge : ℕ) → Everyone Keeps (turnOf again index acknowledge)
+turn-keeps true index acknowledge = everyone-append restart-keeps (byte-turn-keeps index acknowledge)
+turn-keeps false index acknowledge = byte-turn-keeps index acknowledge
+
 -- steps one after the other
 module _ (messages : List (List ℕ)) where
   refusals-append : (instants more : List Instant) (bus : Bus)
@@ -346,29 +365,35 @@ module _ (messages : List (List ℕ)) where
   all-bytes [] index bus fit = (record { none = nobody; fit = fit }, refl)
   all-bytes (acknowledge ∷ acknowledges) index bus fit =
       go (eqb acknowledge 1 || through messages (suc index) (after .masters))
-      (kept (byte-turn-keeps index acknowledge) bus fit)
+      (kept (turn-keeps again index acknowledge) bus fit)
       (all-bytes acknowledges (suc index) after)
     where
+      again : Bool
+      again = restarting messages index (bus .masters)
+
+      turn : List Instant
+      turn = turnOf again index acknowledge
+
       after : Bus
-      after = perform messages (byteTurn index acknowledge) bus
+      after = perform messages turn bus
 
       rest : List Instant
       rest = bytesScript messages acknowledges (suc index) after
 
-      go : (last : Bool) → Smooth (byteTurn index acknowledge) bus
+      go : (last : Bool) → Smooth turn bus
           → (Everyone Fit (after .masters)
           → Smooth rest after × (perform messages rest after ≡ bytes messages acknowledges (suc index) after))
-          → Smooth (byteTurn index acknowledge ++ cond last [] rest) bus
-          × (perform messages (byteTurn index acknowledge ++ cond last [] rest) bus
+          → Smooth (turn ++ cond last [] rest) bus
+          × (perform messages (turn ++ cond last [] rest) bus
           ≡ cond last after (bytes messages acknowledges (suc index) after))
       go true here later = (
-        then (byteTurn index acknowledge) [] bus here (record { none = nobody; fit = here .fit }),
-        perform-append messages (byteTurn index acknowledge) [] bus,
+        then turn [] bus here (record { none = nobody; fit = here .fit }),
+        perform-append messages turn [] bus,
       )
       go false here later =
           let more = later (here .fit) in (
-            then (byteTurn index acknowledge) rest bus here (more .0),
-            perform-append messages (byteTurn index acknowledge) rest bus ∙ more .1,
+            then turn rest bus here (more .0),
+            perform-append messages turn rest bus ∙ more .1,
           )
 
   -- the whole run

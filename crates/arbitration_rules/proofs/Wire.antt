@@ -5,8 +5,9 @@ use mathlib.Core.Bool.{Bool, true, false, not, _||_}
 use mathlib.Core.List.{List, [], _∷_, _++_, map, map-map, append-assoc}
 use Rattle.usi.specs.declared.Usi.{Usi}
 use Rattle.usi.specs.Module.{pullsScl, pullsSda}
-use Rattle.arbitration_rules.specs.Masters.{Master, Tick, Sample, withUsi, applied, everybody}
-use Rattle.arbitration_rules.proofs.Phases.{written, every, writes, sampled, noted, recorded, pulled, bitTurn}
+use Rattle.arbitration_rules.specs.Masters.{Master, Who, everybody, stillIn, Tick, Sample, Write, withUsi}
+use Rattle.arbitration_rules.specs.Masters.{applied}
+use Rattle.arbitration_rules.proofs.Phases.{every, writesBy, writes, sampled, noted, recorded, pulled, bitTurn}
 use Rattle.laws.specs.Search.{any}
 use Rattle.levels.specs.Levels.{levelOf}
 use Rattle.arbitration_rules.specs.Run.{Bus, wire, sampledAt}
@@ -118,17 +119,26 @@ module _ {A : Type 0} (master : A → Master) (l : List A) where
         ∙ rise
         ∙ ends
 
--- registers written one after the other by each master
+-- registers written one after the other by each master that is meant
+abbrev pub writesOfBy : Who → List (ℕ × ℕ) → Master → Master
+writesOfBy who [] master = master
+writesOfBy who (write ∷ more) master = writesOfBy who more (applied who (Write (write .0) (write .1)) master)
+
 abbrev pub writesOf : List (ℕ × ℕ) → Master → Master
-writesOf [] master = master
-writesOf (write ∷ more) master = writesOf more (written (write .0) (write .1) master)
+writesOf list master = writesOfBy stillIn list master
+
+pub writes-by : {A : Type 0} (who : Who) (list : List (ℕ × ℕ)) (master : A → Master) (l : List A) (pull : Bool)
+    (level byte : ℕ) (levels carried : List ℕ)
+    → writesBy who list (busOf (map master l) pull level byte levels carried)
+    ≡ busOf (map (λ a. writesOfBy who list (master a)) l) pull level byte levels carried
+writes-by who [] master l pull level byte levels carried = refl
+writes-by who (write ∷ more) master l pull level byte levels carried =
+    ap (λ masters. writesBy who more (busOf masters pull level byte levels carried))
+    (map-map (applied who (Write (write .0) (write .1))) master l)
+    ∙ writes-by who more (λ a. applied who (Write (write .0) (write .1)) (master a)) l pull level byte levels carried
 
 pub writes-all : {A : Type 0} (list : List (ℕ × ℕ)) (master : A → Master) (l : List A) (pull : Bool) (level byte : ℕ)
     (levels carried : List ℕ)
     → writes list (busOf (map master l) pull level byte levels carried)
     ≡ busOf (map (λ a. writesOf list (master a)) l) pull level byte levels carried
-writes-all [] master l pull level byte levels carried = refl
-writes-all (write ∷ more) master l pull level byte levels carried =
-    ap (λ masters. writes more (busOf masters pull level byte levels carried))
-    (map-map (written (write .0) (write .1)) master l)
-    ∙ writes-all more (λ a. written (write .0) (write .1) (master a)) l pull level byte levels carried
+writes-all list master l pull level byte levels carried = writes-by stillIn list master l pull level byte levels carried

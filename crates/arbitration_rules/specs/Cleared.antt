@@ -3,11 +3,11 @@ use Prim.Native.Nat.{ℕ}
 use mathlib.Core.Bool.{cond}
 use mathlib.Core.List.{List, [], _∷_, map, zipWith}
 use lib.Bits.{bitOr}
-use lib.ListN.{getD}
 use Rattle.usi_registers.specs.Registers.{USISRL}
 use Rattle.usi_registers.specs.Rules.{cleared}
 use Rattle.usi.specs.Step.{moduleOf}
 use Rattle.arbitration_rules.specs.Masters.{Master, Who, stillIn, meant, Operation, Tick, Sample, Write, stepped}
+use Rattle.arbitration_rules.specs.Outcome.{byteAt}
 use Rattle.arbitration_rules.specs.Run.{Bus, Instant, does, loads, samples, records, pulls, judges, takes}
 use Rattle.arbitration_rules.specs.Run.{carries, settles, performed, powered, script}
 
@@ -23,7 +23,7 @@ clearedAt who (Write address value) master =
 unfoldable pub clearedIn : List (List ℕ) → Instant → Bus → List ℕ
 clearedIn messages (does who operation) bus = map (clearedAt who operation) (bus .masters)
 clearedIn messages (loads index) bus =
-    zipWith (λ master message. clearedAt stillIn (Write USISRL (getD message index 0)) master) (bus .masters) messages
+    zipWith (λ master message. clearedAt stillIn (Write USISRL (byteAt index message)) master) (bus .masters) messages
 clearedIn messages samples bus = map (λ master. 0) (bus .masters)
 clearedIn messages records bus = map (λ master. 0) (bus .masters)
 clearedIn messages (pulls pull) bus = map (λ master. 0) (bus .masters)

@@ -3,11 +3,10 @@ use Prim.Native.Nat.{ℕ, _/_}
 use mathlib.Core.Bool.{Bool, true, false}
 use mathlib.Core.List.{List}
 use mathlib.Core.Option.{Option, none, some}
-use lib.ListN.{getD}
 use Rattle.usi.specs.declared.Usi.{Usi}
 use Rattle.bits.specs.Positions.{isSet}
 use Rattle.arbitration_rules.specs.Masters.{Master}
-use Rattle.arbitration_rules.specs.Outcome.{fate, lossFrom}
+use Rattle.arbitration_rules.specs.Outcome.{byteAt, fate, lossFrom}
 
 -- a module that has seen the STOP: SCL and SDA high, the clock phase high, nothing stretched
 abbrev pub afterStop : (usictl0 usictl1 usicnt usisrl : ℕ) (latch enable : Bool) → Usi
@@ -33,7 +32,7 @@ afterStop usictl0 usictl1 usicnt usisrl latch enable =
 abbrev pub finalUsi : List ℕ → List ℕ → Option ℕ → Usi
 finalUsi carried message none = afterStop 0xc8 0x45 0x00 0xff true true
 finalUsi carried message (some position) =
-    afterStop 0xc0 0x4d 0x80 (getD carried (position / 9) 0) (isSet 0 (getD message (position / 9) 0)) false
+    afterStop 0xc0 0x4d 0x80 (byteAt (position / 9) carried) (isSet 0 (byteAt (position / 9) message)) false
 
 -- with what Outcome.antt says of it
 abbrev pub finalAs : List ℕ → List ℕ → Option ℕ → Master

@@ -1,6 +1,6 @@
 -- One master at one instant: what each operation does to it. Every step is the module's own write, sample or tick.
 use Prim.Native.Nat.{ℕ}
-use mathlib.Core.Bool.{Bool, cond, true, false, _&&_}
+use mathlib.Core.Bool.{Bool, cond, true, false, not, _&&_}
 use Rattle.bits.specs.Positions.{on}
 use Rattle.usi_registers.specs.Registers.{USIAL}
 use Rattle.usi.specs.declared.Usi.{Usi}
@@ -23,14 +23,15 @@ withUsi usi master =
 abbrev pub entering : Master
 entering = record { usi = powerUp 0 0; contending = true; lost = false; position = 0 }
 
--- Who does something: everybody, who is still in, who lost in the byte now on the bus.
+-- Who does something: everybody, who is still in, who lost in the byte now on the bus, everyone who has lost so far.
 pub data Who : Type 0 where
-  everybody stillIn beaten : Who
+  everybody stillIn beaten losers : Who
 
 abbrev pub meant : Who → Master → Bool
 meant everybody master = true
 meant stillIn master = master .contending
 meant beaten master = master .lost
+meant losers master = not (master .contending)
 
 -- One step of a module: a tick, a sample of a level, a register written (address and value).
 pub data Operation : Type 0 where

@@ -4,15 +4,15 @@ use mathlib.Core.Bool.{Bool, cond, false, not, _&&_, _||_}
 use mathlib.Core.List.{List, [], _∷_, _++_, map, zipWith}
 use mir.Val.{boolByte}
 use lib.Dec.{eqb, leb}
-use lib.ListN.{length, getD}
+use lib.ListN.{length}
 use Rattle.bits.specs.Positions.{on}
 use Rattle.laws.specs.Search.{any}
 use Rattle.levels.specs.Levels.{levelOf, sda}
 use Rattle.usi_registers.specs.Registers.{USICTL0, USICTL1, USICKCTL, USICNT, USISRL, USIAL}
 use Rattle.usi.specs.Module.{pullsScl, pullsSda}
-use Rattle.arbitration_rules.specs.Masters.{Master, entering, Who, everybody, stillIn, beaten, Operation}
-use Rattle.arbitration_rules.specs.Masters.{Tick, Sample, Write, applied, refusedAt, judged, settled}
-use Rattle.arbitration_rules.specs.Outcome.{Fate, Outcome}
+use Rattle.arbitration_rules.specs.Masters.{Master, entering, Who, everybody, stillIn, beaten, losers}
+use Rattle.arbitration_rules.specs.Masters.{Operation, Tick, Sample, Write, applied, refusedAt, judged, settled}
+use Rattle.arbitration_rules.specs.Outcome.{Fate, Outcome, restarts, sentAt, byteAt}
 
 -- The bus in a run: its masters, whether the acknowledge pulls SDA, the level sampled last, what of a byte has been
 -- taken, the recorded levels and the carried bytes.
@@ -82,7 +82,7 @@ performed messages (does who operation) bus = withMasters (map (applied who oper
 performed messages (loads index) bus =
     record {
       masters =
-          zipWith (λ master message. applied stillIn (Write USISRL (getD message index 0)) master) (bus .masters)
+          zipWith (λ master message. applied stillIn (Write USISRL (byteAt index message)) master) (bus .masters)
           messages;
       pull = bus .pull;
       level = bus .level;
@@ -196,19 +196,39 @@ stop =
     ++ samples ∷ records ∷ []
     ++ writes stillIn ((USICTL0, 0xc8) ∷ [])
 
--- Someone still in has sent all of its message.
+-- A restart (02: Ask 4): those still in write USISRL=FFh, USICTL0=CAh, USICNT=01h; a bit turn; USISRL=0, USICTL0=CEh,
+-- CAh; sample (recorded: START); USICTL1=41h. Each loser then writes USICTL1=49h, USICNT=80h.
+abbrev pub restart : List Instant
+restart =
+    writes stillIn ((USISRL, 0xff) ∷ (USICTL0, 0xca) ∷ (USICNT, 0x01) ∷ [])
+    ++ bitTurn false
+    ++ writes stillIn ((USISRL, 0x00) ∷ (USICTL0, 0xce) ∷ (USICTL0, 0xca) ∷ [])
+    ++ samples ∷ records ∷ []
+    ++ writes stillIn ((USICTL1, 0x41) ∷ [])
+    ++ writes losers ((USICTL1, 0x49) ∷ (USICNT, 0x80) ∷ [])
+
+-- Someone still in has sent all of its message; someone still in has a restart next.
 unfoldable pub through : List (List ℕ) → ℕ → List Master → Bool
 through messages sent masters =
     any (λ (done : Bool). done)
     (zipWith (λ (master : Master) message. master .contending && leb (length message) sent) masters messages)
 
--- Step 2 until answer 1 or the last byte. Free: which byte is the last where those still in have messages of
--- different lengths. Here it is the last of the shortest of them; where refusal 16 does not apply, going on until
--- all of them are sent is the same run (proofs/LastByte.antt).
+unfoldable pub restarting : List (List ℕ) → ℕ → List Master → Bool
+restarting messages sent masters =
+    any (λ (next : Bool). next)
+    (zipWith (λ (master : Master) message. master .contending && restarts (sentAt sent message)) masters messages)
+
+-- A byte, with the restart that stands before it.
+abbrev pub turnOf : Bool → ℕ → ℕ → List Instant
+turnOf again index acknowledge = cond again restart [] ++ byteTurn index acknowledge
+
+-- Step 2 until answer 1 or the last byte. Free: what is done where those still in do not all go on alike (one ends its
+-- message or restarts, another does not); refusal 16 shuts that out. Here the first STOP ends the run, and else a restart
+-- is everybody's.
 abbrev pub bytes : List (List ℕ) → List ℕ → ℕ → Bus → Bus
 bytes messages [] index bus = bus
 bytes messages (acknowledge ∷ acknowledges) index bus =
-    let after = perform messages (byteTurn index acknowledge) bus in
+    let after = perform messages (turnOf (restarting messages index (bus .masters)) index acknowledge) bus in
     let rest = bytes messages acknowledges (suc index) after in
     cond (eqb acknowledge 1 || through messages (suc index) (after .masters)) after rest
 
@@ -222,9 +242,10 @@ run messages acknowledges =
 abbrev pub bytesScript : List (List ℕ) → List ℕ → ℕ → Bus → List Instant
 bytesScript messages [] index bus = []
 bytesScript messages (acknowledge ∷ acknowledges) index bus =
-    let after = perform messages (byteTurn index acknowledge) bus in
+    let turn = turnOf (restarting messages index (bus .masters)) index acknowledge in
+    let after = perform messages turn bus in
     let rest = bytesScript messages acknowledges (suc index) after in
-    byteTurn index acknowledge
+    turn
     ++ cond (eqb acknowledge 1 || through messages (suc index) (after .masters)) [] rest
 
 abbrev pub script : List (List ℕ) → List ℕ → List Instant
@@ -236,7 +257,7 @@ script messages acknowledges =
 unfoldable pub refusedIn : List (List ℕ) → Instant → Bus → List ℕ
 refusedIn messages (does who operation) bus = map (refusedAt who operation) (bus .masters)
 refusedIn messages (loads index) bus =
-    zipWith (λ master message. refusedAt stillIn (Write USISRL (getD message index 0)) master) (bus .masters) messages
+    zipWith (λ master message. refusedAt stillIn (Write USISRL (byteAt index message)) master) (bus .masters) messages
 refusedIn messages samples bus =
     map (refusedAt everybody (Sample (wire (bus .pull) (bus .masters)))) (bus .masters)
 refusedIn messages records bus = []
