@@ -15,3 +15,7 @@ pub mod Ends
 pub mod Restart
 pub mod LeastMessage
 pub mod Cut
+pub mod Follows
+pub mod Against
+pub mod Drawing
+pub mod Carry
