@@ -19,3 +19,8 @@ pub mod Follows
 pub mod Against
 pub mod Drawing
 pub mod Carry
+pub mod Loop
+pub mod Carried
+pub mod Fates
+pub mod Demand
+pub mod FinalMasters
