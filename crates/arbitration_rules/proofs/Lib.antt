@@ -24,3 +24,7 @@ pub mod Carried
 pub mod Fates
 pub mod Demand
 pub mod FinalMasters
+pub mod RecordedLevels
+pub mod Clearing
+pub mod ClearedSteps
+pub mod ClearedFlags
