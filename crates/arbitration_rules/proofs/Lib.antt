@@ -28,3 +28,5 @@ pub mod RecordedLevels
 pub mod Clearing
 pub mod ClearedSteps
 pub mod ClearedFlags
+pub mod Pieces
+pub mod Accepted
