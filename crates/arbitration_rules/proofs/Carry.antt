@@ -246,8 +246,8 @@ contest-on messages carried sent more {acknowledges} contest =
         let before = in-before (length carried) sent (byteAt (length carried) message) (against 0 carried message)
         (ap isIn so ∙ still) in
         subst (Follows acknowledges more) (shorter message)
-        (follows-on (drop (length carried) message) (follows (before .0))
-        (ap byteOf (drop-first (length carried) message) ∙ before .1))
+        (follows-on (drop (length carried) message) refl (follows (before .0))
+        (ap byteOf (drop-first (length carried) message) ∙ before .1) .1)
 
 through-is : (messages : List (List ℕ)) (standing : List ℕ → Standing) (pause : Pause) (count : ℕ)
     → through messages count (waits pause standing messages)

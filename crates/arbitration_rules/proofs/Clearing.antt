@@ -224,4 +224,3 @@ module _ (messages : List (List ℕ)) where
             writes-clear who list bus ∙ ap (map (clearsOf who list)) made
             ∙ each messages (clearsOf who list) g flags clears;
       }
-

@@ -95,21 +95,24 @@ follows-goes {acknowledges} {sent} {rest} (own ∷ message) follows =
         }
 
 -- and where the byte is the same and acknowledged, its rest follows the rest
-pub follows-on : {acknowledges : List ℕ} {sent : ℕ} {rest : List ℕ} (message : List ℕ)
-    → Follows (0 ∷ acknowledges) (sent ∷ rest) message → byteAt 0 message ≡ byteOf sent
-    → Follows acknowledges rest (drop 1 message)
-follows-on [] follows same = absurd (false≢true (sym (follows .ending)))
-follows-on {acknowledges} {sent} {rest} (own ∷ message) follows same =
+pub follows-on : {acknowledges : List ℕ} {sent : ℕ} {rest : List ℕ} (message : List ℕ) → getD acknowledges 0 0 ≡ 0
+    → Follows acknowledges (sent ∷ rest) message → byteAt 0 message ≡ byteOf sent
+    → (sentAt 0 message ≡ sent) × Follows (drop 1 acknowledges) rest (drop 1 message)
+follows-on [] answered follows same = absurd (false≢true (sym (follows .ending)))
+follows-on {acknowledges} {sent} {rest} (own ∷ message) answered follows same =
     go (follows .theirs) (follows .own) (follows-goes (own ∷ message) follows .again)
   where
     go : Sent (sent ∷ rest) → Sent (own ∷ message) → restarts own ≡ restarts sent
-        → Follows acknowledges rest message
+        → (own ≡ sent) × Follows (drop 1 acknowledges) rest message
     go (also small others) (also fits more) again =
         let equal : own ≡ sent = sent-same sent own small fits again same in
         let test : eqb sent own ≡ true = eq-eqb sent own (sym equal) in
-        record {
-          order = rest-at-most (follows .order) (sym equal);
-          ending = rw test at (follows .ending);
-          theirs = others;
-          own = more;
-        }
+        let heard : eqb (getD acknowledges 0 0) 0 ≡ true = eq-eqb (getD acknowledges 0 0) 0 answered in (
+          equal,
+          record {
+            order = rest-at-most (follows .order) (sym equal);
+            ending = rw (test, heard) at (follows .ending);
+            theirs = others;
+            own = more;
+          },
+        )

@@ -30,3 +30,4 @@ pub mod ClearedSteps
 pub mod ClearedFlags
 pub mod Pieces
 pub mod Accepted
+pub mod Undecided
