@@ -14,7 +14,7 @@ use Rattle.laws.specs.Everyone.{Everyone, nobody, also}
 use Rattle.laws.proofs.Bools.{both}
 use Rattle.laws.proofs.Lists.{everyone-so}
 use Rattle.arbitration_rules.specs.Outcome.{byteOf, restarts, least, carriedCount, positionIn, lossFrom}
-use Rattle.arbitration_rules.specs.Outcome.{endingDiffers}
+use Rattle.arbitration_rules.specs.Outcome.{allAcknowledged, endingDiffers}
 use Rattle.arbitration_rules.proofs.Follows.{Follows, follows-end, follows-goes, follows-on}
 use Rattle.arbitration_rules.proofs.Demand.{Arbitration, contest}
 
@@ -117,12 +117,6 @@ apart-differs acknowledges (sent ∷ message) (other ∷ others) (suc index) ali
     rw (eq-eqb sent other first, eq-eqb (getD acknowledges 0 0) 0 (heard 0 (omega arith)))
     (apart-differs (drop 1 acknowledges) message others index rest
     (λ i below. getD-rest acknowledges i ∙ heard (suc i) (omega arith)) apart)
-
--- every byte of a message is acknowledged
-abbrev pub allAcknowledged : List ℕ → List ℕ → Bool
-allAcknowledged [] acknowledges = true
-allAcknowledged (sent ∷ message) acknowledges =
-    eqb (getD acknowledges 0 0) 0 && allAcknowledged message (drop 1 acknowledges)
 
 -- a message was cut short: the last byte carried was not acknowledged
 pub record CutShort (message acknowledges : List ℕ) : Type 0 where

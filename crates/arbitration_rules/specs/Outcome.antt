@@ -127,6 +127,12 @@ outcome messages acknowledges =
       fates = map (λ message. fate (lossFrom 0 carried message)) messages;
     }
 
+-- Every byte of a message is acknowledged; then all of it is carried.
+abbrev pub allAcknowledged : List ℕ → List ℕ → Bool
+allAcknowledged [] acknowledges = true
+allAcknowledged (sent ∷ message) acknowledges =
+    eqb (getD acknowledges 0 0) 0 && allAcknowledged message (drop 1 acknowledges)
+
 -- Refusal 16: the least message's first difference from another is at an ending of either one (a restart or the STOP),
 -- and every byte before it is acknowledged. (One master would send a STOP or a restart where another sends something
 -- else: document 000 allows no arbitration between these.)
