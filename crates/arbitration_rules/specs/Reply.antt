@@ -107,12 +107,15 @@ abbrev pub badAcknowledges : Request → Bool
 badAcknowledges request =
     not (eqb (length (request .acknowledges)) (longest (lengthsOf request))) || any aboveOne (request .acknowledges)
 
--- Those that the request alone decides, 12 to 16.
+-- Those that the lengths and counts decide, 12 and 13; and all that the request alone decides, 12 to 16.
+abbrev pub shapeChecks : Request → List Check
+shapeChecks request =
+    check 12 (badCount request) ∷ check-at 13 (badLengths request) (first itself (badMessages request)) ∷ []
+
 abbrev pub requestChecks : Request → List Check
 requestChecks request =
-    check 12 (badCount request)
-    ∷ check-at 13 (badLengths request) (first itself (badMessages request))
-    ∷ check-at 14 (any reads (messagesOf request)) (first reads (messagesOf request))
+    shapeChecks request
+    ++ check-at 14 (any reads (messagesOf request)) (first reads (messagesOf request))
     ∷ check 15 (badAcknowledges request)
     ∷ check 16 (undecided (messagesOf request) (request .acknowledges))
     ∷ []

@@ -1,4 +1,4 @@
--- Messages walked one after the other in their bytes: where each begins and ends.
+-- Lists that lie one after the other in one, walked: where each begins and ends.
 use Prim.Native.Nat.{ℕ, suc, _+_, _-_, _<_, _≤_, min}
 use mathlib.Core.Path.{_≡_, refl, sym, ap, _∙_}
 use mathlib.Core.Bool.{Bool, true, false}
@@ -9,18 +9,18 @@ use lib.Dec.{leb}
 use borrow.Author.Tests.{leb-true, leb-false}
 use lib.ListN.{length, getD, take, drop, length-drop, drop-of-length-le}
 use lib.Seq.{drop-cons, drop-drop, take-all}
-use Rattle.arbitration_rules.specs.Reply.{messagesOf}
-use Rattle.arbitration_rules.proofs.Accepted.{cut-count}
+use Rattle.arbitration_rules.specs.Reply.{cut}
+use Rattle.arbitration_rules.proofs.Cut.{cut-count}
 
--- the first i messages end at an index of the bytes
+-- the first i of them end at an index
 pub record At (lengths bytes : List ℕ) (i from : ℕ) : Type 0 where
   pub within : from ≤ length bytes
-  pub rest : drop i (messagesOf lengths bytes) ≡ messagesOf (drop i lengths) (drop from bytes)
+  pub rest : drop i (cut lengths bytes) ≡ cut (drop i lengths) (drop from bytes)
 
 pub at-start : (lengths bytes : List ℕ) → At lengths bytes 0 0
 at-start lengths bytes = record { within = omega arith; rest = refl }
 
--- bytes left past an end that is cut to their number
+-- what is left past an end that is cut to the list's
 dropped : (bytes : List ℕ) (from count to : ℕ) → to ≡ min (from + count) (length bytes) → from ≤ length bytes
     → drop count (drop from bytes) ≡ drop to bytes
 dropped bytes from count to end within = go (leb (from + count) (length bytes)) refl
@@ -34,7 +34,7 @@ dropped bytes from count to end within = go (leb (from + count) (length bytes)) 
         let there : length bytes ≤ to = omega (arith, leb-false (from + count) (length bytes) past) in
         drop-drop count from bytes ∙ drop-of-length-le bytes far ∙ sym (drop-of-length-le bytes there)
 
--- and the bytes up to it
+-- and what lies up to it
 taken : (bytes : List ℕ) (from count to : ℕ) → to ≡ min (from + count) (length bytes) → from ≤ length bytes
     → take (to - from) (drop from bytes) ≡ take count (drop from bytes)
 taken bytes from count to end within = go (leb (from + count) (length bytes)) refl
@@ -54,23 +54,23 @@ taken bytes from count to end within = go (leb (from + count) (length bytes)) re
 
 module _ (lengths bytes : List ℕ) (i from to : ℕ) (at : At lengths bytes i from) (less : i < length lengths)
     (end : to ≡ min (from + getD lengths i 0) (length bytes)) where
-  -- the message that lies there
-  here : drop i (messagesOf lengths bytes)
+  -- the list that lies there
+  here : drop i (cut lengths bytes)
       ≡ take (getD lengths i 0) (drop from bytes)
-      ∷ messagesOf (drop (suc i) lengths) (drop (getD lengths i 0) (drop from bytes))
-  here = at .rest ∙ ap (λ (counts : List ℕ). messagesOf counts (drop from bytes)) (drop-cons lengths i 0 less)
+      ∷ cut (drop (suc i) lengths) (drop (getD lengths i 0) (drop from bytes))
+  here = at .rest ∙ ap (λ (counts : List ℕ). cut counts (drop from bytes)) (drop-cons lengths i 0 less)
 
-  pub in-messages : i < length (messagesOf lengths bytes)
+  pub in-messages : i < length (cut lengths bytes)
   in-messages = omega (arith, cut-count lengths bytes)
 
-  split : drop i (messagesOf lengths bytes)
-      ≡ getD (messagesOf lengths bytes) i [] ∷ drop (suc i) (messagesOf lengths bytes)
-  split = drop-cons (messagesOf lengths bytes) i [] in-messages
+  split : drop i (cut lengths bytes)
+      ≡ getD (cut lengths bytes) i [] ∷ drop (suc i) (cut lengths bytes)
+  split = drop-cons (cut lengths bytes) i [] in-messages
 
-  head-is : getD (messagesOf lengths bytes) i [] ≡ take (getD lengths i 0) (drop from bytes)
+  head-is : getD (cut lengths bytes) i [] ≡ take (getD lengths i 0) (drop from bytes)
   head-is = ap (λ (l : List (List ℕ)). getD l 0 []) (sym split ∙ here)
 
-  pub message-is : take (to - from) (drop from bytes) ≡ getD (messagesOf lengths bytes) i []
+  pub message-is : take (to - from) (drop from bytes) ≡ getD (cut lengths bytes) i []
   message-is = taken bytes from (getD lengths i 0) to end (at .within) ∙ sym head-is
 
   pub at-more : At lengths bytes (i + 1) to
@@ -80,7 +80,7 @@ module _ (lengths bytes : List ℕ) (i from to : ℕ) (at : At lengths bytes i f
         rest =
             rw add-one
             (ap (λ (l : List (List ℕ)). drop 1 l) (sym split ∙ here)
-            ∙ ap (messagesOf (drop (suc i) lengths)) (dropped bytes from (getD lengths i 0) to end (at .within)));
+            ∙ ap (cut (drop (suc i) lengths)) (dropped bytes from (getD lengths i 0) to end (at .within)));
       }
 
   pub ordered : from ≤ to
