@@ -2,24 +2,23 @@
 use Prim.Native.Nat.{ℕ, _<_, _≤_}
 use mathlib.Core.Path.{_≡_}
 use mathlib.Core.Bool.{Bool, cond, false, _||_}
-use mathlib.Core.List.{List}
+use mathlib.Core.List.{List, []}
 use lib.Dec.{eqb, ltb}
 use lib.ListN.{length, getD}
 use Rattle.laws.specs.declared.Refusal.{Refusal}
-use Rattle.laws.specs.Refusals.{none}
+use Rattle.laws.specs.Refusals.{none, given}
 use Rattle.arbitration_rules.specs.declared.Arbitrated.{Arbitrated}
 use Rattle.arbitration_rules.specs.Limits.{maxMasters}
-use Rattle.arbitration_rules.specs.Outcome.{levelCount}
-use Rattle.arbitration_rules.specs.Reply.{refusal, refused}
+use Rattle.arbitration_rules.specs.Reply.{Request, lengthsOf, messagesOf, shapeChecks, refusal, refused}
 use Rattle.arbitration_run.specs.declared.sequencer.Sequencer.{Sequencer}
 use Rattle.arbitration_run.specs.Members.{seats}
 use Rattle.arbitration_run.specs.Sequence.{first}
 use Rattle.arbitration.specs.declared.prepare.Prepared.{Prepared}
 
--- a lent slice is too short for so many masters and bytes
-abbrev pub Short : ℕ → ℕ → ℕ → ℕ → ℕ → Bool
-Short masters count tableRoom carriedRoom levelRoom =
-    ltb carriedRoom count || ltb levelRoom (levelCount count) || ltb tableRoom masters
+-- a lent slice is too short for so many masters, bytes and levels
+abbrev pub Short : ℕ → ℕ → ℕ → ℕ → ℕ → ℕ → Bool
+Short masters count needed tableRoom carriedRoom levelRoom =
+    ltb carriedRoom count || ltb levelRoom needed || ltb tableRoom masters
 
 -- a sequencer that makes no turn
 abbrev pub stopped : Sequencer → Sequencer
@@ -39,14 +38,18 @@ stopped sequencer =
 unfoldable pub begunBy : Refusal → List ℕ → Sequencer
 begunBy found lengths = cond (eqb (found .number) 0) (first lengths) (stopped (first lengths))
 
+-- the messages of a request that 12 and 13 pass, else none
+unfoldable pub soundMessages : Request → List (List ℕ)
+soundMessages request = cond (eqb (given (shapeChecks request) .number) 0) (messagesOf request) []
+
 -- what a call is to do: it runs all masters, or after a refusal none, and there is room for those that run; and that
 -- the bytes lent are bytes
-pub record Prepares (bytes lengths acknowledges : List ℕ) (tableRoom carriedRoom levelRoom : ℕ)
-    (prepared : Prepared) : Type 0 where
-  pub small : (i : ℕ) → getD bytes i 0 < 256
-  pub applies : prepared .refusal ≡ refusal bytes lengths acknowledges tableRoom carriedRoom levelRoom
-  pub masters : prepared .count ≡ cond (eqb (prepared .refusal .number) 0) (length lengths) 0
-  pub begins : prepared .first ≡ begunBy (prepared .refusal) lengths
+pub record Prepares (request : Request) (tableRoom carriedRoom levelRoom : ℕ) (prepared : Prepared) : Type 0 where
+  pub small : (i : ℕ) → getD (request .bytes) i 0 < 256
+  pub applies : prepared .refusal ≡ refusal request tableRoom carriedRoom levelRoom
+  pub masters : prepared .count ≡ cond (eqb (prepared .refusal .number) 0) (length (request .counts)) 0
+  pub begins : prepared .refusal .number ≡ 0 → prepared .first ≡ first (lengthsOf request)
+  pub rests : (prepared .refusal .number ≡ 0 → ⊥) → prepared .first .running ≡ false
   pub few : prepared .count ≤ maxMasters
   pub fit : prepared .count ≤ tableRoom
 

@@ -12,10 +12,9 @@ use Rattle.usi_registers.specs.Registers.{USIAL, USISTTIFG, USIIFG}
 use Rattle.usi.specs.declared.Usi.{Usi}
 use Rattle.arbitration_rules.specs.declared.Arbitrated.{Arbitrated}
 use Rattle.arbitration_rules.specs.declared.Seat.{Seat}
-use Rattle.arbitration_rules.specs.Outcome.{Fate, Outcome, outcome, levelCount, undecided}
-use Rattle.arbitration_rules.specs.Reply.{messagesOf, badCount, badLengths, reads, badAcknowledges, shortSlice}
+use Rattle.arbitration_rules.specs.Outcome.{Fate, Outcome, least, outcome, levelCount, undecided}
+use Rattle.arbitration_rules.specs.Reply.{Request, messagesOf, badCount, badLengths, reads, badAcknowledges, shortSlice}
 use Rattle.arbitration_rules.specs.Reply.{arbitrated, tableAfter, carriedAfter, levelsAfter}
-use Rattle.arbitration_rules.specs.Run.{run}
 
 -- the fate of a master: whether it is still in, its position, and its AL
 abbrev pub fateOf : Usi → Seat → Fate
@@ -32,15 +31,15 @@ pub record Lent : Type 0 where
   pub carried : List ℕ
   pub levels : List ℕ
 
--- what demand 3 compares, as a reply and the slices show it: k, the k bytes, the 5 + 18k levels, and the fates of the
--- masters that have a message
-unfoldable pub shown : ℕ → Arbitrated → Lent → Outcome
-shown masters reply lent =
+-- what demand 3 compares, as a reply and the slices show it: k, the k bytes, the 5 + 18k levels and three for each
+-- restart between them, and the fates of the masters that have a message
+unfoldable pub shown : List (List ℕ) → Arbitrated → Lent → Outcome
+shown messages reply lent =
     record {
       count = reply .count;
       carried = take (reply .count) (lent .carried);
-      levels = take (levelCount (reply .count)) (lent .levels);
-      fates = zipWith fateOf (take masters (lent .table)) (reply .seats);
+      levels = take (levelCount (take (reply .count) (least messages))) (lent .levels);
+      fates = zipWith fateOf (take (length messages) (lent .table)) (reply .seats);
     }
 
 -- what the writes of each master that has a message cleared, and what demand 3 adds of that (02: Ask 12): STTIFG and
@@ -52,27 +51,26 @@ abbrev pub allCleared : ℕ → List ℕ
 allCleared masters = replicate masters (USISTTIFG + USIIFG)
 
 -- where none of 12, 13, 14, 15 and 8 applies, the reply is refused exactly when 16 applies
-abbrev pub OnlyUndecided : List ℕ → List ℕ → List ℕ → Lent → Refusal → Type 0
-OnlyUndecided bytes lengths acknowledges lent found =
-    badCount lengths ≡ false → badLengths bytes lengths ≡ false → any reads (messagesOf lengths bytes) ≡ false
-    → badAcknowledges lengths acknowledges ≡ false
-    → shortSlice lengths (run (messagesOf lengths bytes) acknowledges) (length (lent .table)) (length (lent .carried))
-    (length (lent .levels))
-    ≡ false
-    → found ≡ cond (undecided (messagesOf lengths bytes) acknowledges) (refusedAt 16 0) none
+abbrev pub OnlyUndecided : Request → Lent → Refusal → Type 0
+OnlyUndecided request lent found =
+    badCount request ≡ false → badLengths request ≡ false → any reads (messagesOf request) ≡ false
+    → badAcknowledges request ≡ false
+    → shortSlice request (length (lent .table)) (length (lent .carried)) (length (lent .levels)) ≡ false
+    → found ≡ cond (undecided (messagesOf request) (request .acknowledges)) (refusedAt 16 0) none
 
 -- What an arbitration promises. The reply is that of 01's steps 1 to 4, or the first refusal that applies; each lent
 -- slice holds what the run gives, and its rest stays, or at a refusal all of it. What a run shows is what follows from
 -- messages and acknowledges alone (01: demand 3); the writes of each master cleared STTIFG and IFG (02: Ask 12); and
--- what no other refusal stops is refused exactly when the smallest message is acknowledged to its end and another goes
--- on from there.
-pub record Arbitrates (bytes lengths acknowledges : List ℕ) (entry exit : Lent) (reply : Arbitrated) : Type 0 where
+-- what no other refusal stops is refused exactly when 16 applies: the least message's first difference from another is at
+-- an ending of either one, and every byte before it is acknowledged (02: Ask 4).
+pub record Arbitrates (request : Request) (entry exit : Lent) (reply : Arbitrated) : Type 0 where
   pub replies : reply
-      ≡ arbitrated bytes lengths acknowledges (length (entry .table)) (length (entry .carried)) (length (entry .levels))
-  pub stepped : exit .table ≡ tableAfter bytes lengths acknowledges (reply .refusal) (entry .table)
-  pub carried : exit .carried ≡ carriedAfter bytes lengths acknowledges (reply .refusal) (entry .carried)
-  pub recorded : exit .levels ≡ levelsAfter bytes lengths acknowledges (reply .refusal) (entry .levels)
+      ≡ arbitrated request (length (entry .table)) (length (entry .carried)) (length (entry .levels))
+  pub stepped : exit .table ≡ tableAfter request (reply .refusal) (entry .table)
+  pub carried : exit .carried ≡ carriedAfter request (reply .refusal) (entry .carried)
+  pub recorded : exit .levels ≡ levelsAfter request (reply .refusal) (entry .levels)
   pub follows : reply .refusal .number ≡ 0
-      → shown (length lengths) reply exit ≡ outcome (messagesOf lengths bytes) acknowledges
-  pub clears : reply .refusal .number ≡ 0 → clearedIn (length lengths) reply ≡ allCleared (length lengths)
-  pub refuses : OnlyUndecided bytes lengths acknowledges entry (reply .refusal)
+      → shown (messagesOf request) reply exit ≡ outcome (messagesOf request) (request .acknowledges)
+  pub clears : reply .refusal .number ≡ 0
+      → clearedIn (length (request .counts)) reply ≡ allCleared (length (request .counts))
+  pub refuses : OnlyUndecided request entry (reply .refusal)

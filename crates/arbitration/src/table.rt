@@ -35,7 +35,7 @@ pub(crate) fn run(
     table: &mut [Usi],
     count: usize,
     mut sequencer: Sequencer,
-    rows: [[u8; MAX_LENGTH]; MAX_MASTERS],
+    rows: [[u16; MAX_LENGTH]; MAX_MASTERS],
     acks: &[u8],
     carried: &mut [u8],
     levels: &mut [u8],

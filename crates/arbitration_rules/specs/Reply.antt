@@ -27,6 +27,10 @@ pub record Request : Type 0 where
   pub counts : List ℕ
   pub acknowledges : List ℕ
 
+abbrev pub asked : List ℕ → List ℕ → List ℕ → List ℕ → Request
+asked bytes parts counts acknowledges =
+    record { bytes = bytes; parts = parts; counts = counts; acknowledges = acknowledges }
+
 -- Lists that lie one after the other in one, each of its length.
 abbrev pub cut : List ℕ → List ℕ → List (List ℕ)
 cut [] list = []
