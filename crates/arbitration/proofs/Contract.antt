@@ -15,13 +15,14 @@ use Rattle.arbitration_rules.specs.declared.Arbitrated.{Arbitrated}
 use Rattle.arbitration_rules.specs.declared.Seat.{Seat}
 use Rattle.arbitration_rules.specs.Limits.{maxMasters}
 use Rattle.arbitration_rules.specs.Masters.{Master}
-use Rattle.arbitration_rules.specs.Outcome.{Fate, levelCount}
-use Rattle.arbitration_rules.specs.Reply.{messagesOf, refusal, absent, refused, padded, seatOf, answered, arbitrated}
-use Rattle.arbitration_rules.specs.Reply.{tableAfter, carriedAfter, levelsAfter}
-use Rattle.arbitration_rules.specs.Run.{Bus, run, fateOf, observed}
+use Rattle.arbitration_rules.specs.Outcome.{Fate, least, levelCount}
+use Rattle.arbitration_rules.specs.Reply.{Request, asked, sentOf, lengthsOf, messagesOf, refusal, absent, refused, padded}
+use Rattle.arbitration_rules.specs.Reply.{seatOf, runOf, answered, arbitrated, tableAfter, carriedAfter, levelsAfter}
+use Rattle.arbitration_rules.specs.Run.{Bus, fateOf, observed}
 use Rattle.arbitration_rules.specs.Cleared.{clearedBy}
-use Rattle.arbitration_rules.proofs.Carry.{Bytes}
-use Rattle.arbitration_rules.proofs.Accepted.{cut-count, answered-outcome, refused-by-16}
+use Rattle.arbitration_rules.proofs.Cut.{lengths-count, messages-count}
+use Rattle.arbitration_rules.proofs.Pieces.{Bytes}
+use Rattle.arbitration_rules.proofs.Accepted.{answered-outcome, refused-by-16}
 use Rattle.arbitration_rules.proofs.ClearedFlags.{run-clears}
 use Rattle.arbitration_run.specs.Members as members
 use Rattle.arbitration_run.specs.Rows.{rowsOf}
@@ -31,9 +32,8 @@ use Rattle.arbitration_turns.proofs.Ran as ran
 use Rattle.arbitration.specs.declared.prepare.Prepared.{Prepared}
 use Rattle.arbitration.specs.Shown as shows
 use Rattle.arbitration.specs.Shown.{Lent, shown, clearedIn, allCleared, OnlyUndecided, Arbitrates}
-use Rattle.arbitration.specs.Prepared.{Prepares, begunBy}
-use Rattle.arbitration.specs.Prepared.{repliedBy, repliedTo}
-use Rattle.arbitration.proofs.Given.{bytes-below, arbitration, whole, short, carried-length, levels-length}
+use Rattle.arbitration.specs.Prepared.{Prepares, soundMessages, repliedBy, repliedTo}
+use Rattle.arbitration.proofs.Given.{bytes-below, arbitration, shaped, whole, short, carried-length, levels-length}
 use Rattle.arbitration.proofs.Given.{Unrefused, unrefused-gives}
 
 -- seats that differ in nothing but the master
@@ -51,20 +51,26 @@ same-cleared : (masters : List Master)
 same-cleared [] = refl
 same-cleared (master ∷ masters) = ap (λ (flags : List ℕ). members.writesClear ∷ flags) (same-cleared masters)
 
-module _ (bytes lengths acknowledges : List ℕ) (entry : Lent) where
+module _ (request : Request) (entry : Lent) where
   abbrev messages : List (List ℕ)
-  messages = messagesOf lengths bytes
+  messages = messagesOf request
+
+  abbrev acknowledges : List ℕ
+  acknowledges = request .acknowledges
+
+  abbrev count : ℕ
+  count = length (request .counts)
 
   abbrev Promise : Lent → Arbitrated → Type 0
-  Promise exit reply = Arbitrates bytes lengths acknowledges entry exit reply
+  Promise exit reply = Arbitrates request entry exit reply
 
   abbrev whatApplies : Refusal
   whatApplies =
-      refusal bytes lengths acknowledges (length (entry .table)) (length (entry .carried)) (length (entry .levels))
+      refusal request (length (entry .table)) (length (entry .carried)) (length (entry .levels))
 
-  only-undecided : OnlyUndecided bytes lengths acknowledges entry whatApplies
+  only-undecided : OnlyUndecided request entry whatApplies
   only-undecided count sizes reading answers enough =
-      refused-by-16 bytes lengths acknowledges (length (entry .table)) (length (entry .carried))
+      refused-by-16 request (length (entry .table)) (length (entry .carried))
       (length (entry .levels)) count sizes reading answers enough
 
   -- a refused reply, and the slices as they were
@@ -87,21 +93,21 @@ module _ (bytes lengths acknowledges : List ℕ) (entry : Lent) where
       }
 
   -- the run of what is not refused
-  module _ (small : Bytes bytes) (accepted : whatApplies .number ≡ 0) where
+  module _ (small : Bytes (request .bytes)) (accepted : whatApplies .number ≡ 0) where
     abbrev bus : Bus
-    bus = run messages acknowledges
+    bus = runOf request
 
-    held : Unrefused bytes lengths acknowledges (length (entry .table)) (length (entry .carried))
+    held : Unrefused request (length (entry .table)) (length (entry .carried))
         (length (entry .levels))
     held =
-        unrefused-gives bytes lengths acknowledges (length (entry .table)) (length (entry .carried))
+        unrefused-gives request (length (entry .table)) (length (entry .carried))
         (length (entry .levels)) small accepted
 
     unrefused : whatApplies ≡ none
     unrefused = held .none-applies
 
     module _ (final : Turn)
-        (reached : Reached (length lengths) (rowsOf messages) acknowledges
+        (reached : Reached (count) (rowsOf messages) acknowledges
         (record {
           sequencer = first lengths;
           table = entry .table;
@@ -112,34 +118,34 @@ module _ (bytes lengths acknowledges : List ℕ) (entry : Lent) where
       abbrev exit : Lent
       exit = record { table = final .table; carried = final .carried; levels = final .levels }
 
-      many : length (bus .masters) ≡ length lengths
+      many : length (bus .masters) ≡ count
       many =
-          ran.as-many-masters bytes lengths acknowledges (held .masters) (short bytes lengths acknowledges small (held .passed))
-          (whole bytes lengths acknowledges small (held .passed)) (entry .table) (held .enough)
+          ran.as-many-masters request (held .masters) (short request small (held .passed))
+          (whole request small (held .passed)) (entry .table) (held .enough)
           (entry .carried) (entry .levels) (held .carries) (held .records) final reached
 
       sent-is : final .sequencer .sent ≡ length (bus .carried)
       sent-is =
-          ran.sent-is bytes lengths acknowledges (held .masters) (short bytes lengths acknowledges small (held .passed))
-          (whole bytes lengths acknowledges small (held .passed)) (entry .table) (held .enough)
+          ran.sent-is request (held .masters) (short request small (held .passed))
+          (whole request small (held .passed)) (entry .table) (held .enough)
           (entry .carried) (entry .levels) (held .carries) (held .records) final reached
 
       carried-is : final .carried ≡ filled (bus .carried) (entry .carried)
       carried-is =
-          ran.carried-is bytes lengths acknowledges (held .masters) (short bytes lengths acknowledges small (held .passed))
-          (whole bytes lengths acknowledges small (held .passed)) (entry .table) (held .enough)
+          ran.carried-is request (held .masters) (short request small (held .passed))
+          (whole request small (held .passed)) (entry .table) (held .enough)
           (entry .carried) (entry .levels) (held .carries) (held .records) final reached
 
       levels-are : final .levels ≡ filled (bus .levels) (entry .levels)
       levels-are =
-          ran.levels-are bytes lengths acknowledges (held .masters) (short bytes lengths acknowledges small (held .passed))
-          (whole bytes lengths acknowledges small (held .passed)) (entry .table) (held .enough)
+          ran.levels-are request (held .masters) (short request small (held .passed))
+          (whole request small (held .passed)) (entry .table) (held .enough)
           (entry .carried) (entry .levels) (held .carries) (held .records) final reached
 
       modules-are : final .table ≡ filled (map (λ (m : Master). m .usi) (bus .masters)) (entry .table)
       modules-are =
-          ran.table-is bytes lengths acknowledges (held .masters) (short bytes lengths acknowledges small (held .passed))
-          (whole bytes lengths acknowledges small (held .passed)) (entry .table) (held .enough)
+          ran.table-is request (held .masters) (short request small (held .passed))
+          (whole request small (held .passed)) (entry .table) (held .enough)
           (entry .carried) (entry .levels) (held .carries) (held .records) final reached
           ∙ ap (λ (n : ℕ). map (λ (m : Master). m .usi) (bus .masters) ++ drop n (entry .table))
           (sym (length-map (bus .masters) (λ (m : Master). m .usi) ∙ many))
@@ -151,24 +157,24 @@ module _ (bytes lengths acknowledges : List ℕ) (entry : Lent) where
       cleared-alike : zipWith seatOf (clearedBy messages acknowledges) (bus .masters) ≡ standing
       cleared-alike =
           ap (λ (flags : List ℕ). zipWith seatOf flags (bus .masters))
-          (run-clears messages acknowledges (arbitration bytes lengths acknowledges small (held .passed)))
+          (run-clears messages acknowledges (arbitration request small (held .passed)))
           ∙ seats-alike members.writesClear messages (bus .masters) (many ∙ sym (cut-count lengths bytes))
 
       seats-are : members.seats (final .sequencer .members .contending) (final .sequencer .members .positions)
-          (length lengths)
+          (count)
           ≡ padded absent standing
       seats-are =
-          let left : maxMasters - length lengths ≡ maxMasters - length standing =
+          let left : maxMasters - count ≡ maxMasters - length standing =
           omega (arith, length-map (bus .masters) (seatOf members.writesClear), many) in
-          ran.seats-are bytes lengths acknowledges (held .masters) (short bytes lengths acknowledges small (held .passed))
-          (whole bytes lengths acknowledges small (held .passed)) (entry .table) (held .enough)
+          ran.seats-are request (held .masters) (short request small (held .passed))
+          (whole request small (held .passed)) (entry .table) (held .enough)
           (entry .carried) (entry .levels) (held .carries) (held .records) final reached
           ∙ ap (λ (n : ℕ). standing ++ replicate n absent) left
 
       abbrev answer : Arbitrated
       answer = answered (clearedBy messages acknowledges) bus
 
-      replied : repliedBy (final .sequencer) (length lengths) ≡ answer
+      replied : repliedBy (final .sequencer) (count) ≡ answer
       unfolding repliedBy answered
       replied = rw (sent-is, seats-are, cleared-alike)
 
@@ -182,12 +188,12 @@ module _ (bytes lengths acknowledges : List ℕ) (entry : Lent) where
       fates-are (master ∷ masters) seats =
           ap (λ (fates : List Fate). fateOf master ∷ fates) (fates-are masters seats)
 
-      shown-is : shown (length lengths) answer exit ≡ observed bus
+      shown-is : shown (count) answer exit ≡ observed bus
       unfolding shown observed answered
       shown-is =
           let k-is : levelCount (length (bus .carried)) ≡ length (bus .levels) =
-          ap levelCount (carried-length bytes lengths acknowledges small (held .passed))
-          ∙ sym (levels-length bytes lengths acknowledges small (held .passed)) in
+          ap levelCount (carried-length request small (held .passed))
+          ∙ sym (levels-length request small (held .passed)) in
           let modules = map (λ (m : Master). m .usi) (bus .masters) in
           rw (
             cleared-alike,
@@ -204,7 +210,7 @@ module _ (bytes lengths acknowledges : List ℕ) (entry : Lent) where
           )
 
       -- and of those that have a message
-      clears-are : clearedIn (length lengths) answer ≡ allCleared (length lengths)
+      clears-are : clearedIn (count) answer ≡ allCleared (count)
       unfolding answered
       clears-are =
           rw (
@@ -215,7 +221,7 @@ module _ (bytes lengths acknowledges : List ℕ) (entry : Lent) where
             length-map (bus .masters) (seatOf members.writesClear),
           ) (same-cleared (bus .masters))
 
-      ran-clauses : (reply : Arbitrated) → reply ≡ repliedBy (final .sequencer) (length lengths) → Promise exit reply
+      ran-clauses : (reply : Arbitrated) → reply ≡ repliedBy (final .sequencer) (count) → Promise exit reply
       unfolding arbitrated tableAfter carriedAfter levelsAfter
       ran-clauses reply is =
           let same : reply ≡ answer = is ∙ replied in
@@ -227,11 +233,11 @@ module _ (bytes lengths acknowledges : List ℕ) (entry : Lent) where
             recorded = rw (no-refusal) levels-are;
             follows =
                 λ unrefused-so.
-                ap (λ (r : Arbitrated). shown (length lengths) r exit) same
+                ap (λ (r : Arbitrated). shown (count) r exit) same
                 ∙ shown-is
-                ∙ answered-outcome bytes lengths acknowledges (length (entry .table)) (length (entry .carried))
+                ∙ answered-outcome request (length (entry .table)) (length (entry .carried))
                 (length (entry .levels)) small accepted;
-            clears = λ unrefused-so. ap (λ (r : Arbitrated). clearedIn (length lengths) r) same ∙ clears-are;
+            clears = λ unrefused-so. ap (λ (r : Arbitrated). clearedIn (count) r) same ∙ clears-are;
             refuses =
                 λ count sizes reading answers room-enough.
                 no-refusal ∙ sym unrefused ∙ only-undecided count sizes reading answers room-enough;
@@ -248,7 +254,7 @@ module _ (bytes lengths acknowledges : List ℕ) (entry : Lent) where
 
   -- what was prepared, and where it ended
   pub promised : (prepared : Prepared)
-      → Prepares bytes lengths acknowledges (length (entry .table)) (length (entry .carried)) (length (entry .levels)) prepared
+      → Prepares request (length (entry .table)) (length (entry .carried)) (length (entry .levels)) prepared
       → (final : Turn)
       → Reached (prepared .count) (rowsOf messages) acknowledges
       (record {

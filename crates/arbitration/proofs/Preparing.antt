@@ -2,7 +2,6 @@
 use Prim.Native.Nat.{ℕ, _≤_}
 use mathlib.Core.Path.{_≡_, refl, sym, ap, _∙_}
 use mathlib.Core.Bool.{Bool, true, false, cond}
-use mathlib.Core.List.{List, [], _∷_}
 use native.Mathlib.Omega.{arith}
 use lib.Dec.{eqb}
 use borrow.Author.Tests.{ne-eqb, eqb-true}
@@ -10,51 +9,53 @@ use lib.ListN.{length}
 use Rattle.laws.specs.declared.Refusal.{Refusal}
 use Rattle.laws.specs.Refusals.{none, refusedAt}
 use Rattle.arbitration_rules.specs.Limits.{maxMasters}
-use Rattle.arbitration_rules.specs.Reply.{refusal}
-use Rattle.arbitration_rules.proofs.Carry.{Bytes}
+use Rattle.arbitration_rules.specs.Reply.{Request, refusal}
+use Rattle.arbitration_rules.proofs.Pieces.{Bytes}
 use Rattle.arbitration_checks.specs.Settled.{settled}
 use Rattle.arbitration.specs.Prepared.{Short}
 use Rattle.arbitration.proofs.Given.{settled-none, settled-some, short-is, applies-is, passes-some, lacks}
 use Rattle.arbitration.proofs.Given.{Unrefused, unrefused-gives}
 
-module _ (bytes lengths acknowledges : List ℕ) (tableRoom carriedRoom levelRoom : ℕ) where
+module _ (request : Request) (tableRoom carriedRoom levelRoom : ℕ) where
   abbrev whatApplies : Refusal
-  whatApplies = refusal bytes lengths acknowledges tableRoom carriedRoom levelRoom
+  whatApplies = refusal request tableRoom carriedRoom levelRoom
 
-  pub stopped-before : (settled bytes lengths acknowledges .refusal .number ≡ 0 → ⊥)
-      → settled bytes lengths acknowledges .refusal ≡ whatApplies
+  pub stopped-before : (settled request .refusal .number ≡ 0 → ⊥)
+      → settled request .refusal ≡ whatApplies
   stopped-before some =
-      let same = settled-some bytes lengths acknowledges some in
-      sym (applies-is bytes lengths acknowledges tableRoom carriedRoom levelRoom
-      ∙ rw (← same, ne-eqb (settled bytes lengths acknowledges .refusal .number) 0 some))
+      let same = settled-some request some in
+      sym (applies-is request tableRoom carriedRoom levelRoom
+      ∙ rw (← same, ne-eqb (settled request .refusal .number) 0 some))
 
   -- past 12 to 16
-  module _ (small : Bytes bytes) (passes : settled bytes lengths acknowledges .refusal .number ≡ 0) where
-    room-is : Short (length lengths) (settled bytes lengths acknowledges .count) tableRoom carriedRoom levelRoom
-        ≡ lacks bytes lengths acknowledges tableRoom carriedRoom levelRoom
+  module _ (small : Bytes (request .bytes)) (passes : settled request .refusal .number ≡ 0) where
+    room-is : Short (length (request .counts)) (settled request .count) (settled request .levels) tableRoom carriedRoom
+        levelRoom
+        ≡ lacks request tableRoom carriedRoom levelRoom
     room-is =
-        let two = settled-none bytes lengths acknowledges passes in
-        rw (two .1) (short-is bytes lengths acknowledges small (two .0) tableRoom carriedRoom levelRoom)
+        let two = settled-none request passes in
+        rw (two .1) (short-is request small (two .0) tableRoom carriedRoom levelRoom)
 
     pub decided-by-room : (short : Bool)
-        → Short (length lengths) (settled bytes lengths acknowledges .count) tableRoom carriedRoom levelRoom ≡ short
+        → Short (length (request .counts)) (settled request .count) (settled request .levels) tableRoom carriedRoom
+        levelRoom
+        ≡ short
         → cond short (refusedAt 8 0) none ≡ whatApplies
     decided-by-room short is =
-        sym (passes-some bytes lengths acknowledges tableRoom carriedRoom levelRoom
-        (settled-none bytes lengths acknowledges passes .0)
+        sym (passes-some request tableRoom carriedRoom levelRoom (settled-none request passes .0)
         ∙ rw (← room-is, is))
 
   -- there is room for those that run
-  pub room-for : Bytes bytes → (found : Refusal) → found ≡ whatApplies
-      → (cond (eqb (found .number) 0) (length lengths) 0 ≤ maxMasters)
-      × (cond (eqb (found .number) 0) (length lengths) 0 ≤ tableRoom)
+  pub room-for : Bytes (request .bytes) → (found : Refusal) → found ≡ whatApplies
+      → (cond (eqb (found .number) 0) (length (request .counts)) 0 ≤ maxMasters)
+      × (cond (eqb (found .number) 0) (length (request .counts)) 0 ≤ tableRoom)
   room-for small found is = go (eqb (found .number) 0) refl
     where
       go : (runs : Bool) → eqb (found .number) 0 ≡ runs
-          → (cond runs (length lengths) 0 ≤ maxMasters) × (cond runs (length lengths) 0 ≤ tableRoom)
+          → (cond runs (length (request .counts)) 0 ≤ maxMasters) × (cond runs (length (request .counts)) 0 ≤ tableRoom)
       go true runs =
           let all =
-          unrefused-gives bytes lengths acknowledges tableRoom carriedRoom levelRoom small
+          unrefused-gives request tableRoom carriedRoom levelRoom small
           (ap (λ (r : Refusal). r .number) (sym is) ∙ eqb-true (found .number) 0 runs) in
           (all .masters, all .enough)
       go false runs = (omega arith, omega arith)

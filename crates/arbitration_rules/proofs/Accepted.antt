@@ -1,7 +1,7 @@
 -- What no refusal turns down is an arbitration: demand 3 holds of it.
 use Prim.Native.Nat.{ℕ, _≤_}
 use native.Mathlib.Omega.{arith}
-use mathlib.Core.Path.{_≡_, sym, subst}
+use mathlib.Core.Path.{_≡_, refl, sym, ap, ap₂, subst, _∙_}
 use mathlib.Core.Bool.{cond, false, not, _||_}
 use mathlib.Core.List.{List, [], _∷_, _++_, map}
 use lib.Dec.{eqb, ltb}
@@ -12,7 +12,7 @@ use Rattle.laws.specs.Refusals.{Check, check, none, refusedAt}
 use Rattle.laws.specs.Search.{any}
 use Rattle.laws.proofs.Bools.{neither}
 use Rattle.laws.proofs.Refusals.{Numbered, Passed, passed, passed-first, numbered-both}
-use Rattle.arbitration_rules.specs.Limits.{maxMasters}
+use Rattle.arbitration_rules.specs.Limits.{maxMasters, maxLength}
 use Rattle.arbitration_rules.specs.Outcome.{outcome, undecided}
 use Rattle.arbitration_rules.specs.Run.{observed}
 use Rattle.arbitration_rules.specs.Reply.{Request, total, partsOf, lengthsOf, messagesOf, badCount, badMessages}
@@ -48,37 +48,85 @@ pieces-sendable acknowledges bytes (also {a = parts} good more) enough long smal
     (pieces-sendable acknowledges (drop count bytes) more (omega (arith, length-drop count bytes)) (omega arith)
     (left-over small count))
 
+-- what 13 leaves: counts that sum to the parts, parts that sum to the bytes, and each message good
+record Shaped (request : Request) : Type 0 where
+  counted : total (request .counts) ≡ length (request .parts)
+  summed : total (request .parts) ≡ length (request .bytes)
+  good : Everyone Good (partsOf request)
+
+shaped : (request : Request) → badLengths request ≡ false → Shaped request
+shaped request sizes =
+    let counts = request .counts in
+    let sized =
+    neither (any itself (badMessages request) || not (eqb (total counts) (length (request .parts))))
+    (not (eqb (total (request .parts)) (length (request .bytes)))) sizes in
+    let two = neither (any itself (badMessages request)) (not (eqb (total counts) (length (request .parts)))) (sized .0) in
+    let same : total counts ≡ length (request .parts) =
+    eqb-true (total counts) (length (request .parts))
+    (not-false (eqb (total counts) (length (request .parts))) (two .1)) in
+    record {
+      counted = same;
+      summed =
+          eqb-true (total (request .parts)) (length (request .bytes))
+          (not-false (eqb (total (request .parts)) (length (request .bytes))) (sized .1));
+      good = parts-good request same (two .0);
+    }
+
+-- so the messages are as long as their parts say
+pieces-lengths : (all : List (List ℕ)) (bytes : List ℕ) → total (map total all) ≤ length bytes
+    → map length (pieces all bytes) ≡ map total all
+pieces-lengths [] bytes enough = refl
+pieces-lengths (parts ∷ more) bytes enough =
+    ap₂ _∷_ (piece-length bytes parts (omega arith))
+    (pieces-lengths more (drop (total parts) bytes) (omega (arith, length-drop (total parts) bytes)))
+
+pub sound-lengths : (request : Request) → badLengths request ≡ false
+    → map length (messagesOf request) ≡ lengthsOf request
+sound-lengths request sizes =
+    let so = shaped request sizes in
+    ap (map length) (messages-are request)
+    ∙ pieces-lengths (partsOf request) (request .bytes)
+    (omega (arith, parts-total request (so .counted), so .summed))
+
+-- and as many acknowledges as the longest are no more than a message may have
+longest-good : {all : List (List ℕ)} → Everyone Good all → longest (map total all) ≤ maxLength
+longest-good nobody = omega arith
+longest-good (also good more) = omega (arith, good .short, longest-good more)
+
+as-many : (request : Request) → badAcknowledges request ≡ false
+    → (length (request .acknowledges) ≡ longest (lengthsOf request))
+    × (any aboveOne (request .acknowledges) ≡ false)
+as-many request answers =
+    let two =
+    neither (not (eqb (length (request .acknowledges)) (longest (lengthsOf request))))
+    (any aboveOne (request .acknowledges)) answers in (
+      eqb-true (length (request .acknowledges)) (longest (lengthsOf request))
+          (not-false (eqb (length (request .acknowledges)) (longest (lengthsOf request))) (two .0)),
+      two .1,
+    )
+
+pub few-acknowledges : (request : Request) → badLengths request ≡ false → badAcknowledges request ≡ false
+    → length (request .acknowledges) ≤ maxLength
+few-acknowledges request sizes answers =
+    omega (arith, as-many request answers .0, longest-good (shaped request sizes .good))
+
 -- 12, 13, 15 and 16 do not apply
 pub arbitration : (request : Request) → Bytes (request .bytes) → badCount request ≡ false → badLengths request ≡ false
     → badAcknowledges request ≡ false → undecided (messagesOf request) (request .acknowledges) ≡ false
     → Arbitration (messagesOf request) (request .acknowledges)
 arbitration request small count sizes answers decided =
-    let counts = request .counts in
-    let acknowledges = request .acknowledges in
-    let counted = neither (eqb (length counts) 0) (ltb maxMasters (length counts)) count in
-    let sized =
-    neither (any itself (badMessages request) || not (eqb (total counts) (length (request .parts))))
-    (not (eqb (total (request .parts)) (length (request .bytes)))) sizes in
-    let shaped = neither (any itself (badMessages request)) (not (eqb (total counts) (length (request .parts)))) (sized .0) in
-    let answered =
-    neither (not (eqb (length acknowledges) (longest (lengthsOf request)))) (any aboveOne acknowledges) answers in
-    let many : length counts ≡ 0 → ⊥ = eqb-false (length counts) 0 (counted .0) in
-    let same : total counts ≡ length (request .parts) =
-    eqb-true (total counts) (length (request .parts))
-    (not-false (eqb (total counts) (length (request .parts))) (shaped .1)) in
-    let sum : total (request .parts) ≡ length (request .bytes) =
-    eqb-true (total (request .parts)) (length (request .bytes))
-    (not-false (eqb (total (request .parts)) (length (request .bytes))) (sized .1)) in
-    let long : length acknowledges ≡ longest (lengthsOf request) =
-    eqb-true (length acknowledges) (longest (lengthsOf request))
-    (not-false (eqb (length acknowledges) (longest (lengthsOf request))) (answered .0)) in
+    let counted =
+    neither (eqb (length (request .counts)) 0) (ltb maxMasters (length (request .counts))) count in
+    let many : length (request .counts) ≡ 0 → ⊥ = eqb-false (length (request .counts)) 0 (counted .0) in
+    let so = shaped request sizes in
+    let answered = as-many request answers in
     record {
       someone = omega (arith, messages-count request);
       sendable =
-          subst (Everyone (Sendable acknowledges)) (sym (messages-are request))
-          (pieces-sendable acknowledges (request .bytes) (parts-good request same (shaped .0))
-          (omega (arith, parts-total request same)) (omega arith) small);
-      bits = none-above acknowledges (answered .1);
+          subst (Everyone (Sendable (request .acknowledges))) (sym (messages-are request))
+          (pieces-sendable (request .acknowledges) (request .bytes) (so .good)
+          (omega (arith, parts-total request (so .counted), so .summed)) (omega (arith, answered .0)) small);
+      bits = none-above (request .acknowledges) (answered .1);
       decided = decided;
     }
 
