@@ -1,3 +1,5 @@
+pub mod Walk
 pub mod Cases
 pub mod Judging
 pub mod Columns
+pub mod Someone

@@ -8,7 +8,7 @@ use Rattle.arbitration_run.specs.declared.instants.Effect.{Effect}
 use Rattle.arbitration_run.specs.declared.instants.Effect.the-variants as then
 use Rattle.arbitration_run.specs.declared.instants.Instant.{Instant}
 use Rattle.arbitration_run.specs.declared.instants.Part.{Part}
-use Rattle.arbitration_run.specs.declared.instants.Part.the-variants.{Entry, Opening, Byte, Closing}
+use Rattle.arbitration_run.specs.declared.instants.Part.the-variants.{Entry, Opening, Restart, Byte, Closing}
 
 abbrev pub write : Operation → Bool → Instant
 write operation ticks = record { operation = operation; ticks = ticks; effect = then.Nothing }
@@ -16,7 +16,7 @@ write operation ticks = record { operation = operation; ticks = ticks; effect = 
 abbrev pub sample : Effect → Bool → Instant
 sample effect ticks = record { operation = does.Sample; ticks = ticks; effect = effect }
 
--- a sample; who lost lets go
+-- a sample; who lost in the byte lets go; who lost in any byte so far clears the repeated START's flag too
 abbrev pub samples : Operation → Bool
 samples does.Enter = false
 samples does.Sample = true
@@ -27,6 +27,8 @@ samples does.LetGo = false
 samples does.Lower = false
 samples does.Raise = false
 samples does.Rest = false
+samples does.Rise = false
+samples does.Heed = false
 
 abbrev pub letsGo : Operation → Bool
 letsGo does.Enter = false
@@ -38,6 +40,21 @@ letsGo does.LetGo = true
 letsGo does.Lower = false
 letsGo does.Raise = false
 letsGo does.Rest = false
+letsGo does.Rise = false
+letsGo does.Heed = false
+
+abbrev pub heeds : Operation → Bool
+heeds does.Enter = false
+heeds does.Sample = false
+heeds does.Pull = false
+heeds does.Clear = false
+heeds does.Load = false
+heeds does.LetGo = false
+heeds does.Lower = false
+heeds does.Raise = false
+heeds does.Rest = false
+heeds does.Rise = false
+heeds does.Heed = true
 
 -- step 1
 abbrev pub opening : ℕ → Instant
@@ -57,23 +74,25 @@ byte at =
     (cond (eqb at 25) (record { operation = does.LetGo; ticks = true; effect = then.Settle })
     (turn (at - 26) then.Acknowledge then.Record false)))
 
--- step 4
-abbrev pub closing : ℕ → Instant
-closing at =
-    cond (eqb at 0) (write does.Lower true)
+-- a repeated START or the STOP: 0, SDA is set for it; 1 to 3, a bit turn; 4, SDA changes; 5, the condition; 6, past it
+abbrev pub condition : Operation → Operation → Operation → ℕ → Instant
+condition set change past at =
+    cond (eqb at 0) (write set true)
     (cond (ltb at 4) (turn (at - 1) then.Release then.Record false)
-    (cond (eqb at 4) (write does.Raise false)
-    (cond (eqb at 5) (sample then.Record false) (write does.Rest false))))
+    (cond (eqb at 4) (write change false)
+    (cond (eqb at 5) (sample then.Record false) (write past false))))
 
 -- the instant of a part at an index, and the index of its last one
 abbrev pub instant : Part → ℕ → Instant
 instant Entry at = write does.Enter false
 instant Opening at = opening at
+instant Restart at = condition does.Rise does.Pull does.Heed at
 instant Byte at = byte at
-instant Closing at = closing at
+instant Closing at = condition does.Lower does.Raise does.Rest at
 
 abbrev pub last : Part → ℕ
 last Entry = 0
 last Opening = 3
+last Restart = 6
 last Byte = 28
 last Closing = 6

@@ -1,17 +1,17 @@
 -- What the masters know of themselves beside their modules.
 use Prim.Native.Nat.{ℕ, _+_, _-_, _*_, min}
 use mathlib.Core.Bool.{Bool, cond, true, false, not, _&&_, _||_}
-use mathlib.Core.List.{List, _++_, zipWith}
+use mathlib.Core.List.{List, _++_, map, zipWith}
 use lib.Dec.{ltb, leb}
 use lib.ListN.{length, take, replicate}
 use Rattle.laws.specs.Search.{any}
 use Rattle.arbitration_rules.specs.Limits.{maxMasters, maxLength}
+use Rattle.arbitration_rules.specs.Outcome.{byteOf, restarts}
 use Rattle.arbitration_rules.specs.declared.Seat.{Seat}
 use Rattle.arbitration_run.specs.declared.instants.Effect.{Effect}
 use Rattle.arbitration_run.specs.declared.instants.Effect.the-variants.{Nothing, Begin, Release, Acknowledge}
 use Rattle.arbitration_run.specs.declared.instants.Effect.the-variants.{Record, Bit, Settle}
 use Rattle.arbitration_run.specs.declared.members.Members.{Members}
-use Rattle.arbitration_run.specs.Rows.{columnOf}
 
 -- as many contend as there are messages
 abbrev pub withMessage : ℕ → List Bool
@@ -34,14 +34,14 @@ entered lengths =
       sizes = sizesOf lengths;
     }
 
--- each takes the byte of its row at an index
-unfoldable pub loaded : List (List ℕ) → ℕ → Members → Members
-loaded rows index members =
+-- each takes the byte of what it sends
+unfoldable pub loaded : List ℕ → Members → Members
+loaded column members =
     record {
       contending = members .contending;
       lost = members .lost;
       positions = members .positions;
-      bytes = columnOf rows index;
+      bytes = map byteOf column;
       sizes = members .sizes;
     }
 
@@ -87,13 +87,20 @@ affected Record al index members = members
 affected (Bit bit) al index members = judged (positionOf index bit) al members
 affected Settle al index members = settled members
 
--- someone still contending has sent all of its message
+-- someone still contending passes a test
+abbrev pub someone : (ℕ → Bool) → List Bool → List ℕ → Bool
+someone test contending values =
+    any (λ (passes : Bool). passes) (zipWith (λ still value. still && test value) contending values)
+
+-- someone still contending has sent all of its message; has a restart next, of what each is to send
 abbrev pub anyThrough : List Bool → List ℕ → ℕ → Bool
-anyThrough contending sizes sent =
-    any (λ (done : Bool). done) (zipWith (λ still size. still && leb size sent) contending sizes)
+anyThrough contending sizes sent = someone (λ size. leb size sent) contending sizes
 
 abbrev pub through : ℕ → Members → Bool
 through sent members = anyThrough (members .contending) (members .sizes) sent
+
+abbrev pub restarting : List ℕ → Members → Bool
+restarting column members = someone restarts (members .contending) column
 
 -- the flags that the writes of each master clear over a run, STTIFG and IFG
 -- (arbitration_rules/proofs/ClearedFlags.antt)

@@ -13,10 +13,11 @@ use Rattle.usi.specs.Step.{moduleOf, writeByte, sample, tick}
 use Rattle.arbitration_rules.specs.Limits.{maxMasters}
 use Rattle.arbitration_run.specs.declared.instants.Operation.{Operation}
 use Rattle.arbitration_run.specs.declared.instants.Operation.the-variants.{Enter, Sample, Pull, Clear, Load}
-use Rattle.arbitration_run.specs.declared.instants.Operation.the-variants.{LetGo, Lower, Raise, Rest}
+use Rattle.arbitration_run.specs.declared.instants.Operation.the-variants.{LetGo, Lower, Raise, Rest, Rise}
+use Rattle.arbitration_run.specs.declared.instants.Operation.the-variants.{Heed}
 use Rattle.arbitration_run.specs.declared.pass.Pass.{Pass}
 use Rattle.arbitration_run.specs.declared.pass.Seen.{Seen}
-use Rattle.arbitration_run.specs.Instants.{samples, letsGo}
+use Rattle.arbitration_run.specs.Instants.{samples, letsGo, heeds}
 
 -- a register written; registers written one after the other, each as address and value
 abbrev pub written : ℕ → ℕ → Usi → Usi
@@ -37,6 +38,8 @@ registers LetGo byte = (USICTL0, 0xc8) ∷ (USICNT, 0x01) ∷ []
 registers Lower byte = (USICTL0, 0xca) ∷ (USISRL, 0x00) ∷ (USICNT, 0x01) ∷ []
 registers Raise byte = (USISRL, 0xff) ∷ (USICTL0, 0xce) ∷ []
 registers Rest byte = (USICTL0, 0xc8) ∷ []
+registers Rise byte = (USISRL, 0xff) ∷ (USICTL0, 0xca) ∷ (USICNT, 0x01) ∷ []
+registers Heed byte = (USICTL1, 0x41) ∷ []
 
 -- all modules start from power-up with shift bytes 0
 abbrev pub fresh : Operation → Usi → Usi
@@ -49,6 +52,8 @@ fresh LetGo usi = usi
 fresh Lower usi = usi
 fresh Raise usi = usi
 fresh Rest usi = usi
+fresh Rise usi = usi
+fresh Heed usi = usi
 
 abbrev pub entered : Usi
 entered = writtenAll (registers Enter 0) (powerUp 0 0)
@@ -63,9 +68,15 @@ yielded operation usi = cond (letsGo operation) (writtenAll ((USICTL0, 0xc0) ∷
 abbrev pub kept : Operation → Bool → Usi → Usi
 kept operation lost usi = cond lost (yielded operation usi) usi
 
+-- what who lost in any byte so far writes
+abbrev pub heeded : Operation → Bool → Usi → Usi
+heeded operation contending usi =
+    cond contending usi (cond (heeds operation) (writtenAll ((USICTL1, 0x49) ∷ (USICNT, 0x80) ∷ []) usi) usi)
+
 abbrev pub wroteAs : Operation → Bool → Bool → ℕ → Usi → Usi
 wroteAs operation contending lost byte usi =
-    cond contending (wrote operation byte (kept operation lost usi)) (kept operation lost usi)
+    let lost-wrote = heeded operation contending (kept operation lost usi) in
+    cond contending (wrote operation byte lost-wrote) lost-wrote
 
 -- and then all tick, or not
 abbrev pub ticked : Bool → Usi → Usi

@@ -9,13 +9,14 @@ use Rattle.arbitration_run.specs.declared.instants.Effect.the-variants.{
 use Rattle.arbitration_run.specs.declared.instants.Effect.the-variants.{Record, Bit, Settle}
 use Rattle.arbitration_run.specs.declared.instants.Instant.{Instant}
 use Rattle.arbitration_run.specs.declared.instants.Part.{Part}
-use Rattle.arbitration_run.specs.declared.instants.Part.the-variants.{Entry, Opening, Byte, Closing}
+use Rattle.arbitration_run.specs.declared.instants.Part.the-variants.{Entry, Opening, Restart, Byte, Closing}
 use Rattle.arbitration_run.specs.declared.pass.Pass.{Pass}
 use Rattle.arbitration_run.specs.declared.pass.Seen.{Seen}
 use Rattle.arbitration_run.specs.declared.sequencer.Sequencer.{Sequencer}
 use Rattle.arbitration_run.specs.declared.wire.Wire.{Wire}
 use Rattle.arbitration_run.specs.Instants.{instant, last}
 use Rattle.arbitration_run.specs.Members as members
+use Rattle.arbitration_run.specs.Rows.{columnOf}
 use Rattle.arbitration_run.specs.Wire as wire
 
 -- before power-up, with messages of these lengths
@@ -97,9 +98,9 @@ levelsAfter seen sequencer levels =
     wire.recordedIn (instantOf sequencer .effect) (wire.saw (instantOf sequencer .operation) seen (sequencer .wire))
     levels
 
--- each master takes the byte of its row at the index
-unfoldable pub loaded : List (List ℕ) → Sequencer → Sequencer
-loaded rows sequencer =
+-- each master takes the byte of what it sends
+unfoldable pub taking : List ℕ → Sequencer → Sequencer
+taking column sequencer =
     record {
       running = sequencer .running;
       part = sequencer .part;
@@ -108,7 +109,7 @@ loaded rows sequencer =
       index = sequencer .index;
       sent = sequencer .sent;
       wire = sequencer .wire;
-      members = members.loaded rows (sequencer .index) (sequencer .members);
+      members = members.loaded column (sequencer .members);
     }
 
 -- the sequencer at another instant
@@ -127,6 +128,13 @@ placed part at loading index sequencer =
 
 abbrev pub entering : Part → Bool → Sequencer → Sequencer
 entering part loading sequencer = placed part 0 loading (sequencer .index) sequencer
+
+-- each takes the byte of its row at the index; where someone restarts there, the restart comes first
+unfoldable pub loaded : List (List ℕ) → Sequencer → Sequencer
+loaded rows sequencer =
+    let column = columnOf rows (sequencer .index) in
+    cond (members.restarting column (sequencer .members)) (entering Restart false (taking column sequencer))
+    (taking column sequencer)
 
 -- the byte at the index is next, or step 4 where there is none
 unfoldable pub opened : List ℕ → Sequencer → Sequencer
@@ -162,6 +170,7 @@ stopped sequencer =
 abbrev pub partedFrom : Part → List ℕ → Sequencer → Sequencer
 partedFrom Entry acknowledges sequencer = entering Opening false sequencer
 partedFrom Opening acknowledges sequencer = opened acknowledges sequencer
+partedFrom Restart acknowledges sequencer = entering Byte false sequencer
 partedFrom Byte acknowledges sequencer = decided acknowledges sequencer
 partedFrom Closing acknowledges sequencer = stopped sequencer
 

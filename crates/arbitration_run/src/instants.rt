@@ -3,7 +3,8 @@
 ghost use mathlib.Core.Path.{_≡_};
 ghost use Rattle.arbitration_run.specs.Instants as rows;
 
-// What the modules do in a pass; registers are written by those still contending, and at LetGo by those that lost too.
+// What the modules do in a pass; registers are written by those still contending, at LetGo also by those that lost in
+// the byte, at Heed by all that lost.
 pub enum Operation {
     // powered up and set up
     Enter,
@@ -22,6 +23,10 @@ pub enum Operation {
     Raise,
     // as after set-up
     Rest,
+    // SDA is let go high for a repeated START
+    Rise,
+    // the repeated START's flag is cleared, also by who lost: SCL is let go
+    Heed,
 }
 
 // What then follows on the bus.
@@ -47,10 +52,11 @@ pub struct Instant {
     pub effect: Effect,
 }
 
-// Set-up, step 1, a byte of step 2, step 4.
+// Set-up, step 1, a restart and a byte of step 2, step 4.
 pub enum Part {
     Entry,
     Opening,
+    Restart,
     Byte,
     Closing,
 }
@@ -134,25 +140,25 @@ fn byte(at: usize) -> Instant
     turn(at - 26, Effect::Acknowledge, Effect::Record, false)
 }
 
-// Step 4.
-fn closing(at: usize) -> Instant
-    ensures { λ r. ⌜ r ≡ rows.closing at ⌝ }
+// A repeated START or the STOP: SDA is set for it, a bit turn, and SDA changes.
+fn condition(at: usize, set: Operation, change: Operation, past: Operation) -> Instant
+    ensures { λ r. ⌜ r ≡ rows.condition set change past at ⌝ }
 {
-    // SCL is low here, after the last acknowledge: SDA goes low unseen
+    // SCL is low here, after an acknowledge: SDA is set unseen
     if at == 0 {
-        return write(Operation::Lower, true);
+        return write(set, true);
     }
     if at < 4 {
         return turn(at - 1, Effect::Release, Effect::Record, false);
     }
-    // SCL is high here and SDA low: its rise is the STOP
+    // SCL is high here: SDA's fall is the repeated START, its rise the STOP
     if at == 4 {
-        return write(Operation::Raise, false);
+        return write(change, false);
     }
     if at == 5 {
         return sample(Effect::Record, false);
     }
-    write(Operation::Rest, false)
+    write(past, false)
 }
 
 impl Part {
@@ -163,8 +169,9 @@ impl Part {
         match self {
             Part::Entry => write(Operation::Enter, false),
             Part::Opening => opening(at),
+            Part::Restart => condition(at, Operation::Rise, Operation::Pull, Operation::Heed),
             Part::Byte => byte(at),
-            Part::Closing => closing(at),
+            Part::Closing => condition(at, Operation::Lower, Operation::Raise, Operation::Rest),
         }
     }
 
@@ -175,6 +182,7 @@ impl Part {
         match self {
             Part::Entry => 0,
             Part::Opening => 3,
+            Part::Restart => 6,
             Part::Byte => 28,
             Part::Closing => 6,
         }

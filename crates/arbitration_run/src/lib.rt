@@ -3,16 +3,16 @@
 
 mod instants; // instants.rt: the steps as rows of instants
 mod members; // members.rt: what the masters know of themselves beside their modules
-mod rows; // rows.rt: the messages as rows
+mod messages; // messages.rt: the messages as rows
 mod pass; // pass.rt: what one pass does to a module, and what it shows
 mod sequencer; // sequencer.rt: the order of the instants
 mod wire; // wire.rt: the lines, and what is taken from them
 
 pub use members::Members;
+pub use messages::rows;
 pub use pass::Pass;
 pub use pass::Seen;
 pub use pass::applied;
 pub use pass::noted;
 pub use pass::unseen;
-pub use rows::cut;
 pub use sequencer::Sequencer;

@@ -1,8 +1,9 @@
 // What the masters know of themselves beside their modules, by value: an array for each fact, a place for each master.
 ghost use mathlib.Core.Path.{_≡_};
+ghost use mathlib.Core.List.{map};
+ghost use Rattle.arbitration_rules.specs.Outcome.{byteOf, restarts};
 ghost use Rattle.arbitration_run.specs.Members as rule;
 use crate::instants::Effect;
-use crate::rows;
 use arbitration_rules::MAX_LENGTH;
 use arbitration_rules::MAX_MASTERS;
 use arbitration_rules::Seat;
@@ -42,6 +43,25 @@ fn sizes_of(lengths: &[u32]) -> [u32; MAX_MASTERS]
     let mut i: usize = 0;
     while (i < lengths.len()) & (i < MAX_MASTERS) {
         out[i] = lengths[i];
+        i += 1;
+    }
+    out
+}
+
+// The byte of what is sent, and of what each sends.
+fn byte_of(sent: u16) -> u8
+    ensures { λ r. ⌜ r ≡ byteOf sent ⌝ }
+{
+    (sent % 256) as u8
+}
+
+fn bytes_of(column: [u16; MAX_MASTERS]) -> [u8; MAX_MASTERS]
+    ensures { λ r. ⌜ r ≡ map byteOf column ⌝ }
+{
+    let mut out = [0u8; MAX_MASTERS];
+    let mut i: usize = 0;
+    while i < MAX_MASTERS {
+        out[i] = byte_of(column[i]);
         i += 1;
     }
     out
@@ -124,6 +144,20 @@ fn any_through(contending: [bool; MAX_MASTERS], sizes: [u32; MAX_MASTERS], sent:
     false
 }
 
+// Someone still contending has a restart before what it sends.
+fn any_restarting(contending: [bool; MAX_MASTERS], column: [u16; MAX_MASTERS]) -> bool
+    ensures { λ r. ⌜ r ≡ rule.someone restarts contending column ⌝ }
+{
+    let mut i: usize = 0;
+    while i < MAX_MASTERS {
+        if contending[i] & (column[i] < 256) {
+            return true;
+        }
+        i += 1;
+    }
+    false
+}
+
 // What became of the first so many masters; the other seats are empty.
 fn seats(
     contending: [bool; MAX_MASTERS],
@@ -154,12 +188,12 @@ impl Members {
         }
     }
 
-    // Each takes the byte of its row at an index.
-    pub(crate) fn loaded(mut self, rows: [[u8; MAX_LENGTH]; MAX_MASTERS], index: usize) -> Members
-        ensures { λ r. ⌜ r ≡ rule.loaded rows index self ⌝ }
+    // Each takes the byte of what it sends.
+    pub(crate) fn loaded(mut self, column: [u16; MAX_MASTERS]) -> Members
+        ensures { λ r. ⌜ r ≡ rule.loaded column self ⌝ }
     {
-        let column = rows::column(rows, index);
-        self.bytes = column;
+        let bytes = bytes_of(column);
+        self.bytes = bytes;
         self
     }
 
@@ -197,6 +231,14 @@ impl Members {
         let contending = self.contending;
         let sizes = self.sizes;
         any_through(contending, sizes, sent)
+    }
+
+    // Someone still contending has a restart before what it sends.
+    pub(crate) fn restarting(self, column: [u16; MAX_MASTERS]) -> bool
+        ensures { λ r. ⌜ r ≡ rule.restarting column self ⌝ }
+    {
+        let contending = self.contending;
+        any_restarting(contending, column)
     }
 
     // What became of the first so many masters; the other seats are empty.

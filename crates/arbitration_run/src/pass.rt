@@ -62,6 +62,11 @@ fn wrote(usi: Usi, operation: Operation, byte: u8) -> Usi
         }
         Operation::Raise => written(written(usi, Usi::USISRL, 0xff), Usi::USICTL0, 0xce),
         Operation::Rest => written(usi, Usi::USICTL0, 0xc8),
+        Operation::Rise => {
+            let high = written(written(usi, Usi::USISRL, 0xff), Usi::USICTL0, 0xca);
+            written(high, Usi::USICNT, 0x01)
+        }
+        Operation::Heed => written(usi, Usi::USICTL1, 0x41),
     }
 }
 
@@ -84,11 +89,24 @@ fn kept(usi: Usi, operation: Operation, lost: bool) -> Usi
     usi
 }
 
-// The registers that a master writes, if it lost in this byte, and if it contends.
+// What who lost in any byte so far writes.
+fn heeded(usi: Usi, operation: Operation, contending: bool) -> Usi
+    ensures { λ r. ⌜ r ≡ rule.heeded operation contending usi ⌝ }
+{
+    if contending {
+        return usi;
+    }
+    match operation {
+        Operation::Heed => written(written(usi, Usi::USICTL1, 0x49), Usi::USICNT, 0x80),
+        _ => usi,
+    }
+}
+
+// The registers that a master writes, if it lost in this byte, if it lost at all, and if it contends.
 fn wrote_as(usi: Usi, operation: Operation, contending: bool, lost: bool, byte: u8) -> Usi
     ensures { λ r. ⌜ r ≡ rule.wroteAs operation contending lost byte usi ⌝ }
 {
-    let usi = kept(usi, operation, lost);
+    let usi = heeded(kept(usi, operation, lost), operation, contending);
     if contending {
         return wrote(usi, operation, byte);
     }

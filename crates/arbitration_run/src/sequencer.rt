@@ -6,6 +6,7 @@ use crate::instants::Effect;
 use crate::instants::Instant;
 use crate::instants::Part;
 use crate::members::Members;
+use crate::messages;
 use crate::pass::Pass;
 use crate::pass::Seen;
 use crate::wire::Wire;
@@ -17,7 +18,7 @@ pub struct Sequencer {
     // the instant that comes next
     pub part: Part,
     pub at: usize,
-    // the byte at the index is still to be taken from the rows
+    // what is sent at the index is still to be taken from the rows
     pub loading: bool,
     // how many bytes went before the one on the bus, and how many are carried
     pub index: usize,
@@ -105,15 +106,28 @@ impl Sequencer {
         }
     }
 
-    // Each master takes the byte of its row at the index.
-    pub fn loaded(mut self, rows: [[u8; MAX_LENGTH]; MAX_MASTERS]) -> Sequencer
-        ensures { λ r. ⌜ r ≡ rule.loaded rows self ⌝ }
+    // Each master takes the byte of what it sends.
+    fn taking(mut self, column: [u16; MAX_MASTERS]) -> Sequencer
+        ensures { λ r. ⌜ r ≡ rule.taking column self ⌝ }
     {
         let members = self.members;
-        let loaded = members.loaded(rows, self.index);
+        let loaded = members.loaded(column);
         self.members = loaded;
         self.loading = false;
         self
+    }
+
+    // Each takes the byte of its row at the index; where someone restarts there, the restart comes first.
+    pub fn loaded(self, rows: [[u16; MAX_LENGTH]; MAX_MASTERS]) -> Sequencer
+        ensures { λ r. ⌜ r ≡ rule.loaded rows self ⌝ }
+    {
+        let column = messages::column(rows, self.index);
+        let members = self.members;
+        let loaded = self.taking(column);
+        if members.restarting(column) {
+            return loaded.entering(Part::Restart, false);
+        }
+        loaded
     }
 
     // Another part of the run begins.
@@ -169,6 +183,8 @@ impl Sequencer {
         match part {
             Part::Entry => self.entering(Part::Opening, false),
             Part::Opening => self.opened(acks),
+            // the bytes are taken from the rows already
+            Part::Restart => self.entering(Part::Byte, false),
             Part::Byte => self.decided(acks),
             Part::Closing => {
                 self.running = false;

@@ -1,27 +1,27 @@
 -- Those passed so far are not through.
 use native.Mathlib.Omega.{arith}
-use Prim.Native.Nat.{_<_, _-_}
-use mathlib.Core.Path.{_∙_}
-use mathlib.Core.Bool.{Bool, false, _&&_}
-use mathlib.Core.List.{zipWith}
+use Prim.Native.Nat.{ℕ, _≤_, _<_, _-_}
+use mathlib.Core.Bool.{Bool}
+use mathlib.Core.Path.{_≡_}
 use lib.Dec.{leb}
 use lib.ListN.{length}
-use Rattle.laws.proofs.Lists.{zipWith-at, zipWith-length}
-use Rattle.laws.proofs.Search.{Passed, passed-start, passed-more, found-any, none-any}
 use Rattle.arbitration_rules.specs.Limits.{maxMasters}
+use Rattle.arbitration_run.proofs.Someone.{Nobody, nobody-yet, nobody-more, found, nobody-at-all}
 use borrow.Author.Needs.{needs}
 use Rattle.arbitration_run.proofs.members.any_through.Statement.{statement}
 use Rattle.arbitration_run.proofs.members.any_through.Tie as tie
 
+abbrev done : ℕ → ℕ → Bool
+done sent size = leb size sent
+
 abbrev Inv-loop : tie.InvT-loop
-Inv-loop sent contending sizes i₀ i = Passed (λ (done : Bool). done)
-    (zipWith (λ still size. still && leb size sent) contending sizes) i
+Inv-loop sent contending sizes i₀ i = Nobody (done sent) contending sizes i
 
 abbrev μ-loop : tie.MeasureT-loop
 μ-loop sent contending sizes i₀ i = maxMasters - i
 
 loop-holds : tie.Need-loop-holds Inv-loop μ-loop
-loop-holds c = passed-start _ _
+loop-holds c = nobody-yet _ _ _
 
 array-read-if1 : tie.Need-array-read-if1 Inv-loop μ-loop
 array-read-if1 c = search needs
@@ -39,11 +39,9 @@ returns : tie.Need-returns Inv-loop μ-loop
 returns c =
     let head = c .before .before .loop in
     let a = c .before .before .before .args in
-    let here : head .i < length (a .t1) = omega (arith, c .before .loop-test .taken) in
-    let there : head .i < length (a .t2) = omega (arith, c .before .loop-test .taken) in
-    let many = zipWith-length (λ still size. still && leb size (a .sent)) (a .t1) (a .t2) in
-    found-any _ _ (head .i) false (head .inv) (omega (arith, many, here, there))
-    (zipWith-at _ _ _ (head .i) false 0 false here there ∙ c .if1 .taken)
+    let same : length (a .t1) ≡ length (a .t2) = search needs in
+    let less : head .i < length (a .t2) = omega (arith, c .before .loop-test .taken) in
+    found (done (a .sent)) (a .t1) (a .t2) (head .i) same (head .inv) less (c .if1 .taken)
 
 add-i : tie.Need-add-i Inv-loop μ-loop
 add-i c = search needs
@@ -55,18 +53,17 @@ loop-again : tie.Need-loop-again Inv-loop μ-loop
 loop-again c =
     let head = c .before .before .loop in
     let a = c .before .before .before .args in
-    let here : head .i < length (a .t1) = omega (arith, c .before .loop-test .taken) in
-    let there : head .i < length (a .t2) = omega (arith, c .before .loop-test .taken) in
-    let many = zipWith-length (λ still size. still && leb size (a .sent)) (a .t1) (a .t2) in
-    passed-more _ _ (head .i) false (head .inv) (omega (arith, many, here, there))
-    (zipWith-at _ _ _ (head .i) false 0 false here there ∙ c .if1 .left)
+    let same : length (a .t1) ≡ length (a .t2) = search needs in
+    let less : head .i < length (a .t2) = omega (arith, c .before .loop-test .taken) in
+    nobody-more (done (a .sent)) (a .t1) (a .t2) (head .i) same (head .inv) less (c .if1 .left)
 
 returns-2 : tie.Need-returns-2 Inv-loop μ-loop
 returns-2 c =
     let head = c .before .loop in
     let a = c .before .before .args in
-    let many = zipWith-length (λ still size. still && leb size (a .sent)) (a .t1) (a .t2) in
-    none-any _ _ (head .i) (head .inv) (omega (arith, many, c .loop-test .left))
+    let same : length (a .t1) ≡ length (a .t2) = search needs in
+    let end : length (a .t2) ≤ head .i = omega (arith, c .loop-test .left) in
+    nobody-at-all (done (a .sent)) (a .t1) (a .t2) (head .i) same (head .inv) end
 
 pub any-through-spec : {M : Type 1} → statement M
 any-through-spec =

@@ -81,6 +81,24 @@ enum-told-9 c = search needs
 written-requires-15 : tie.Need-written-requires-15
 written-requires-15 c κs = search needs
 
+enum-told-10 : tie.Need-enum-told-10
+enum-told-10 c = search needs
+
+written-requires-16 : tie.Need-written-requires-16
+written-requires-16 c κs = search needs
+
+written-requires-17 : tie.Need-written-requires-17
+written-requires-17 c κs = search needs
+
+written-requires-18 : tie.Need-written-requires-18
+written-requires-18 c κs = search needs
+
+enum-told-11 : tie.Need-enum-told-11
+enum-told-11 c = search needs
+
+written-requires-19 : tie.Need-written-requires-19
+written-requires-19 c κs = search needs
+
 returns : tie.Need-returns
 returns c = rw (c .before .enum-told .given .1) (c .entered .ensures)
 
@@ -128,6 +146,18 @@ returns-9 c =
     rw (c .before .enum-told9 .given .1)
     (c .written15 .ensures)
 
+returns-10 : tie.Need-returns-10
+returns-10 c =
+    let at3 = c .before .before .before in
+    rw (at3 .enum-told10 .given .1)
+    (c .written18 .ensures ∙ ap (written USICNT 0x01) (c .before .written17 .ensures ∙ ap (written USICTL0 0xca)
+    (c .before .before .written16 .ensures)))
+
+returns-11 : tie.Need-returns-11
+returns-11 c =
+    rw (c .before .enum-told11 .given .1)
+    (c .written19 .ensures)
+
 pub wrote-spec : {M : Type 1} → statement M
 wrote-spec =
     tie.close
@@ -157,6 +187,12 @@ wrote-spec =
     written-requires-14
     enum-told-9
     written-requires-15
+    enum-told-10
+    written-requires-16
+    written-requires-17
+    written-requires-18
+    enum-told-11
+    written-requires-19
     returns
     returns-2
     returns-3
@@ -165,4 +201,6 @@ wrote-spec =
     returns-6
     returns-7
     returns-8
-    returns-9)
+    returns-9
+    returns-10
+    returns-11)

@@ -18,14 +18,20 @@ opening-requires c κs = search needs
 enum-told-3 : tie.Need-enum-told-3
 enum-told-3 c = search needs
 
-byte-requires : tie.Need-byte-requires
-byte-requires c κs = search needs
+condition-requires : tie.Need-condition-requires
+condition-requires c κs = search needs
 
 enum-told-4 : tie.Need-enum-told-4
 enum-told-4 c = search needs
 
-closing-requires : tie.Need-closing-requires
-closing-requires c κs = search needs
+byte-requires : tie.Need-byte-requires
+byte-requires c κs = search needs
+
+enum-told-5 : tie.Need-enum-told-5
+enum-told-5 c = search needs
+
+condition-requires-2 : tie.Need-condition-requires-2
+condition-requires-2 c κs = search needs
 
 returns : tie.Need-returns
 returns c = rw (c .before .enum-told .given .1) (c .write .ensures)
@@ -34,10 +40,13 @@ returns-2 : tie.Need-returns-2
 returns-2 c = rw (c .before .enum-told2 .given .1) (c .opening .ensures)
 
 returns-3 : tie.Need-returns-3
-returns-3 c = rw (c .before .enum-told3 .given .1) (c .byte .ensures)
+returns-3 c = rw (c .before .enum-told3 .given .1) (c .condition .ensures)
 
 returns-4 : tie.Need-returns-4
-returns-4 c = rw (c .before .enum-told4 .given .1) (c .closing .ensures)
+returns-4 c = rw (c .before .enum-told4 .given .1) (c .byte .ensures)
+
+returns-5 : tie.Need-returns-5
+returns-5 c = rw (c .before .enum-told5 .given .1) (c .condition2 .ensures)
 
 pub instant-spec : {M : Type 1} → statement M
 instant-spec =
@@ -48,10 +57,13 @@ instant-spec =
     enum-told-2
     opening-requires
     enum-told-3
-    byte-requires
+    condition-requires
     enum-told-4
-    closing-requires
+    byte-requires
+    enum-told-5
+    condition-requires-2
     returns
     returns-2
     returns-3
-    returns-4)
+    returns-4
+    returns-5)

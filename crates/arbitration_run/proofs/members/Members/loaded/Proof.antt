@@ -4,12 +4,12 @@ use borrow.Author.Needs.{needs}
 use Rattle.arbitration_run.proofs.members.Members.loaded.Statement.{statement}
 use Rattle.arbitration_run.proofs.members.Members.loaded.Tie as tie
 
-column-requires : tie.Need-column-requires
-column-requires c κs = search needs
+bytes-of-requires : tie.Need-bytes-of-requires
+bytes-of-requires c κs = search needs
 
 returns : tie.Need-returns
 unfolding loaded
-returns c = rw (c .column .ensures)
+returns c = rw (c .bytes-of .ensures)
 
 pub loaded-spec : {M : Type 1} → statement M
-loaded-spec = tie.close (tie.spec column-requires returns)
+loaded-spec = tie.close (tie.spec bytes-of-requires returns)

@@ -21,11 +21,17 @@ opened-requires c κs = search needs
 enum-told-3 : tie.Need-enum-told-3
 enum-told-3 c = search needs
 
-decided-requires : tie.Need-decided-requires
-decided-requires c κs = search needs
+entering-requires-2 : tie.Need-entering-requires-2
+entering-requires-2 c κs = search needs
 
 enum-told-4 : tie.Need-enum-told-4
 enum-told-4 c = search needs
+
+decided-requires : tie.Need-decided-requires
+decided-requires c κs = search needs
+
+enum-told-5 : tie.Need-enum-told-5
+enum-told-5 c = search needs
 
 returns : tie.Need-returns
 unfolding parted
@@ -39,13 +45,17 @@ returns-2 c =
 
 returns-3 : tie.Need-returns-3
 unfolding parted
-returns-3 c =
-    let a = c .before .before .before .before .args in
-    c .decided .ensures ∙ ap (λ (part : Part). partedFrom part (a .acks .now) (a .self)) (sym (c .before .enum-told3 .given .1))
+returns-3 c = rw (c .before .enum-told3 .given .1) (c .entering2 .ensures)
 
 returns-4 : tie.Need-returns-4
 unfolding parted
-returns-4 c = rw (c .enum-told4 .given .1)
+returns-4 c =
+    let a = c .before .before .before .before .args in
+    c .decided .ensures ∙ ap (λ (part : Part). partedFrom part (a .acks .now) (a .self)) (sym (c .before .enum-told4 .given .1))
+
+returns-5 : tie.Need-returns-5
+unfolding parted
+returns-5 c = rw (c .enum-told5 .given .1)
 
 pub parted-spec : {M : Type 1} → statement M
 parted-spec =
@@ -56,9 +66,12 @@ parted-spec =
     enum-told-2
     opened-requires
     enum-told-3
-    decided-requires
+    entering-requires-2
     enum-told-4
+    decided-requires
+    enum-told-5
     returns
     returns-2
     returns-3
-    returns-4)
+    returns-4
+    returns-5)

@@ -6,14 +6,14 @@ use Rattle.laws.proofs.Bools.{below-both, past-either}
 use Rattle.arbitration_rules.specs.Limits.{maxMasters}
 use Rattle.arbitration_run.specs.Rows.{emptyRow, rowOf, rowsOf}
 use Rattle.arbitration_run.proofs.Columns.{Filling, filling-start, filling-more, filling-done}
-use Rattle.arbitration_run.proofs.rows.cut.Statement.{statement}
-use Rattle.arbitration_run.proofs.rows.cut.Tie as tie
+use Rattle.arbitration_run.proofs.messages.rows.Statement.{statement}
+use Rattle.arbitration_run.proofs.messages.rows.Tie as tie
 
 abbrev Inv-loop : tie.InvT-loop
-Inv-loop bytes lengths out₀ from₀ i₀ out from i = Filling rowOf emptyRow lengths bytes out from i
+Inv-loop sent lengths out₀ from₀ i₀ out from i = Filling rowOf emptyRow lengths sent out from i
 
 abbrev μ-loop : tie.MeasureT-loop
-μ-loop bytes lengths out₀ from₀ i₀ out from i = maxMasters - i
+μ-loop sent lengths out₀ from₀ i₀ out from i = maxMasters - i
 
 loop-holds : tie.Need-loop-holds Inv-loop μ-loop
 loop-holds c = filling-start rowOf emptyRow _ _
@@ -76,7 +76,7 @@ loop-again c =
     let head = at4 .loop in
     let a = at7 .args in
     let less = below-both (head .i) (length (a .lengths .now)) maxMasters (at3 .loop-test .taken) in
-    filling-more rowOf emptyRow (a .lengths .now) (a .bytes .now) _ (head .i) (head .from) (head .inv) _ _ less
+    filling-more rowOf emptyRow (a .lengths .now) (a .sent .now) _ (head .i) (head .from) (head .inv) _ _ less
     (c .before .end-of .ensures) (c .row .ensures)
 
 returns : tie.Need-returns Inv-loop μ-loop
@@ -84,11 +84,11 @@ unfolding rowsOf
 returns c =
     let head = c .before .loop in
     let a = c .before .before .before .before .args in
-    filling-done rowOf emptyRow (a .lengths .now) (a .bytes .now) _ (head .i) (head .from) (head .inv)
+    filling-done rowOf emptyRow (a .lengths .now) (a .sent .now) _ (head .i) (head .from) (head .inv)
     (past-either (head .i) (length (a .lengths .now)) maxMasters (c .loop-test .left))
 
-pub cut-spec : {M : Type 1} → statement M
-cut-spec =
+pub rows-spec : {M : Type 1} → statement M
+rows-spec =
     tie.close
     (tie.spec
     Inv-loop

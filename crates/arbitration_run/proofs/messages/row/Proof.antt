@@ -1,4 +1,4 @@
--- The bytes copied so far.
+-- What is copied so far.
 use native.Mathlib.Omega.{arith}
 use Prim.Native.Nat.{_≤_, _<_, _-_, min}
 use mathlib.Core.Path.{_≡_, refl, sym}
@@ -9,14 +9,14 @@ use Rattle.laws.proofs.Bools.{below-both, past-either}
 use Rattle.laws.proofs.Loops.{copied-more, copied-done}
 use Rattle.arbitration_rules.specs.Limits.{maxLength}
 use borrow.Author.Needs.{needs}
-use Rattle.arbitration_run.proofs.rows.row.Statement.{statement}
-use Rattle.arbitration_run.proofs.rows.row.Tie as tie
+use Rattle.arbitration_run.proofs.messages.row.Statement.{statement}
+use Rattle.arbitration_run.proofs.messages.row.Tie as tie
 
 abbrev Inv-loop : tie.InvT-loop
-Inv-loop bytes from to out₀ i₀ out i = (i ≤ min (to - from) maxLength) × (out ≡ take i (drop from bytes) ++ drop i (replicate maxLength 0))
+Inv-loop sent from to out₀ i₀ out i = (i ≤ min (to - from) maxLength) × (out ≡ take i (drop from sent) ++ drop i (replicate maxLength 256))
 
 abbrev μ-loop : tie.MeasureT-loop
-μ-loop bytes from to out₀ i₀ out i = maxLength - i
+μ-loop sent from to out₀ i₀ out i = maxLength - i
 
 loop-holds : tie.Need-loop-holds Inv-loop μ-loop
 loop-holds c = (omega arith, refl)
@@ -30,12 +30,18 @@ add-out c =
     (c .loop-test .taken) in
     omega (arith, less, c .before .before .pre)
 
+mul-out : tie.Need-mul-out Inv-loop μ-loop
+mul-out c = search needs
+
 shared-slice-read-out : tie.Need-shared-slice-read-out Inv-loop μ-loop
 shared-slice-read-out c =
     let head = c .before .before .loop in
     let at = c .before .before .before in
     let less = below-both (head .i) (at .args .to - at .args .from) maxLength (c .before .loop-test .taken) in
     omega (arith, less, at .pre)
+
+mul-out-2 : tie.Need-mul-out-2 Inv-loop μ-loop
+mul-out-2 c = search needs
 
 array-write-out : tie.Need-array-write-out Inv-loop μ-loop
 array-write-out c =
@@ -63,9 +69,9 @@ loop-again c =
     let head = c .before .before .loop in
     let at = c .before .before .before in
     let less = below-both (head .i) (at .args .to - at .args .from) maxLength (c .before .loop-test .taken) in
-    let list = drop (at .args .from) (at .args .bytes .now) in
-    let here : head .i < length list = omega (arith, less, at .pre, length-drop (at .args .from) (at .args .bytes .now)) in
-    (omega (arith, less), rw (← getD-drop) (copied-more 0 maxLength list _ (head .i) 0 (head .inv .1) here (omega (arith, less))))
+    let list = drop (at .args .from) (at .args .sent .now) in
+    let here : head .i < length list = omega (arith, less, at .pre, length-drop (at .args .from) (at .args .sent .now)) in
+    (omega (arith, less), rw (← getD-drop) (copied-more 256 maxLength list _ (head .i) 0 (head .inv .1) here (omega (arith, less))))
 
 returns : tie.Need-returns Inv-loop μ-loop
 returns c =
@@ -74,8 +80,8 @@ returns c =
     let size = at .args .to - at .args .from in
     let past = past-either (head .i) size maxLength (c .loop-test .left) in
     let end : head .i ≡ min size maxLength = omega (arith, past, head .inv .0) in
-    copied-done 0 maxLength (drop (at .args .from) (at .args .bytes .now)) _ (head .i) size (head .inv .1) end
-    (omega (arith, at .pre, length-drop (at .args .from) (at .args .bytes .now)))
+    copied-done 256 maxLength (drop (at .args .from) (at .args .sent .now)) _ (head .i) size (head .inv .1) end
+    (omega (arith, at .pre, length-drop (at .args .from) (at .args .sent .now)))
 
 pub row-spec : {M : Type 1} → statement M
 row-spec =
@@ -86,7 +92,9 @@ row-spec =
     loop-holds
     sub-loop
     add-out
+    mul-out
     shared-slice-read-out
+    mul-out-2
     array-write-out
     add-i
     loop-less

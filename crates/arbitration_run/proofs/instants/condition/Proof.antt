@@ -1,8 +1,8 @@
--- Step 4, instant by instant.
+-- A repeated START or the STOP, instant by instant.
 use Rattle.laws.proofs.Branches.{branches}
 use borrow.Author.Needs.{needs}
-use Rattle.arbitration_run.proofs.instants.closing.Statement.{statement}
-use Rattle.arbitration_run.proofs.instants.closing.Tie as tie
+use Rattle.arbitration_run.proofs.instants.condition.Statement.{statement}
+use Rattle.arbitration_run.proofs.instants.condition.Tie as tie
 
 write-requires : tie.Need-write-requires
 write-requires c κs = search needs
@@ -37,8 +37,8 @@ write-requires-3 c κs = search needs
 returns-5 : tie.Need-returns-5
 returns-5 c = search branches
 
-pub closing-spec : {M : Type 1} → statement M
-closing-spec =
+pub condition-spec : {M : Type 1} → statement M
+condition-spec =
     tie.close
     (tie.spec
     write-requires
