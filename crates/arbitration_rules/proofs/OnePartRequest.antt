@@ -1,5 +1,6 @@
 -- A request whose messages have one part each gets the reply of before restarts: the refusals of document 01 without
--- restarts, over bytes, lengths and answers, and else a run with the outcome and the modules of OnePart.antt.
+-- restarts, over bytes, lengths and answers, and else a run with the outcome and the modules of OnePart.antt. Refusal 8
+-- and the reply are written here from what follows (k, 5 + 18k levels, the final modules), not over a second run.
 use Prim.Native.Nat.{ℕ, zero, suc, _+_, _*_}
 use native.Mathlib.Omega.{arith}
 use native.Mathlib.Nat.{add-zero}
