@@ -31,3 +31,5 @@ pub mod ClearedFlags
 pub mod Pieces
 pub mod Accepted
 pub mod Undecided
+pub mod OnePart
+pub mod OnePartRequest
