@@ -3,7 +3,6 @@ pub mod Lent
 pub mod Module
 pub mod Inputs
 pub mod PassLaws
-pub mod Weight
 pub mod Given
 pub mod Preparing
 pub mod Contract

@@ -13,7 +13,7 @@ use Rattle.arbitration_run.specs.declared.instants.Effect.{Effect}
 use Rattle.arbitration_run.specs.declared.instants.Effect.the-variants.{Nothing, Begin, Release, Acknowledge, Record}
 use Rattle.arbitration_run.specs.declared.instants.Effect.the-variants.{Bit, Settle}
 use Rattle.arbitration_run.specs.declared.instants.Part.{Part}
-use Rattle.arbitration_run.specs.declared.instants.Part.the-variants.{Entry, Opening, Byte, Closing}
+use Rattle.arbitration_run.specs.declared.instants.Part.the-variants.{Entry, Opening, Restart, Byte, Closing}
 use Rattle.arbitration_run.specs.declared.wire.Wire.{Wire}
 use Rattle.arbitration_run.specs.Instants.{byte}
 use Rattle.arbitration_run.specs.Wire as wires
@@ -30,6 +30,7 @@ bits at = cond (eqb at 0) 8 (cond (ltb at 25) ((at - 1) / 3) 8)
 abbrev pub bitsOf : Part → ℕ → ℕ
 bitsOf Entry at = 8
 bitsOf Opening at = 8
+bitsOf Restart at = 8
 bitsOf Byte at = bits at
 bitsOf Closing at = 8
 

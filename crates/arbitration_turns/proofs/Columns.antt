@@ -1,4 +1,4 @@
--- A column of the rows holds the byte of each message at an index.
+-- A column of the rows holds what each message sends at an index.
 use Prim.Native.Nat.{ℕ, zero, suc, _-_, _<_}
 use mathlib.Core.Path.{_≡_, refl, ap, ap₂, _∙_}
 use mathlib.Core.List.{List, [], _∷_, _++_, map}
@@ -7,56 +7,65 @@ use lib.ListN.{length, getD, take, replicate, length-append, length-map, length-
 use lib.Seq.{getD-take}
 use Rattle.laws.proofs.Lists.{map-map, map-alike, everyone}
 use Rattle.arbitration_rules.specs.Limits.{maxMasters, maxLength}
+use Rattle.arbitration_rules.specs.Outcome.{byteOf, sentAt, byteAt}
 use Rattle.arbitration_run.specs.Rows.{emptyRow, rowOf, rowsOf, columnOf}
 
--- the byte of each message at an index, 0 past its end and for a master without a message
-abbrev pub column : List (List ℕ) → ℕ → List ℕ
-column messages index =
-    map (λ message. getD message index 0) (take maxMasters messages) ++ replicate (maxMasters - length messages) 0
+-- something of each message, and a blank for a master without one
+abbrev pub column : (List ℕ → ℕ) → ℕ → List (List ℕ) → List ℕ
+column of blank messages = map of (take maxMasters messages) ++ replicate (maxMasters - length messages) blank
 
-padded : (list : List ℕ) (count i : ℕ) → getD (list ++ replicate count 0) i 0 ≡ getD list i 0
+padded : (list : List ℕ) (count i : ℕ) → getD (list ++ replicate count 256) i 256 ≡ getD list i 256
 padded [] zero i = refl
 padded [] (suc count) zero = refl
 padded [] (suc count) (suc i) = padded [] count i
 padded (value ∷ list) count zero = refl
 padded (value ∷ list) count (suc i) = padded list count i
 
-module _ (index : ℕ) where
-  abbrev byte : List ℕ → ℕ
-  byte row = getD row index 0
+both : {A : Type 0} (f : A → ℕ) (list more : List A) → map f (list ++ more) ≡ map f list ++ map f more
+both f [] more = refl
+both f (row ∷ list) more = ap (λ (rest : List ℕ). f row ∷ rest) (both f list more)
 
-  of-empty : (count : ℕ) → map byte (replicate count emptyRow) ≡ replicate count 0
-  of-empty zero = refl
-  of-empty (suc count) = ap₂ (λ (value : ℕ) (more : List ℕ). value ∷ more) (padded [] maxLength index) (of-empty count)
+all-blank : {A : Type 0} (f : A → ℕ) (a : A) (blank : ℕ) → f a ≡ blank → (count : ℕ)
+    → map f (replicate count a) ≡ replicate count blank
+all-blank f a blank is zero = refl
+all-blank f a blank is (suc count) =
+    ap₂ (λ (value : ℕ) (more : List ℕ). value ∷ more) is (all-blank f a blank is count)
 
-  both : (list more : List (List ℕ)) → map byte (list ++ more) ≡ map byte list ++ map byte more
-  both [] more = refl
-  both (row ∷ list) more = ap (λ (rest : List ℕ). byte row ∷ rest) (both list more)
-
-  of-row : index < maxLength → (message : List ℕ) → byte (rowOf message) ≡ byte message
+module _ (index : ℕ) (messages : List (List ℕ)) where
+  of-row : index < maxLength → (message : List ℕ) → sentAt index (rowOf message) ≡ sentAt index message
   of-row early message =
-      padded (take maxLength message) (maxLength - length message) index ∙ getD-take maxLength message index 0 early
+      padded (take maxLength message) (maxLength - length message) index
+      ∙ getD-take maxLength message index 256 early
 
-  pub of-rows : (messages : List (List ℕ)) → index < maxLength → columnOf (rowsOf messages) index
-      ≡ column messages index
+  pub of-rows : index < maxLength → columnOf (rowsOf messages) index ≡ column (sentAt index) 256 messages
   unfolding rowsOf
-  of-rows messages early =
-      both (map rowOf (take maxMasters messages)) (replicate (maxMasters - length messages) emptyRow)
+  of-rows early =
+      both (sentAt index) (map rowOf (take maxMasters messages)) (replicate (maxMasters - length messages) emptyRow)
       ∙ ap₂ (λ (first rest : List ℕ). first ++ rest)
-      (map-map byte rowOf (take maxMasters messages)
+      (map-map (sentAt index) rowOf (take maxMasters messages)
       ∙ map-alike (everyone (of-row early) (take maxMasters messages)))
-      (of-empty (maxMasters - length messages))
+      (all-blank (sentAt index) emptyRow 256 (padded [] maxLength index) (maxMasters - length messages))
 
--- one for each of the most masters
-pub column-size : (messages : List (List ℕ)) (index : ℕ) → length (columnOf (rowsOf messages) index) ≡ maxMasters
-unfolding rowsOf
-column-size messages index =
-    let rows = map rowOf (take maxMasters messages) ++ replicate (maxMasters - length messages) emptyRow in
-    omega (
-      arith,
-      length-map rows (λ (row : List ℕ). getD row index 0),
-      length-append (map rowOf (take maxMasters messages)) (replicate (maxMasters - length messages) emptyRow),
-      length-map (take maxMasters messages) rowOf,
-      length-take maxMasters messages,
-      length-replicate {A = List ℕ} (maxMasters - length messages) emptyRow,
-    )
+  -- and the bytes of that
+  pub bytes-of-rows : index < maxLength
+      → map byteOf (columnOf (rowsOf messages) index) ≡ column (byteAt index) 0 messages
+  bytes-of-rows early =
+      ap (map byteOf) (of-rows early)
+      ∙ both byteOf (map (sentAt index) (take maxMasters messages)) (replicate (maxMasters - length messages) 256)
+      ∙ ap₂ (λ (first rest : List ℕ). first ++ rest) (map-map byteOf (sentAt index) (take maxMasters messages))
+      (all-blank byteOf 256 0 refl (maxMasters - length messages))
+
+  -- one for each of the most masters
+  pub column-size : length (map byteOf (columnOf (rowsOf messages) index)) ≡ maxMasters
+  unfolding rowsOf
+  column-size =
+      let rows = map rowOf (take maxMasters messages) ++ replicate (maxMasters - length messages) emptyRow in
+      omega (
+        arith,
+        length-map (columnOf rows index) byteOf,
+        length-map rows (sentAt index),
+        length-append (map rowOf (take maxMasters messages)) (replicate (maxMasters - length messages) emptyRow),
+        length-map (take maxMasters messages) rowOf,
+        length-take maxMasters messages,
+        length-replicate {A = List ℕ} (maxMasters - length messages) emptyRow,
+      )

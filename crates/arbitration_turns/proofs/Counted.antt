@@ -1,15 +1,14 @@
--- Who is through with its message: by what the masters know of its length, and by the messages.
+-- Who is through with its message, or restarts: by what the masters know, and by the messages.
 use Prim.Native.Nat.{ℕ, zero, suc, _-_, _≤_}
 use mathlib.Core.Path.{_≡_, refl, ap}
 use mathlib.Core.Bool.{Bool, true, false, not, _&&_, _||_, false≢true}
 use mathlib.Core.List.{List, [], _∷_, _++_, map, zipWith}
 use native.Mathlib.Nat.{not-suc-le-zero, le-of-suc-le-suc}
 use native.Mathlib.Omega.{arith}
-use lib.Dec.{leb}
 use lib.ListN.{length, take, drop, replicate}
 use Rattle.laws.specs.Search.{any}
 use Rattle.usi.specs.declared.Usi.{Usi}
-use Rattle.arbitration_rules.specs.Run.{through}
+use Rattle.arbitration_rules.specs.Masters.{Master}
 use Rattle.arbitration_run.specs.declared.instants.Effect.{Effect}
 use Rattle.arbitration_run.specs.declared.instants.Effect.the-variants.{Nothing, Begin, Release, Acknowledge, Record}
 use Rattle.arbitration_run.specs.declared.instants.Effect.the-variants.{Bit, Settle}
@@ -54,33 +53,39 @@ counted-after count sizes (Bit bit) al index stood counted =
     record { sizes = counted .sizes; quiet = quiet-judged count (stood .contending) al (counted .quiet) }
 counted-after count sizes Settle al index stood counted = record { sizes = counted .sizes; quiet = counted .quiet }
 
--- nobody who doesn't contend is through
-none-through : (contending : List Bool) (sizes : List ℕ) (sent : ℕ) → Quiet 0 contending
-    → members.anyThrough contending sizes sent ≡ false
-unfolding zipWith
-none-through [] sizes sent quiet = refl
-none-through (still ∷ contending) [] sent quiet = refl
-none-through (true ∷ contending) (size ∷ sizes) sent quiet = absurd (false≢true (rw (quiet) refl))
-none-through (false ∷ contending) (size ∷ sizes) sent quiet = none-through contending sizes sent quiet
+-- who doesn't contend is not asked
+module _ (test : ℕ → Bool) where
+  nobody : (contending : List Bool) (values : List ℕ) → Quiet 0 contending
+      → members.someone test contending values ≡ false
+  unfolding zipWith
+  nobody [] values quiet = refl
+  nobody (still ∷ contending) [] quiet = refl
+  nobody (true ∷ contending) (value ∷ values) quiet = absurd (false≢true (rw (quiet) refl))
+  nobody (false ∷ contending) (value ∷ values) quiet = nobody contending values quiet
 
--- someone is through: by the lengths, and by the messages
-pub through-view : (table : List Usi) (contending lost : List Bool) (positions more : List ℕ)
-    (messages : List (List ℕ)) (sent : ℕ) → length table ≡ length messages → length messages ≤ length contending
-    → length messages ≤ length lost → length messages ≤ length positions → Quiet (length messages) contending
-    → members.anyThrough contending (map length messages ++ more) sent
-    ≡ through messages sent (mastersFrom table contending lost positions)
-unfolding through zipWith
-through-view [] contending lost positions more [] sent many c l p quiet = none-through contending more sent quiet
-through-view [] contending lost positions more (message ∷ messages) sent many c l p quiet = absurd (omega arith)
-through-view (usi ∷ table) contending lost positions more [] sent many c l p quiet = absurd (omega arith)
-through-view (usi ∷ table) [] lost positions more (message ∷ messages) sent many c l p quiet =
-    absurd (not-suc-le-zero c)
-through-view (usi ∷ table) (still ∷ contending) [] positions more (message ∷ messages) sent many c l p quiet =
-    absurd (not-suc-le-zero l)
-through-view (usi ∷ table) (still ∷ contending) (out ∷ lost) [] more (message ∷ messages) sent many c l p quiet =
-    absurd (not-suc-le-zero p)
-through-view (usi ∷ table) (still ∷ contending) (out ∷ lost) (position ∷ positions) more (message ∷ messages) sent
-    many c l p quiet =
-    ap (λ (rest : Bool). still && leb (length message) sent || rest)
-    (through-view table contending lost positions more messages sent (omega arith) (le-of-suc-le-suc c)
-    (le-of-suc-le-suc l) (le-of-suc-le-suc p) quiet)
+  -- someone still in passes a test of something of its message
+  abbrev pub someoneOf : (List ℕ → ℕ) → List (List ℕ) → List Master → Bool
+  someoneOf of messages masters =
+      any (λ (passes : Bool). passes)
+      (zipWith (λ (master : Master) message. master .contending && test (of message)) masters messages)
+
+  pub someone-view : (of : List ℕ → ℕ) (table : List Usi) (contending lost : List Bool) (positions more : List ℕ)
+      (messages : List (List ℕ)) → length table ≡ length messages → length messages ≤ length contending
+      → length messages ≤ length lost → length messages ≤ length positions → Quiet (length messages) contending
+      → members.someone test contending (map of messages ++ more)
+      ≡ someoneOf of messages (mastersFrom table contending lost positions)
+  unfolding zipWith
+  someone-view of [] contending lost positions more [] many c l p quiet = nobody contending more quiet
+  someone-view of [] contending lost positions more (message ∷ messages) many c l p quiet = absurd (omega arith)
+  someone-view of (usi ∷ table) contending lost positions more [] many c l p quiet = absurd (omega arith)
+  someone-view of (usi ∷ table) [] lost positions more (message ∷ messages) many c l p quiet =
+      absurd (not-suc-le-zero c)
+  someone-view of (usi ∷ table) (still ∷ contending) [] positions more (message ∷ messages) many c l p quiet =
+      absurd (not-suc-le-zero l)
+  someone-view of (usi ∷ table) (still ∷ contending) (out ∷ lost) [] more (message ∷ messages) many c l p quiet =
+      absurd (not-suc-le-zero p)
+  someone-view of (usi ∷ table) (still ∷ contending) (out ∷ lost) (position ∷ positions) more (message ∷ messages)
+      many c l p quiet =
+      ap (λ (rest : Bool). still && test (of message) || rest)
+      (someone-view of table contending lost positions more messages (omega arith) (le-of-suc-le-suc c)
+      (le-of-suc-le-suc l) (le-of-suc-le-suc p) quiet)

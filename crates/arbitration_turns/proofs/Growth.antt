@@ -8,7 +8,7 @@ use lib.Dec.{eqb}
 use lib.ListN.{length, length-append}
 use Rattle.arbitration_rules.specs.Run.{Bus, Instant, does, loads, samples, records, pulls, judges, takes, carries}
 use Rattle.arbitration_rules.specs.Run.{settles}
-use Rattle.arbitration_rules.specs.Run.{performed, perform, byteTurn, through, bytes}
+use Rattle.arbitration_rules.specs.Run.{performed, perform, turnOf, through, restarting, bytes}
 use Rattle.arbitration_run.specs.declared.instants.Effect.the-variants.{Record, Bit}
 use Rattle.arbitration_run.specs.Instants.{sample}
 use Rattle.arbitration_turns.proofs.Scripts.{further, ofTick, spelled}
@@ -55,17 +55,15 @@ module _ (messages : List (List ℕ)) where
       → Grows bus (bytes messages acknowledges index bus)
   bytes-grow [] index bus = grows-not bus
   bytes-grow (acknowledge ∷ acknowledges) index bus =
-      let after = perform messages (byteTurn index acknowledge) bus in
-      go (eqb acknowledge 1 || through messages (suc index) (after .masters))
-      (perform-grows (byteTurn index acknowledge) bus) (bytes-grow acknowledges (suc index) after)
+      let turn = turnOf (restarting messages index (bus .masters)) index acknowledge in
+      let after = perform messages turn bus in
+      go after (eqb acknowledge 1 || through messages (suc index) (after .masters)) (perform-grows turn bus)
+      (bytes-grow acknowledges (suc index) after)
     where
-      go : (ends : Bool) → let after = perform messages (byteTurn index acknowledge) bus in
-          Grows bus after → Grows after (bytes messages acknowledges (suc index) after)
+      go : (after : Bus) (ends : Bool) → Grows bus after → Grows after (bytes messages acknowledges (suc index) after)
           → Grows bus (cond ends after (bytes messages acknowledges (suc index) after))
-      go true first rest = first
-      go false first rest =
-          let after = perform messages (byteTurn index acknowledge) bus in
-          grows-on bus after (bytes messages acknowledges (suc index) after) first rest
+      go after true first rest = first
+      go after false first rest = grows-on bus after (bytes messages acknowledges (suc index) after) first rest
 
   -- a level recorded, and a byte carried, are one more
   pub record-grows : (index acknowledge : ℕ) (ticks : Bool) (bus : Bus)

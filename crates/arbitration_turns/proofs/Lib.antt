@@ -13,3 +13,4 @@ pub mod Bits
 pub mod Standing
 pub mod Steps
 pub mod Ran
+pub mod Weight

@@ -16,9 +16,9 @@ use Rattle.usi.specs.Module.{powerUp}
 use Rattle.arbitration_rules.specs.Limits.{maxMasters, maxLength}
 use Rattle.arbitration_rules.specs.Masters.{Master, entering, withUsi, stillIn}
 use Rattle.arbitration_rules.specs.declared.Seat.{Seat}
-use Rattle.arbitration_rules.specs.Reply.{messagesOf, absent, seatOf}
+use Rattle.arbitration_rules.specs.Reply.{cut, absent, seatOf}
 use Rattle.arbitration_rules.specs.Run.{Bus, Instant, perform, powered, setUp, start, stop, bytes as steps, run}
-use Rattle.arbitration_rules.proofs.Accepted.{cut-count}
+use Rattle.arbitration_rules.proofs.Cut.{cut-count}
 use Rattle.arbitration_rules.proofs.Phases.{perform-append}
 use Rattle.arbitration_run.specs.declared.instants.Operation.the-variants.{Enter}
 use Rattle.arbitration_run.specs.declared.instants.Effect.the-variants.{Nothing}
@@ -37,7 +37,7 @@ use Rattle.arbitration_turns.proofs.Turned.{same-bus}
 use Rattle.arbitration_turns.proofs.Kept.{written-none, kept-turned}
 use Rattle.arbitration_turns.proofs.Standing.{restAt}
 use Rattle.arbitration_turns.proofs.Counted.{Counted, quiet-start}
-use Rattle.arbitration_turns.proofs.Steps.{busOf, Standing, LoadingOf, Finished, step}
+use Rattle.arbitration_turns.proofs.Steps.{busOf, On, Finished, step}
 
 -- a module after set-up, and the master whose it is
 abbrev setUpModule : Usi
@@ -97,13 +97,13 @@ seats-of (usi ∷ table) (still ∷ contending) (out ∷ lost) (position ∷ pos
     ap (λ (seats : List Seat). members.seatOf members.writesClear still position ∷ seats)
     (seats-of table contending lost positions (le-of-suc-le-suc c) (le-of-suc-le-suc l) (le-of-suc-le-suc p))
 
-module _ (bytes lengths acknowledges : List ℕ) (few : length lengths ≤ maxMasters)
-    (short : length acknowledges ≤ maxLength) (whole : map length (messagesOf lengths bytes) ≡ lengths)
+module _ (sent lengths acknowledges : List ℕ) (few : length lengths ≤ maxMasters)
+    (short : length acknowledges ≤ maxLength) (whole : map length (cut lengths sent) ≡ lengths)
     (table₀ : List Usi) (enough : length lengths ≤ length table₀) (carried₀ levels₀ : List ℕ)
-    (room : length (run (messagesOf lengths bytes) acknowledges .carried) ≤ length carried₀)
-    (level-room : length (run (messagesOf lengths bytes) acknowledges .levels) ≤ length levels₀) where
+    (room : length (run (cut lengths sent) acknowledges .carried) ≤ length carried₀)
+    (level-room : length (run (cut lengths sent) acknowledges .levels) ≤ length levels₀) where
   abbrev messages : List (List ℕ)
-  messages = messagesOf lengths bytes
+  messages = cut lengths sent
 
   abbrev count : ℕ
   count = length lengths
@@ -116,14 +116,10 @@ module _ (bytes lengths acknowledges : List ℕ) (few : length lengths ≤ maxMa
       record { sequencer = sequence.first lengths; table = table₀; carried = carried₀; levels = levels₀ }
 
   abbrev Stands : Turn → Type 0
-  Stands t = Standing bytes lengths acknowledges few short whole table₀ enough carried₀ levels₀ t
-
-  abbrev On : Turn → Type 0
-  On t =
-      Stands t × LoadingOf bytes lengths acknowledges few short whole table₀ enough carried₀ levels₀ t
+  Stands t = On sent lengths acknowledges few short whole table₀ enough carried₀ levels₀ t
 
   abbrev Ends : Turn → Type 0
-  Ends t = Finished bytes lengths acknowledges few short whole table₀ enough carried₀ levels₀ t
+  Ends t = Finished sent lengths acknowledges few short whole table₀ enough carried₀ levels₀ t
 
   sized : Sized (members.entered lengths)
   unfolding members.entered
@@ -158,11 +154,11 @@ module _ (bytes lengths acknowledges : List ℕ) (few : length lengths ≤ maxMa
         levels = levels₀;
       }
 
-  entered-bus : busOf bytes lengths acknowledges few short whole table₀ enough carried₀ levels₀ opening
+  entered-bus : busOf sent lengths acknowledges few short whole table₀ enough carried₀ levels₀ opening
       ≡ perform messages setUp (powered messages)
   unfolding sequence.affected sequence.passOf sequence.first members.entered
   entered-bus =
-      let all : min count maxMasters ≡ length messages = omega (arith, few, cut-count lengths bytes) in
+      let all : min count maxMasters ≡ length messages = omega (arith, few, cut-count lengths sent) in
       let size = length-take count table₀ in
       same-bus
       (pass-alone count few (replicate maxMasters 0) (length-replicate {A = ℕ} maxMasters 0)
@@ -174,7 +170,7 @@ module _ (bytes lengths acknowledges : List ℕ) (few : length lengths ≤ maxMa
       (mastersFrom (take count table₀) (replicate n true ++ replicate (maxMasters - count) false)
       (replicate maxMasters false) (replicate maxMasters 0))) all
       ∙ everyone-enters (take count table₀) messages (replicate (maxMasters - count) false) maxMasters
-      (omega (arith, size, cut-count lengths bytes, enough)) (omega (arith, cut-count lengths bytes, few))
+      (omega (arith, size, cut-count lengths sent, enough)) (omega (arith, cut-count lengths sent, few))
       ∙ sym (map-map (writtenBy stillIn (registers Enter 0)) (λ (message : List ℕ). entering) messages))
       refl refl refl refl refl
       ∙ sym (writes-are messages stillIn (registers Enter 0) (powered messages))
@@ -185,49 +181,53 @@ module _ (bytes lengths acknowledges : List ℕ) (few : length lengths ≤ maxMa
       let all : min count maxMasters ≡ count = omega (arith, few) in
       record { sizes = refl; quiet = rw all (quiet-start count (maxMasters - count)) }
 
-  entered : On opening
+  entered : Stands opening
   unfolding sequence.affected sequence.passOf sequence.first run
-  entered = (
-    record {
-      running = refl;
-      inside = tt;
-      within = omega arith;
-      early = tt;
-      small = omega arith;
-      kept =
-          kept-turned count table₀ few enough (members.sizesOf lengths) carried₀ levels₀
-          (sequence.passOf (sequence.first lengths)) Nothing Enter 0 true (members.entered lengths)
-          (sequence.first lengths .wire) 0 table₀ carried₀ levels₀ 0 refl refl sized counted (written-none carried₀)
-          (written-none levels₀);
-      same =
-          ap (λ (bus : Bus).
-          restAt messages acknowledges Opening 0 0 bus) entered-bus
-          ∙ ap (λ (script : List Instant).
-          perform messages stop (steps messages acknowledges 0
-          (perform messages script (perform messages setUp (powered messages)))))
-          (spells-start 0 (sequence.acknowledgeAt acknowledges 0))
-          ∙ ap (λ (bus : Bus). perform messages stop (steps messages acknowledges 0 bus))
-          (sym (perform-append messages setUp start (powered messages)));
-    },
-    tt,
-  )
+  entered =
+      inl
+      (record {
+        running = refl;
+        ready = refl;
+        inside = tt;
+        within = omega arith;
+        early = tt;
+        loaded = tt;
+        small = omega arith;
+        kept =
+            kept-turned count table₀ few enough (members.sizesOf lengths) carried₀ levels₀
+            (sequence.passOf (sequence.first lengths)) Nothing Enter 0 true (members.entered lengths)
+            (sequence.first lengths .wire) 0 table₀ carried₀ levels₀ 0 refl refl sized counted (written-none carried₀)
+            (written-none levels₀);
+        same =
+            ap (λ (bus : Bus).
+            restAt messages acknowledges Opening 0 0 bus) entered-bus
+            ∙ ap (λ (script : List Instant).
+            perform messages stop (steps messages acknowledges 0
+            (perform messages script (perform messages setUp (powered messages)))))
+            (spells-start 0 (sequence.acknowledgeAt acknowledges 0))
+            ∙ ap (λ (bus : Bus). perform messages stop (steps messages acknowledges 0 bus))
+            (sym (perform-append messages setUp start (powered messages)));
+      })
 
   -- turn after turn
   stays : (t final : Turn) → Reached count rows acknowledges t final → Ends t → Ends final
   stays t final (ended turn is) over = over
   stays t final (more turn last is rest) over = absurd (false≢true (sym (over .stopped) ∙ is))
 
-  ends : (t final : Turn) → Reached count rows acknowledges t final → On t → Ends final
-  ends t final (ended turn is) stands = absurd (false≢true (sym is ∙ stands .0 .running))
+  ends : (t final : Turn) → Reached count rows acknowledges t final → Stands t → Ends final
+  ends t final (ended turn is) stands = absurd (false≢true (sym is ∙ runs stands))
+    where
+      runs : Stands turn → turn .sequencer .running ≡ true
+      runs (inl standing) = standing .running
+      runs (inr waiting) = waiting .running
   ends t final (more turn last is rest) stands =
-      go (step bytes lengths acknowledges few short whole table₀ enough carried₀ levels₀ room level-room turn
-      (stands .0) (stands .1))
+      go (step sent lengths acknowledges few short whole table₀ enough carried₀ levels₀ room level-room turn stands)
       (ends (turnAfter count rows acknowledges turn) last rest)
       (stays (turnAfter count rows acknowledges turn) last rest)
     where
-      go : On (turnAfter count rows acknowledges turn)
+      go : Stands (turnAfter count rows acknowledges turn)
           ⊎ Ends (turnAfter count rows acknowledges turn)
-          → (On (turnAfter count rows acknowledges turn) → Ends last)
+          → (Stands (turnAfter count rows acknowledges turn) → Ends last)
           → (Ends (turnAfter count rows acknowledges turn) → Ends last) → Ends last
       go (inl on) first second = first on
       go (inr over) first second = second over

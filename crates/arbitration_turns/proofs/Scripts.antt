@@ -5,20 +5,20 @@ use mathlib.Core.Bool.{Bool, true, false, cond}
 use mathlib.Core.List.{List, [], _∷_, _++_}
 use native.Mathlib.Omega.{arith}
 use lib.Dec.{eqb}
-use Rattle.usi_registers.specs.Registers.{USICTL0, USICNT}
-use Rattle.arbitration_rules.specs.Masters.{everybody, stillIn, beaten, Tick}
+use Rattle.usi_registers.specs.Registers.{USICTL0, USICTL1, USICNT}
+use Rattle.arbitration_rules.specs.Masters.{everybody, stillIn, beaten, losers, Tick}
 use Rattle.arbitration_rules.specs.Run as run
 use Rattle.arbitration_rules.specs.Run.{does, loads, samples, records, pulls, judges, takes, carries, settles}
-use Rattle.arbitration_rules.specs.Run.{writes, setUp, start, byteTurn, stop}
+use Rattle.arbitration_rules.specs.Run.{writes, setUp, start, restart, byteTurn, stop}
 use Rattle.arbitration_run.specs.declared.instants.Operation.{Operation}
 use Rattle.arbitration_run.specs.declared.instants.Operation.the-variants.{Enter, Sample, Pull, Clear, Load, LetGo}
-use Rattle.arbitration_run.specs.declared.instants.Operation.the-variants.{Lower, Raise, Rest}
+use Rattle.arbitration_run.specs.declared.instants.Operation.the-variants.{Lower, Raise, Rest, Rise, Heed}
 use Rattle.arbitration_run.specs.declared.instants.Effect.{Effect}
 use Rattle.arbitration_run.specs.declared.instants.Effect.the-variants.{Nothing, Begin, Release, Acknowledge, Record}
 use Rattle.arbitration_run.specs.declared.instants.Effect.the-variants.{Bit, Settle}
 use Rattle.arbitration_run.specs.declared.instants.Instant.{Instant}
 use Rattle.arbitration_run.specs.declared.instants.Part.{Part}
-use Rattle.arbitration_run.specs.declared.instants.Part.the-variants.{Opening, Byte, Closing}
+use Rattle.arbitration_run.specs.declared.instants.Part.the-variants.{Opening, Restart, Byte, Closing}
 use Rattle.arbitration_run.specs.Instants.{instant, last}
 use Rattle.arbitration_run.specs.Pass.{registers}
 
@@ -34,6 +34,9 @@ ofOperation LetGo index =
 ofOperation Lower index = writes stillIn (registers Lower 0)
 ofOperation Raise index = writes stillIn (registers Raise 0)
 ofOperation Rest index = writes stillIn (registers Rest 0)
+ofOperation Rise index = writes stillIn (registers Rise 0)
+ofOperation Heed index =
+    writes stillIn (registers Heed 0) ++ writes losers ((USICTL1, 0x49) ∷ (USICNT, 0x80) ∷ [])
 
 -- so many positions on
 abbrev pub further : ℕ → ℕ → ℕ
@@ -71,6 +74,9 @@ spelledFrom part at (suc count) index acknowledge =
 
 pub spells-start : (index acknowledge : ℕ) → spelledFrom Opening 0 4 index acknowledge ≡ start
 spells-start index acknowledge = refl
+
+pub spells-restart : (index acknowledge : ℕ) → spelledFrom Restart 0 7 index acknowledge ≡ restart
+spells-restart index acknowledge = refl
 
 pub spells-byte : (index acknowledge : ℕ) → spelledFrom Byte 0 29 index acknowledge ≡ byteTurn index acknowledge
 spells-byte index acknowledge = refl

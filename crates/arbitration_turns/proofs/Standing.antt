@@ -11,11 +11,11 @@ use lib.ListN.{length, drop}
 use Rattle.usi.specs.declared.Usi.{Usi}
 use Rattle.arbitration_rules.specs.Masters.{Master}
 use Rattle.arbitration_rules.specs.Run as script
-use Rattle.arbitration_rules.specs.Run.{Bus, perform, stop, through}
+use Rattle.arbitration_rules.specs.Run.{Bus, perform, byteTurn, stop, through}
 use Rattle.arbitration_rules.proofs.Phases.{perform-append}
 use Rattle.arbitration_run.specs.declared.instants.Instant.{Instant}
 use Rattle.arbitration_run.specs.declared.instants.Part.{Part}
-use Rattle.arbitration_run.specs.declared.instants.Part.the-variants.{Entry, Opening, Byte, Closing}
+use Rattle.arbitration_run.specs.declared.instants.Part.the-variants.{Entry, Opening, Restart, Byte, Closing}
 use Rattle.arbitration_run.specs.Instants.{instant, last}
 use Rattle.arbitration_run.specs.Members as members
 use Rattle.arbitration_run.specs.Sequence.{acknowledgeAt}
@@ -32,24 +32,27 @@ module _ (messages : List (List ℕ)) (acknowledges : List ℕ) where
   abbrev pub ends : ℕ → List Master → Bool
   ends index masters = eqb (acknowledgeAt acknowledges index) 1 || through messages (suc index) masters
 
+  -- what follows the byte at an index
+  abbrev pub afterByte : ℕ → Bus → Bus
+  afterByte index bus = perform messages stop (cond (ends index (bus .masters)) bus (bytesFrom (suc index) bus))
+
+  abbrev pub byteAfter : ℕ → Bus → Bus
+  byteAfter index bus = perform messages (byteTurn index (acknowledgeAt acknowledges index)) bus
+
   -- what follows a part that is over
   abbrev pub finished : Part → ℕ → Bus → Bus
   finished Entry index bus = bus
   finished Opening index bus = perform messages stop (bytesFrom index bus)
-  finished Byte index bus =
-      perform messages stop (cond (ends index (bus .masters)) bus (bytesFrom (suc index) bus))
+  finished Restart index bus = afterByte index (byteAfter index bus)
+  finished Byte index bus = afterByte index bus
   finished Closing index bus = bus
 
   abbrev pub restAt : Part → ℕ → ℕ → Bus → Bus
   restAt part at index bus =
       finished part index (perform messages (remaining part at index (acknowledgeAt acknowledges index)) bus)
 
-  finished-grows : (part : Part) (index : ℕ) (bus : Bus) → Grows bus (finished part index bus)
-  finished-grows Entry index bus = grows-not bus
-  finished-grows Opening index bus =
-      grows-on bus (bytesFrom index bus) (perform messages stop (bytesFrom index bus))
-      (bytes-grow messages (drop index acknowledges) index bus) (perform-grows messages stop (bytesFrom index bus))
-  finished-grows Byte index bus = go (ends index (bus .masters))
+  after-grows : (index : ℕ) (bus : Bus) → Grows bus (afterByte index bus)
+  after-grows index bus = go (ends index (bus .masters))
     where
       go : (over : Bool) → Grows bus (perform messages stop (cond over bus (bytesFrom (suc index) bus)))
       go true = perform-grows messages stop bus
@@ -57,6 +60,17 @@ module _ (messages : List (List ℕ)) (acknowledges : List ℕ) where
           grows-on bus (bytesFrom (suc index) bus) (perform messages stop (bytesFrom (suc index) bus))
           (bytes-grow messages (drop (suc index) acknowledges) (suc index) bus)
           (perform-grows messages stop (bytesFrom (suc index) bus))
+
+  finished-grows : (part : Part) (index : ℕ) (bus : Bus) → Grows bus (finished part index bus)
+  finished-grows Entry index bus = grows-not bus
+  finished-grows Opening index bus =
+      grows-on bus (bytesFrom index bus) (perform messages stop (bytesFrom index bus))
+      (bytes-grow messages (drop index acknowledges) index bus) (perform-grows messages stop (bytesFrom index bus))
+  finished-grows Restart index bus =
+      grows-on bus (byteAfter index bus) (afterByte index (byteAfter index bus))
+      (perform-grows messages (byteTurn index (acknowledgeAt acknowledges index)) bus)
+      (after-grows index (byteAfter index bus))
+  finished-grows Byte index bus = after-grows index bus
   finished-grows Closing index bus = grows-not bus
 
   module _ (part : Part) (at index : ℕ) (bus : Bus) where

@@ -6,26 +6,29 @@ use mathlib.Core.Logic.{_⊎_, inl, inr}
 use mathlib.Core.List.{List, _++_, map}
 use native.Mathlib.Omega.{arith}
 use borrow.Author.Tests.{lt-ltb, ltb-true, ltb-false, leb-true}
-use lib.Dec.{eqb, ltb}
+use lib.Dec.{eqb, ltb, leb}
 use lib.ListN.{length, take, replicate, drop-of-length-le, length-take}
 use lib.Seq.{drop-cons, length-take-le, take-all}
 use Rattle.usi.specs.declared.Usi.{Usi}
 use Rattle.arbitration_rules.specs.Limits.{maxMasters, maxLength}
-use Rattle.arbitration_rules.specs.Reply.{messagesOf}
+use Rattle.arbitration_rules.specs.Outcome.{restarts, sentAt, byteAt}
+use Rattle.arbitration_rules.specs.Reply.{cut}
 use Rattle.arbitration_rules.specs.Run as script
-use Rattle.arbitration_rules.specs.Run.{Bus, perform, stop, through, run}
-use Rattle.arbitration_rules.proofs.Accepted.{cut-count}
-use Rattle.arbitration_run.specs.declared.instants.Operation.the-variants.{Pull, Clear, Lower, Raise, Rest}
+use Rattle.arbitration_rules.specs.Run.{Bus, perform, restart, byteTurn, stop, through, restarting, run}
+use Rattle.arbitration_rules.proofs.Cut.{cut-count}
+use Rattle.arbitration_rules.proofs.Phases.{perform-append}
+use Rattle.arbitration_run.specs.declared.instants.Operation.{Operation}
+use Rattle.arbitration_run.specs.declared.instants.Operation.the-variants.{Pull, Clear, Lower, Raise, Rest, Rise, Heed}
 use Rattle.arbitration_run.specs.declared.instants.Effect.{Effect}
 use Rattle.arbitration_run.specs.declared.instants.Effect.the-variants.{Nothing, Begin, Release, Acknowledge, Record}
 use Rattle.arbitration_run.specs.declared.instants.Effect.the-variants.{Bit, Settle}
 use Rattle.arbitration_run.specs.declared.instants.Instant.{Instant}
 use Rattle.arbitration_run.specs.declared.instants.Part.{Part}
-use Rattle.arbitration_run.specs.declared.instants.Part.the-variants.{Entry, Opening, Byte, Closing}
+use Rattle.arbitration_run.specs.declared.instants.Part.the-variants.{Entry, Opening, Restart, Byte, Closing}
 use Rattle.arbitration_run.specs.declared.members.Members.{Members}
 use Rattle.arbitration_run.specs.declared.sequencer.Sequencer.{Sequencer}
 use Rattle.arbitration_run.specs.declared.wire.Wire.{Wire}
-use Rattle.arbitration_run.specs.Instants.{write, sample, turn, byte, instant, last}
+use Rattle.arbitration_run.specs.Instants.{write, sample, turn, byte, condition, instant, last}
 use Rattle.arbitration_run.specs.Members as members
 use Rattle.arbitration_run.specs.Rows.{rowsOf, columnOf}
 use Rattle.arbitration_run.specs.Pass.{passed, seen}
@@ -34,24 +37,24 @@ use Rattle.arbitration_run.specs.Sequence as sequence
 use Rattle.arbitration_run.specs.Sequence.{acknowledgeAt}
 use Rattle.arbitration_turns.specs.Turns.{Turn, turnAfter}
 use Rattle.arbitration_turns.specs.Turns as turns
-use Rattle.arbitration_turns.proofs.Scripts.{spelled, spells-byte, spells-stop}
+use Rattle.arbitration_turns.proofs.Scripts.{spelled, spells-restart, spells-byte, spells-stop}
 use Rattle.arbitration_turns.proofs.Pieces.{busAt}
 use Rattle.arbitration_turns.proofs.Allowed.{Inside, Allowed, writing, releasing, acknowledging, recording}
-use Rattle.arbitration_turns.proofs.Allowed.{taking, loading, lettingGo, allowed, Ready, turned-is}
+use Rattle.arbitration_turns.proofs.Allowed.{taking, loading, heeding, lettingGo, allowed, Ready, turned-is}
 use Rattle.arbitration_turns.proofs.Growth.{Grows, record-grows, bit-grows, byte-grows}
 use Rattle.arbitration_turns.proofs.Kept.{Kept, kept-turned}
 use Rattle.arbitration_turns.proofs.Bits.{bound, bits, bitsOf, stepTest, steps, bits-fit, byte-after}
-use Rattle.arbitration_turns.proofs.Bits.{byte-fits, bit-small, begins-first}
-use Rattle.arbitration_turns.proofs.Standing.{bytesFrom, ends, finished, restAt, rest-next, rest-last}
+use Rattle.arbitration_turns.proofs.Bits.{byte-fits, bit-small}
+use Rattle.arbitration_turns.proofs.Standing.{bytesFrom, ends, afterByte, finished, restAt, rest-next, rest-last}
 use Rattle.arbitration_turns.proofs.Standing.{instant-grows}
-use Rattle.arbitration_turns.proofs.Columns.{column, of-rows, column-size}
-use Rattle.arbitration_turns.proofs.Counted.{through-view}
+use Rattle.arbitration_turns.proofs.Columns.{column, of-rows, bytes-of-rows, column-size}
+use Rattle.arbitration_turns.proofs.Counted.{someoneOf, someone-view}
 
-module _ (bytes lengths acknowledges : List ℕ) (few : length lengths ≤ maxMasters)
-    (short : length acknowledges ≤ maxLength) (whole : map length (messagesOf lengths bytes) ≡ lengths)
+module _ (sent lengths acknowledges : List ℕ) (few : length lengths ≤ maxMasters)
+    (short : length acknowledges ≤ maxLength) (whole : map length (cut lengths sent) ≡ lengths)
     (table₀ : List Usi) (enough : length lengths ≤ length table₀) (carried₀ levels₀ : List ℕ) where
   abbrev messages : List (List ℕ)
-  messages = messagesOf lengths bytes
+  messages = cut lengths sent
 
   abbrev count : ℕ
   count = length lengths
@@ -60,7 +63,7 @@ module _ (bytes lengths acknowledges : List ℕ) (few : length lengths ≤ maxMa
   rows = rowsOf messages
 
   many : length messages ≡ count
-  many = cut-count lengths bytes
+  many = cut-count lengths sent
 
   abbrev pub busOf : Turn → Bus
   busOf t =
@@ -72,110 +75,176 @@ module _ (bytes lengths acknowledges : List ℕ) (few : length lengths ≤ maxMa
       Kept count table₀ (members.sizesOf lengths) carried₀ levels₀ (t .sequencer .members) (t .sequencer .wire)
       (t .sequencer .sent) (t .table) (t .carried) (t .levels)
 
-  -- a byte on the bus has an acknowledge; before it is sent it is to be taken from the rows, and then it is
+  -- a byte on the bus has an acknowledge, and is taken from the rows before it is sent
   abbrev pub Early : Part → ℕ → Type 0
   Early Entry index = Unit {0}
   Early Opening index = Unit {0}
+  Early Restart index = index < length acknowledges
   Early Byte index = index < length acknowledges
   Early Closing index = Unit {0}
 
-  abbrev pub Loading : Part → ℕ → Bool → Type 0
-  Loading Entry at load = Unit {0}
-  Loading Opening at load = Unit {0}
-  Loading Byte at load = at ≡ 0 → load ≡ true
-  Loading Closing at load = Unit {0}
+  abbrev pub Loaded : Part → ℕ → Members → Type 0
+  Loaded Entry index stood = Unit {0}
+  Loaded Opening index stood = Unit {0}
+  Loaded Restart index stood = stood .bytes ≡ column (byteAt index) 0 messages
+  Loaded Byte index stood = stood .bytes ≡ column (byteAt index) 0 messages
+  Loaded Closing index stood = Unit {0}
 
-  abbrev Loaded : Part → ℕ → ℕ → Members → Type 0
-  Loaded Entry at index stood = Unit {0}
-  Loaded Opening at index stood = Unit {0}
-  Loaded Byte at index stood = at ≡ 0 → stood .bytes ≡ column messages index
-  Loaded Closing at index stood = Unit {0}
-
+  -- a turn before its pass
   pub record Standing (t : Turn) : Type 0 where
     pub running : t .sequencer .running ≡ true
+    pub ready : t .sequencer .loading ≡ false
     pub inside : Inside (t .sequencer .part)
     pub within : t .sequencer .at ≤ last (t .sequencer .part)
     pub early : Early (t .sequencer .part) (t .sequencer .index)
+    pub loaded : Loaded (t .sequencer .part) (t .sequencer .index) (t .sequencer .members)
     pub small : t .sequencer .wire .byte < bound (bitsOf (t .sequencer .part) (t .sequencer .at))
     pub kept : KeptOf t
     pub same : restAt messages acknowledges (t .sequencer .part) (t .sequencer .at) (t .sequencer .index) (busOf t)
         ≡ run messages acknowledges
 
-  abbrev pub LoadingOf : Turn → Type 0
-  LoadingOf t = Loading (t .sequencer .part) (t .sequencer .at) (t .sequencer .loading)
+  -- a turn before a byte is taken from the rows: whether a restart comes first is not known yet
+  pub record Waiting (t : Turn) : Type 0 where
+    pub running : t .sequencer .running ≡ true
+    pub loading : t .sequencer .loading ≡ true
+    pub of-part : t .sequencer .part ≡ Byte
+    pub at-first : t .sequencer .at ≡ 0
+    pub early : t .sequencer .index < length acknowledges
+    pub small : t .sequencer .wire .byte < 256
+    pub kept : KeptOf t
+    pub same : perform messages stop (bytesFrom messages acknowledges (t .sequencer .index) (busOf t))
+        ≡ run messages acknowledges
 
-  abbrev LoadedOf : Turn → Type 0
-  LoadedOf t = Loaded (t .sequencer .part) (t .sequencer .at) (t .sequencer .index) (t .sequencer .members)
+  abbrev pub On : Turn → Type 0
+  On t = Standing t ⊎ Waiting t
+
+  -- someone still in passes a test of its message, by what the masters know
+  module _ (t : Turn) (kept : KeptOf t) where
+    abbrev knows : Members
+    knows = t .sequencer .members
+
+    asked : (test : ℕ → Bool) (of : List ℕ → ℕ) (blank : ℕ)
+        → members.someone test (knows .contending) (column of blank messages)
+        ≡ someoneOf test of messages (busOf t .masters)
+    asked test of blank =
+        let size = length-take count (t .table) in
+        ap (λ (list : List (List ℕ)).
+        members.someone test (knows .contending) (map of list ++ replicate (maxMasters - length messages) blank))
+        (take-all maxMasters messages (omega (arith, many, few)))
+        ∙ someone-view test of (take count (t .table)) (knows .contending) (knows .lost) (knows .positions)
+        (replicate (maxMasters - length messages) blank) messages
+        (omega (arith, size, many, kept .long, enough)) (omega (arith, many, few, kept .sized .of-contending))
+        (omega (arith, many, few, kept .sized .of-lost)) (omega (arith, many, few, kept .sized .of-positions))
+        (rw many (kept .counted .quiet))
 
   -- a turn with its bytes taken
-  abbrev prepared : Turn → Turn
-  prepared t =
-      record {
-        sequencer = turns.ready rows (t .sequencer);
-        table = t .table;
-        carried = t .carried;
-        levels = t .levels;
-      }
+  abbrev with : Turn → Sequencer → Turn
+  with t sequencer =
+      record { sequencer = sequencer; table = t .table; carried = t .carried; levels = t .levels }
 
-  module _ (t : Turn) (standing : Standing t) where
+  abbrev prepared : Turn → Turn
+  prepared t = with t (turns.ready rows (t .sequencer))
+
+  module _ (t : Turn) (waiting : Waiting t) where
     abbrev before : Sequencer
     before = t .sequencer
 
-    takes : (part : Part) → Early part (before .index)
-        → Loaded part (before .at) (before .index) (members.loaded rows (before .index) (before .members))
-    unfolding members.loaded
-    takes Entry early = tt
-    takes Opening early = tt
-    takes Byte early = λ none. of-rows (before .index) messages (omega (arith, short, early))
-    takes Closing early = tt
+    abbrev sends : List ℕ
+    sends = columnOf rows (before .index)
 
-    has : (part : Part) → Loading part (before .at) (before .loading) → before .loading ≡ false
-        → Loaded part (before .at) (before .index) (before .members)
-    has Entry load not = tt
-    has Opening load not = tt
-    has Byte load not = λ none. absurd (false≢true (sym not ∙ load none))
-    has Closing load not = tt
+    abbrev taken : Sequencer
+    taken = sequence.taking sends before
 
-    prepare : LoadingOf t → Standing (prepared t) × LoadedOf (prepared t)
-    unfolding turns.ready sequence.loaded members.loaded
-    prepare load = go (before .loading) refl
-      where
-        with : Sequencer → Turn
-        with sequencer =
-            record { sequencer = sequencer; table = t .table; carried = t .carried; levels = t .levels }
+    early-enough : before .index < maxLength
+    early-enough = omega (arith, short, waiting .early)
 
-        go : (load : Bool) → before .loading ≡ load
-            → Standing (with (cond load (sequence.loaded rows before) before))
-            × LoadedOf (with (cond load (sequence.loaded rows before) before))
-        go true is = (
-          record {
-            running = standing .running;
-            inside = standing .inside;
-            within = standing .within;
-            early = standing .early;
-            small = standing .small;
-            kept =
-                record {
-                  sized =
-                      record {
-                        of-contending = standing .kept .sized .of-contending;
-                        of-lost = standing .kept .sized .of-lost;
-                        of-positions = standing .kept .sized .of-positions;
-                        of-bytes = column-size messages (before .index);
-                      };
-                  counted =
-                      record { sizes = standing .kept .counted .sizes; quiet = standing .kept .counted .quiet };
-                  fresh = standing .kept .fresh;
-                  long = standing .kept .long;
-                  rest = standing .kept .rest;
-                  of-carried = standing .kept .of-carried;
-                  of-levels = standing .kept .of-levels;
-                };
-            same = standing .same;
-          },
-          takes (before .part) (standing .early),
-        )
-        go false is = (standing, has (before .part) load is)
+    took : taken .members .bytes ≡ column (byteAt (before .index)) 0 messages
+    unfolding sequence.taking members.loaded
+    took = bytes-of-rows (before .index) messages early-enough
+
+    taken-kept : KeptOf (with t taken)
+    unfolding sequence.taking members.loaded
+    taken-kept =
+        record {
+          sized =
+              record {
+                of-contending = waiting .kept .sized .of-contending;
+                of-lost = waiting .kept .sized .of-lost;
+                of-positions = waiting .kept .sized .of-positions;
+                of-bytes = column-size (before .index) messages;
+              };
+          counted = record { sizes = waiting .kept .counted .sizes; quiet = waiting .kept .counted .quiet };
+          fresh = waiting .kept .fresh;
+          long = waiting .kept .long;
+          rest = waiting .kept .rest;
+          of-carried = waiting .kept .of-carried;
+          of-levels = waiting .kept .of-levels;
+        }
+
+    abbrev again : Bool
+    again = restarting messages (before .index) (busOf t .masters)
+
+    restarts-here : members.restarting sends (before .members) ≡ again
+    unfolding restarting
+    restarts-here =
+        ap (members.someone restarts (before .members .contending)) (of-rows (before .index) messages early-enough)
+        ∙ asked t (waiting .kept) restarts (sentAt (before .index)) 256
+
+    -- the bytes from here on are the restart, if there is one, the byte, and what follows it
+    split : perform messages stop (bytesFrom messages acknowledges (before .index) (busOf t))
+        ≡ afterByte messages acknowledges (before .index)
+        (perform messages
+        (script.turnOf again (before .index) (acknowledgeAt acknowledges (before .index))) (busOf t))
+    split = rw (drop-cons acknowledges (before .index) 0 (waiting .early))
+
+    load : (first : Bool) → members.restarting sends (before .members) ≡ first
+        → Standing (with t (cond first (sequence.entering Restart false taken) taken))
+    unfolding sequence.taking members.loaded
+    load true is =
+        record {
+          running = waiting .running;
+          ready = refl;
+          inside = tt;
+          within = omega arith;
+          early = waiting .early;
+          loaded = took;
+          small = waiting .small;
+          kept = taken-kept;
+          same =
+              ap (afterByte messages acknowledges (before .index))
+              (sym
+              (perform-append messages restart
+              (byteTurn (before .index) (acknowledgeAt acknowledges (before .index))) (busOf t)))
+              ∙ (rw (sym restarts-here ∙ is) at (sym split))
+              ∙ waiting .same;
+        }
+    load false is =
+        record {
+          running = waiting .running;
+          ready = refl;
+          inside = rw (waiting .of-part) tt;
+          within = rw (waiting .at-first) (omega arith);
+          early = rw (waiting .of-part) (waiting .early);
+          loaded = rw (waiting .of-part) took;
+          small = rw (waiting .of-part, waiting .at-first) (waiting .small);
+          kept = taken-kept;
+          same =
+              rw (waiting .of-part, waiting .at-first)
+              ((rw (sym restarts-here ∙ is) at (sym split)) ∙ waiting .same);
+        }
+
+  prepare : (t : Turn) → On t → Standing (prepared t)
+  unfolding turns.ready sequence.loaded
+  prepare t on = go (t .sequencer .loading) refl on
+    where
+      go : (loading : Bool) → t .sequencer .loading ≡ loading → On t
+          → Standing (with t (cond loading (sequence.loaded rows (t .sequencer)) (t .sequencer)))
+      go true is (inl standing) = absurd (false≢true (sym (standing .ready) ∙ is))
+      go true is (inr waiting) =
+          load t waiting
+          (members.restarting (columnOf rows (t .sequencer .index)) (t .sequencer .members)) refl
+      go false is (inl standing) = standing
+      go false is (inr waiting) = absurd (false≢true (sym is ∙ waiting .loading))
 
   -- the run is over
   pub record Finished (t : Turn) : Type 0 where
@@ -187,7 +256,7 @@ module _ (bytes lengths acknowledges : List ℕ) (few : length lengths ≤ maxMa
   module _ (index : ℕ) (stood : Members) (wire : Wire) where
     abbrev Extra : Effect → Type 0
     Extra Nothing = Unit {0}
-    Extra Begin = stood .bytes ≡ column messages index
+    Extra Begin = stood .bytes ≡ column (byteAt index) 0 messages
     Extra Release = Unit {0}
     Extra Acknowledge = Unit {0}
     Extra Record = Unit {0}
@@ -204,10 +273,19 @@ module _ (bytes lengths acknowledges : List ℕ) (few : length lengths ≤ maxMa
         either (eqb at 0) (sample Release false) (cond (eqb at 1) (sample Record true) (sample Record false)) tt
         (either (eqb at 1) (sample Record true) (sample Record false) tt tt)
 
+    condition-extra : (set change past : Operation) (at : ℕ) → Extra (condition set change past at .effect)
+    condition-extra set change past at =
+        let low = turn (at - 1) Release Record false in
+        let last = cond (eqb at 5) (sample Record false) (write past false) in
+        either (eqb at 0) (write set true) (cond (ltb at 4) low (cond (eqb at 4) (write change false) last)) tt
+        (either (ltb at 4) low (cond (eqb at 4) (write change false) last) (turn-extra (at - 1))
+        (either (eqb at 4) (write change false) last tt
+        (either (eqb at 5) (sample Record false) (write past false) tt tt)))
+
     in-byte : (at : ℕ) (effect : Effect) → stepTest effect at ≡ true → wire .byte < bound (bits at)
-        → index < length acknowledges → (at ≡ 0 → stood .bytes ≡ column messages index) → Extra effect
+        → index < length acknowledges → stood .bytes ≡ column (byteAt index) 0 messages → Extra effect
     in-byte at Nothing test small early load = tt
-    in-byte at Begin test small early load = load (begins-first at test)
+    in-byte at Begin test small early load = load
     in-byte at Release test small early load = tt
     in-byte at Acknowledge test small early load = tt
     in-byte at Record test small early load = tt
@@ -215,25 +293,19 @@ module _ (bytes lengths acknowledges : List ℕ) (few : length lengths ≤ maxMa
         (omega (arith, short, early), bit-small bit at (wire .byte) test small)
     in-byte at Settle test small early load = tt
 
-    extra : (part : Part) → Inside part → (at : ℕ) → at ≤ last part → Early part index → Loaded part at index stood
+    extra : (part : Part) → Inside part → (at : ℕ) → at ≤ last part → Early part index → Loaded part index stood
         → wire .byte < bound (bitsOf part at) → Extra (instant part at .effect)
     extra Entry inside at within early load small = absurd inside
     extra Opening inside at within early load small =
         either (eqb at 1) (write Pull false) (cond (eqb at 3) (write Clear false) (sample Record false)) tt
         (either (eqb at 3) (write Clear false) (sample Record false) tt tt)
+    extra Restart inside at within early load small = condition-extra Rise Pull Heed at
     extra Byte inside at within early load small =
         in-byte at (byte at .effect) (steps at (omega (arith, within))) small early load
-    extra Closing inside at within early load small =
-        let low = turn (at - 1) Release Record false in
-        let more = cond (eqb at 4) (write Raise false) (cond (eqb at 5) (sample Record false) (write Rest false)) in
-        either (eqb at 0) (write Lower true) (cond (ltb at 4) low more) tt
-        (either (ltb at 4) low more (turn-extra (at - 1))
-        (either (eqb at 4) (write Raise false) (cond (eqb at 5) (sample Record false) (write Rest false)) tt
-        (either (eqb at 5) (sample Record false) (write Rest false) tt tt)))
+    extra Closing inside at within early load small = condition-extra Lower Raise Rest at
 
   module _ (room : length (run messages acknowledges .carried) ≤ length carried₀)
       (level-room : length (run messages acknowledges .levels) ≤ length levels₀) (t : Turn) (standing : Standing t)
-      (loaded : LoadedOf t)
     where
       abbrev s : Sequencer
       s = t .sequencer
@@ -302,6 +374,7 @@ module _ (bytes lengths acknowledges : List ℕ) (few : length lengths ≤ maxMa
             ),
       )
       ready i (loading ticks) more grows = more
+      ready i (heeding ticks) more grows = tt
       ready i (lettingGo ticks) more grows = tt
 
       -- the turn, up to where the sequencer goes from here
@@ -336,13 +409,10 @@ module _ (bytes lengths acknowledges : List ℕ) (few : length lengths ≤ maxMa
           (allowed (s .part) (standing .inside) (s .at))
           (ready here (allowed (s .part) (standing .inside) (s .at))
           (extra (s .index) (s .members) (s .wire) (s .part) (standing .inside) (s .at) (standing .within)
-          (standing .early) loaded (standing .small))
+          (standing .early) (standing .loaded) (standing .small))
           grown)
 
       -- where the sequencer goes from here
-      abbrev On : Turn → Type 0
-      On turn = Standing turn × LoadingOf turn
-
       abbrev Outcome : Turn → Type 0
       Outcome turn = On turn ⊎ Finished turn
 
@@ -357,6 +427,7 @@ module _ (bytes lengths acknowledges : List ℕ) (few : length lengths ≤ maxMa
           fits : (part : Part) (at : ℕ) → at ≤ last part → s .wire .byte < bound (bitsOf part at) → s .wire .byte < 256
           fits Entry at within small = small
           fits Opening at within small = small
+          fits Restart at within small = small
           fits Byte at within small = omega (arith, small, leb-true (bound (bits at)) 256 (bits-fit at within))
           fits Closing at within small = small
 
@@ -366,6 +437,7 @@ module _ (bytes lengths acknowledges : List ℕ) (few : length lengths ≤ maxMa
       unfolding sequence.affected
       small-on Entry at less is small = acted-fits
       small-on Opening at less is small = acted-fits
+      small-on Restart at less is small = acted-fits
       small-on Byte at less is small =
           let one : at + 1 ≡ suc at = omega arith in
           rw (one, ← is)
@@ -374,30 +446,47 @@ module _ (bytes lengths acknowledges : List ℕ) (few : length lengths ≤ maxMa
           (steps at (omega (arith, less))) small)
       small-on Closing at less is small = acted-fits
 
-      loading-on : (part : Part) (at : ℕ) (load : Bool) → Loading part (at + 1) load
-      loading-on Entry at load = tt
-      loading-on Opening at load = tt
-      loading-on Byte at load = λ none. absurd (omega (arith, none))
-      loading-on Closing at load = tt
+      -- what is taken from the rows stays
+      bytes-stay : (effect : Effect) (al : List Bool)
+          → members.affected effect al (s .index) (s .members) .bytes ≡ s .members .bytes
+      unfolding members.judged members.settled
+      bytes-stay Nothing al = refl
+      bytes-stay Begin al = refl
+      bytes-stay Release al = refl
+      bytes-stay Acknowledge al = refl
+      bytes-stay Record al = refl
+      bytes-stay (Bit bit) al = refl
+      bytes-stay Settle al = refl
+
+      acted-bytes : acted .members .bytes ≡ s .members .bytes
+      unfolding sequence.affected
+      acted-bytes = bytes-stay (here .effect) (seen count after .al)
+
+      loaded-on : (part : Part) → Loaded part (s .index) (s .members) → Loaded part (s .index) (acted .members)
+      loaded-on Entry load = tt
+      loaded-on Opening load = tt
+      loaded-on Restart load = acted-bytes ∙ load
+      loaded-on Byte load = acted-bytes ∙ load
+      loaded-on Closing load = tt
 
       moved-on : s .at < last (s .part)
-          → On (arriving (sequence.placed (s .part) (s .at + 1) (s .loading) (s .index) acted))
+          → Standing (arriving (sequence.placed (s .part) (s .at + 1) (s .loading) (s .index) acted))
       unfolding sequence.affected
-      moved-on less = (
-        record {
-          running = standing .running;
-          inside = standing .inside;
-          within = omega arith;
-          early = standing .early;
-          small = small-on (s .part) (s .at) less refl (standing .small);
-          kept = acted-kept;
-          same =
-              ap (restAt messages acknowledges (s .part) (s .at + 1) (s .index)) acted-bus
-              ∙ sym (rest-next messages acknowledges (s .part) (s .at) (s .index) (busOf t) less)
-              ∙ standing .same;
-        },
-        loading-on (s .part) (s .at) (s .loading),
-      )
+      moved-on less =
+          record {
+            running = standing .running;
+            ready = standing .ready;
+            inside = standing .inside;
+            within = omega arith;
+            early = standing .early;
+            loaded = loaded-on (s .part) (standing .loaded);
+            small = small-on (s .part) (s .at) less refl (standing .small);
+            kept = acted-kept;
+            same =
+                ap (restAt messages acknowledges (s .part) (s .at + 1) (s .index)) acted-bus
+                ∙ sym (rest-next messages acknowledges (s .part) (s .at) (s .index) (busOf t) less)
+                ∙ standing .same;
+          }
 
       -- the next part
       module _ (q : Sequencer) (running : q .running ≡ true) (kept : KeptOf (arriving q))
@@ -405,22 +494,22 @@ module _ (bytes lengths acknowledges : List ℕ) (few : length lengths ≤ maxMa
         where
           -- step 4
           closing : perform messages stop (busOf (arriving q)) ≡ run messages acknowledges
-              → On (arriving (sequence.entering Closing false q))
-          closing same = (
-            record {
-              running = running;
-              inside = tt;
-              within = omega arith;
-              early = tt;
-              small = byte-small;
-              kept = kept;
-              same =
-                  ap (λ (left : List script.Instant). perform messages left (busOf (arriving q)))
-                  (spells-stop (q .index) (acknowledgeAt acknowledges (q .index)))
-                  ∙ same;
-            },
-            tt,
-          )
+              → Standing (arriving (sequence.entering Closing false q))
+          closing same =
+              record {
+                running = running;
+                ready = refl;
+                inside = tt;
+                within = omega arith;
+                early = tt;
+                loaded = tt;
+                small = byte-small;
+                kept = kept;
+                same =
+                    ap (λ (left : List script.Instant). perform messages left (busOf (arriving q)))
+                    (spells-stop (q .index) (acknowledgeAt acknowledges (q .index)))
+                    ∙ same;
+              }
 
           -- the byte at the index, or step 4
           opening : perform messages stop (bytesFrom messages acknowledges (q .index) (busOf (arriving q)))
@@ -432,25 +521,41 @@ module _ (bytes lengths acknowledges : List ℕ) (few : length lengths ≤ maxMa
               go : (more : Bool) → ltb (q .index) (length acknowledges) ≡ more
                   → On (arriving (cond more (sequence.entering Byte true q) (sequence.entering Closing false q)))
               go true is =
-                  let less = ltb-true (q .index) (length acknowledges) is in (
-                    record {
-                      running = running;
-                      inside = tt;
-                      within = omega arith;
-                      early = less;
-                      small = byte-small;
-                      kept = kept;
-                      same =
-                          ap (λ (left : List script.Instant).
-                          finished messages acknowledges Byte (q .index) (perform messages left (busOf (arriving q))))
-                          (spells-byte (q .index) (acknowledgeAt acknowledges (q .index)))
-                          ∙ rw (drop-cons acknowledges (q .index) 0 less) at same;
-                    },
-                    λ none. refl,
-                  )
+                  inr
+                  (record {
+                    running = running;
+                    loading = refl;
+                    of-part = refl;
+                    at-first = refl;
+                    early = ltb-true (q .index) (length acknowledges) is;
+                    small = byte-small;
+                    kept = kept;
+                    same = same;
+                  })
               go false is =
                   let past = ltb-false (q .index) (length acknowledges) is in
-                  closing (rw (drop-of-length-le acknowledges past) at same)
+                  inl (closing (rw (drop-of-length-le acknowledges past) at same))
+
+          -- the byte after its restart
+          restarted : q .index < length acknowledges → q .members .bytes ≡ column (byteAt (q .index)) 0 messages
+              → finished messages acknowledges Restart (q .index) (busOf (arriving q)) ≡ run messages acknowledges
+              → Standing (arriving (sequence.entering Byte false q))
+          restarted early load same =
+              record {
+                running = running;
+                ready = refl;
+                inside = tt;
+                within = omega arith;
+                early = early;
+                loaded = load;
+                small = byte-small;
+                kept = kept;
+                same =
+                    ap (λ (left : List script.Instant).
+                    finished messages acknowledges Byte (q .index) (perform messages left (busOf (arriving q))))
+                    (spells-byte (q .index) (acknowledgeAt acknowledges (q .index)))
+                    ∙ same;
+              }
 
       -- past the last instant of a part
       module _ (end : s .at ≡ last (s .part)) where
@@ -458,29 +563,24 @@ module _ (bytes lengths acknowledges : List ℕ) (few : length lengths ≤ maxMa
         over =
             sym (rest-last messages acknowledges (s .part) (s .at) (s .index) (busOf t) end) ∙ standing .same
 
-        abbrev sent : Sequencer
-        sent = sequence.placed (s .part) (s .at) (s .loading) (s .index + 1) acted
+        abbrev later : Sequencer
+        later = sequence.placed (s .part) (s .at) (s .loading) (s .index + 1) acted
 
         -- someone is through with this byte
         ends-here : eqb acknowledge 1 || members.through (s .index + 1) (acted .members)
             ≡ ends messages acknowledges (s .index) (next .masters)
+        unfolding through
         ends-here =
-            let size = length-take count after in
-            let kept = acted-kept in
             let one : s .index + 1 ≡ suc (s .index) = omega arith in
-            let padding : List ℕ = replicate (maxMasters - count) 0 in
-            let sizes : acted .members .sizes ≡ map length messages ++ padding =
-            kept .counted .sizes
-            ∙ ap (λ (list : List ℕ). list ++ padding) (take-all maxMasters lengths few ∙ sym whole) in
-            let shown =
-            through-view (take count after) (acted .members .contending) (acted .members .lost)
-            (acted .members .positions) padding messages (suc (s .index))
-            (omega (arith, size, many, kept .long, enough)) (omega (arith, many, few, kept .sized .of-contending))
-            (omega (arith, many, few, kept .sized .of-lost)) (omega (arith, many, few, kept .sized .of-positions))
-            (rw many (kept .counted .quiet)) in
+            let sizes : acted .members .sizes ≡ column length 0 messages =
+            acted-kept .counted .sizes
+            ∙ ap₂ (λ (list : List ℕ) (k : ℕ). list ++ replicate (maxMasters - k) 0)
+            (take-all maxMasters lengths few
+            ∙ sym whole
+            ∙ ap (map length) (sym (take-all maxMasters messages (omega (arith, many, few))))) (sym many) in
             ap (λ (through-now : Bool). eqb acknowledge 1 || through-now)
             (ap₂ (λ (counts : List ℕ) (k : ℕ). members.anyThrough (acted .members .contending) counts k) sizes one
-            ∙ shown
+            ∙ asked (arriving acted) acted-kept (λ size. leb size (suc (s .index))) length 0
             ∙ ap (λ (bus : Bus). through messages (suc (s .index)) (bus .masters)) acted-bus)
 
         decided-on : s .index < length acknowledges
@@ -498,28 +598,34 @@ module _ (bytes lengths acknowledges : List ℕ) (few : length lengths ≤ maxMa
                 → perform messages stop (cond last next (bytesFrom messages acknowledges (suc (s .index)) next))
                 ≡ run messages acknowledges
                 → On
-                (arriving (cond last (sequence.entering Closing false sent) (sequence.opened acknowledges sent)))
+                (arriving (cond last (sequence.entering Closing false later) (sequence.opened acknowledges later)))
             go true same =
-                closing sent (standing .running) acted-kept acted-fits (ap (perform messages stop) acted-bus ∙ same)
+                inl
+                (closing later (standing .running) acted-kept acted-fits (ap (perform messages stop) acted-bus ∙ same))
             go false same =
                 let one : s .index + 1 ≡ suc (s .index) = omega arith in
-                opening sent (standing .running) acted-kept acted-fits
+                opening later (standing .running) acted-kept acted-fits
                 (ap (λ (bus : Bus). perform messages stop (bytesFrom messages acknowledges (s .index + 1) bus))
                 acted-bus
                 ∙ rw one same)
 
-        parted-on : (part : Part) → part ≡ s .part → Inside part → Early part (s .index)
-            → finished messages acknowledges part (s .index) next ≡ run messages acknowledges
+        parted-on : (part : Part) → Inside part → Early part (s .index)
+            → Loaded part (s .index) (s .members) → finished messages acknowledges part (s .index) next ≡ run messages acknowledges
             → Outcome (arriving (sequence.partedFrom part acknowledges acted))
         unfolding sequence.affected
-        parted-on Entry is inside early same = absurd inside
-        parted-on Opening is inside early same =
+        parted-on Entry inside early load same = absurd inside
+        parted-on Opening inside early load same =
             inl
             (opening acted (standing .running) acted-kept acted-fits
             (ap (λ (bus : Bus). perform messages stop (bytesFrom messages acknowledges (s .index) bus)) acted-bus
             ∙ same))
-        parted-on Byte is inside early same = inl (decided-on early same)
-        parted-on Closing is inside early same =
+        parted-on Restart inside early load same =
+            inl
+            (inl
+            (restarted acted (standing .running) acted-kept acted-fits early (acted-bytes ∙ load)
+            (ap (finished messages acknowledges Restart (s .index)) acted-bus ∙ same)))
+        parted-on Byte inside early load same = inl (decided-on early same)
+        parted-on Closing inside early load same =
             inr (record { stopped = refl; kept = acted-kept; same = acted-bus ∙ same })
 
       go-on : Outcome
@@ -532,17 +638,15 @@ module _ (bytes lengths acknowledges : List ℕ) (few : length lengths ≤ maxMa
               (arriving
               (cond more (sequence.placed (s .part) (s .at + 1) (s .loading) (s .index) acted)
               (sequence.partedFrom (s .part) acknowledges acted)))
-          go true is = inl (moved-on (ltb-true (s .at) (last (s .part)) is))
+          go true is = inl (inl (moved-on (ltb-true (s .at) (last (s .part)) is)))
           go false is =
               let end : s .at ≡ last (s .part) = omega (arith, standing .within, ltb-false (s .at) (last (s .part)) is)
               in
-              parted-on end (s .part) refl (standing .inside) (standing .early) (over end)
+              parted-on end (s .part) (standing .inside) (standing .early) (standing .loaded) (over end)
 
   pub step : length (run messages acknowledges .carried) ≤ length carried₀
-      → length (run messages acknowledges .levels) ≤ length levels₀ → (t : Turn) → Standing t → LoadingOf t
+      → length (run messages acknowledges .levels) ≤ length levels₀ → (t : Turn) → On t
       → let after = turnAfter count rows acknowledges t in
-      (Standing after × LoadingOf after) ⊎ Finished after
+      On after ⊎ Finished after
   unfolding turnAfter
-  step room level-room t standing load =
-      let given = prepare t standing load in
-      go-on room level-room (prepared t) (given .0) (given .1)
+  step room level-room t on = go-on room level-room (prepared t) (prepare t on)

@@ -4,15 +4,16 @@ use mathlib.Core.Path.{_≡_, refl, sym, ap, _∙_}
 use mathlib.Core.Bool.{Bool, true, false, cond}
 use mathlib.Core.List.{List, [], _∷_, map}
 use Rattle.laws.proofs.Lists.{map-map, map-same, map-alike, everyone}
-use Rattle.usi_registers.specs.Registers.{USICTL0, USICNT}
+use Rattle.usi_registers.specs.Registers.{USICTL0, USICTL1, USICNT}
 use Rattle.usi.specs.declared.Usi.{Usi}
 use Rattle.usi.specs.Step.{moduleOf, sample}
-use Rattle.arbitration_rules.specs.Masters.{Master, withUsi, Who, everybody, stillIn, beaten, meant, Write, applied}
+use Rattle.arbitration_rules.specs.Masters.{Master, withUsi, Who, everybody, stillIn, beaten, losers, meant}
+use Rattle.arbitration_rules.specs.Masters.{Write, applied}
 use Rattle.arbitration_rules.specs.Run.{Bus, withMasters, performed, perform, writes}
 use Rattle.arbitration_run.specs.declared.instants.Operation.{Operation}
-use Rattle.arbitration_run.specs.declared.instants.Operation.the-variants.{Sample, Load, LetGo}
+use Rattle.arbitration_run.specs.declared.instants.Operation.the-variants.{Sample, Load, LetGo, Heed}
 use Rattle.arbitration_run.specs.declared.pass.Pass.{Pass}
-use Rattle.arbitration_run.specs.Instants.{samples, letsGo}
+use Rattle.arbitration_run.specs.Instants.{samples, letsGo, heeds}
 use Rattle.arbitration_run.specs.Pass.{writtenAll, registers, fresh, ticked}
 use Rattle.arbitration_turns.proofs.View.{join, stepped, Treats}
 use Rattle.arbitration_turns.proofs.Scripts.{ofTick}
@@ -39,6 +40,8 @@ writes-first stillIn write more usi true lost position = refl
 writes-first stillIn write more usi false lost position = refl
 writes-first beaten write more usi contending true position = refl
 writes-first beaten write more usi contending false position = refl
+writes-first losers write more usi true lost position = refl
+writes-first losers write more usi false lost position = refl
 
 writes-none : (who : Who) (usi : Usi) (contending lost : Bool) (position : ℕ)
     → writtenBy who [] (join usi contending lost position) ≡ join usi contending lost position
@@ -47,6 +50,8 @@ writes-none stillIn usi true lost position = refl
 writes-none stillIn usi false lost position = refl
 writes-none beaten usi contending true position = refl
 writes-none beaten usi contending false position = refl
+writes-none losers usi true lost position = refl
+writes-none losers usi false lost position = refl
 
 pub writes-are : (messages : List (List ℕ)) (who : Who) (registers : List (ℕ × ℕ)) (bus : Bus)
     → perform messages (writes who registers) bus ≡ withMasters (map (writtenBy who registers) (bus .masters)) bus
@@ -94,6 +99,7 @@ module _ (ticks : Bool) (level : ℕ) (contending lost : List Bool) (bytes : Lis
   pub record Plain (operation : Operation) : Type 0 where
     pub no-sample : samples operation ≡ false
     pub no-yield : letsGo operation ≡ false
+    pub no-heed : heeds operation ≡ false
     pub not-fresh : (usi : Usi) → fresh operation usi ≡ usi
     pub alike : (byte : ℕ) → registers operation byte ≡ registers operation 0
 
@@ -103,15 +109,16 @@ module _ (ticks : Bool) (level : ℕ) (contending lost : List Bool) (bytes : Lis
       record {
         as-pass =
             λ usi still out position byte.
-            rw (plain .no-sample, plain .no-yield) (cases usi still out position byte);
+            rw (plain .no-sample, plain .no-yield, plain .no-heed) (cases usi still out position byte);
       }
     where
       cases : (usi : Usi) (still out : Bool) (position byte : ℕ)
           → tickedBy ticks (writtenBy stillIn (registers operation 0) (join usi still out position))
           ≡ join
           (ticked ticks
-          (cond still (writtenAll (registers operation byte) (fresh operation (cond out usi usi)))
-          (cond out usi usi)))
+          (cond still
+          (writtenAll (registers operation byte) (fresh operation (cond still (cond out usi usi) (cond out usi usi))))
+          (cond still (cond out usi usi) (cond out usi usi))))
           still out position
       cases usi true true position byte = rw (plain .not-fresh usi, plain .alike byte)
       cases usi true false position byte = rw (plain .not-fresh usi, plain .alike byte)
@@ -142,6 +149,22 @@ module _ (ticks : Bool) (level : ℕ) (contending lost : List Bool) (bytes : Lis
       cases : (usi : Usi) (still out : Bool) (position byte : ℕ)
           → letGo (join usi still out position) byte
           ≡ join (stepped (passing LetGo) still out byte usi) still out position
+      cases usi true true position byte = refl
+      cases usi true false position byte = refl
+      cases usi false true position byte = refl
+      cases usi false false position byte = refl
+
+  -- the flag of a repeated START is cleared, by who lost too
+  abbrev pub heed : Master → Master
+  heed master =
+      writtenBy losers ((USICTL1, 0x49) ∷ (USICNT, 0x80) ∷ []) (writtenBy stillIn (registers Heed 0) master)
+
+  pub treats-heed : Treats (passing Heed) (λ master byte. tickedBy ticks (heed master))
+  treats-heed = record { as-pass = cases }
+    where
+      cases : (usi : Usi) (still out : Bool) (position byte : ℕ)
+          → tickedBy ticks (heed (join usi still out position))
+          ≡ join (stepped (passing Heed) still out byte usi) still out position
       cases usi true true position byte = refl
       cases usi true false position byte = refl
       cases usi false true position byte = refl

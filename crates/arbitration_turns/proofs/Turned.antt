@@ -14,29 +14,30 @@ use Rattle.laws.specs.Search.{any}
 use Rattle.laws.proofs.Lists.{map-map, map-alike, everyone}
 use Rattle.bits.specs.Positions.{shiftIn, on}
 use Rattle.levels.specs.Levels.{sda}
-use Rattle.usi_registers.specs.Registers.{USIAL}
+use Rattle.usi_registers.specs.Registers.{USICTL1, USICNT, USIAL}
 use Rattle.usi.specs.declared.Usi.{Usi}
 use Rattle.usi.specs.Module.{pullsScl, pullsSda}
 use Rattle.usi.specs.Step.{moduleOf, tick}
 use Rattle.usi.proofs.Clearing.{tick-flags}
 use Rattle.arbitration_rules.specs.Limits.{maxMasters, maxLength}
-use Rattle.arbitration_rules.specs.Masters.{Master, stillIn, applied, judged}
+use Rattle.arbitration_rules.specs.Masters.{Master, stillIn, losers, applied, judged}
 use Rattle.arbitration_rules.specs.Run.{Bus, withMasters, perform, performed}
 use Rattle.arbitration_rules.specs.Run as run
 use Rattle.arbitration_rules.specs.Run.{samples, records, pulls, judges, takes, carries}
 use Rattle.arbitration_rules.proofs.Phases.{perform-append}
 use Rattle.arbitration_run.specs.declared.instants.Operation.{Operation}
-use Rattle.arbitration_run.specs.declared.instants.Operation.the-variants.{Sample}
+use Rattle.arbitration_run.specs.declared.instants.Operation.the-variants.{Sample, Heed}
 use Rattle.arbitration_run.specs.declared.members.Members.{Members}
 use Rattle.arbitration_run.specs.declared.pass.Pass.{Pass}
 use Rattle.arbitration_run.specs.declared.wire.Wire.{Wire}
+use Rattle.arbitration_run.specs.Instants as instants
 use Rattle.arbitration_run.specs.Members as members
 use Rattle.arbitration_run.specs.Pass.{registers, passed, seen}
 use Rattle.arbitration_run.specs.Wire as wires
-use Rattle.arbitration_turns.proofs.View.{join, mastersFrom}
+use Rattle.arbitration_turns.proofs.View.{join, mastersFrom, Treats}
 use Rattle.arbitration_turns.proofs.Scripts.{ofOperation, ofTick, further, further-is}
 use Rattle.arbitration_turns.proofs.Treatment.{writtenBy, tickedBy, sampledBy, writes-are, ticks-are, passing}
-use Rattle.arbitration_turns.proofs.Treatment.{treats-sample, Plain, treats-plain}
+use Rattle.arbitration_turns.proofs.Treatment.{treats-sample, Plain, treats-plain, treats-heed}
 use Rattle.arbitration_turns.proofs.Pieces.{busAt, Sized, any-module, view-judged, pass-alone}
 
 -- the wire shows what the modules pull
@@ -117,7 +118,28 @@ module _ (messages : List (List ℕ)) (count : ℕ) (few : count ≤ maxMasters)
         ← fresh .of-sda,
       )
 
-  -- registers written, the same for all
+  -- registers written, by a script that does to each master what the pass does
+  turned-writes : (operation : Operation) (wrote : Master → Master)
+      → Treats (pass operation) (λ master byte. tickedBy ticks (wrote master)) → instants.samples operation ≡ false
+      → (script : List run.Instant) → perform messages script before ≡ withMasters (map wrote masters) before
+      → busAt count (after operation) stood
+      (wires.saw operation (seen count (after operation)) wire) sent carried levels
+      ≡ perform messages (script ++ [] ++ ofTick ticks) before
+  turned-writes operation wrote treats no-sample script does =
+      let treated =
+      pass-alone count few (stood .positions) (sized .of-positions) (pass operation)
+      (λ (m : Master). tickedBy ticks (wrote m)) treats table (sized .of-contending) (sized .of-lost)
+      (sized .of-bytes) in
+      same-bus
+      (treated ∙ sym (map-map (tickedBy ticks) wrote masters))
+      refl (ap (λ (b : Bool). cond b (wires.shown wire) (wire .level)) no-sample) refl refl refl
+      ∙ sym
+      (perform-append messages (script ++ []) (ofTick ticks) before
+      ∙ ticks-are messages ticks (perform messages (script ++ []) before)
+      ∙ ap (λ (bus : Bus). withMasters (map (tickedBy ticks) (bus .masters)) bus)
+      (ap (λ (whole : List run.Instant). perform messages whole before) (append-nil script) ∙ does))
+
+  -- the same for all still in
   pub turned-plain : (operation : Operation)
       → Plain ticks (wires.shown wire) (stood .contending) (stood .lost) (stood .bytes) operation
       → (index : ℕ) → ofOperation operation index ≡ run.writes stillIn (registers operation 0)
@@ -125,23 +147,26 @@ module _ (messages : List (List ℕ)) (count : ℕ) (few : count ≤ maxMasters)
       (wires.saw operation (seen count (after operation)) wire) sent carried levels
       ≡ perform messages (ofOperation operation index ++ [] ++ ofTick ticks) before
   turned-plain operation plain index spells =
-      let treats =
-      treats-plain ticks (wires.shown wire) (stood .contending) (stood .lost) (stood .bytes) operation plain in
-      let treated =
-      pass-alone count few (stood .positions) (sized .of-positions) (pass operation)
-      (λ (m : Master). tickedBy ticks (writtenBy stillIn (registers operation 0) m)) treats table
-      (sized .of-contending)
-      (sized .of-lost) (sized .of-bytes) in
-      same-bus
-      (treated ∙ sym (map-map (tickedBy ticks) (writtenBy stillIn (registers operation 0)) masters))
-      refl (ap (λ (b : Bool). cond b (wires.shown wire) (wire .level)) (plain .no-sample)) refl refl refl
-      ∙ sym
-      (perform-append messages (ofOperation operation index ++ []) (ofTick ticks) before
-      ∙ ticks-are messages ticks (perform messages (ofOperation operation index ++ []) before)
-      ∙ ap (λ (bus : Bus). withMasters (map (tickedBy ticks) (bus .masters)) bus)
-      (ap (λ (script : List run.Instant). perform messages script before)
-      (append-nil (ofOperation operation index) ∙ spells)
-      ∙ writes-are messages stillIn (registers operation 0) before))
+      turned-writes operation (writtenBy stillIn (registers operation 0))
+      (treats-plain ticks (wires.shown wire) (stood .contending) (stood .lost) (stood .bytes) operation plain)
+      (plain .no-sample) (ofOperation operation index)
+      (ap (λ (script : List run.Instant). perform messages script before) spells
+      ∙ writes-are messages stillIn (registers operation 0) before)
+
+  -- at a repeated START, and by who lost
+  pub turned-heed : (index : ℕ)
+      → busAt count (after Heed) stood (wires.saw Heed (seen count (after Heed)) wire) sent carried levels
+      ≡ perform messages (ofOperation Heed index ++ [] ++ ofTick ticks) before
+  turned-heed index =
+      let cleared = writtenBy stillIn (registers Heed 0) in
+      let losing : List (ℕ × ℕ) = (USICTL1, 0x49) ∷ (USICNT, 0x80) ∷ [] in
+      turned-writes Heed (λ (m : Master). writtenBy losers losing (cleared m))
+      (treats-heed ticks (wires.shown wire) (stood .contending) (stood .lost) (stood .bytes)) refl
+      (ofOperation Heed index)
+      (perform-append messages (run.writes stillIn (registers Heed 0)) (run.writes losers losing) before
+      ∙ ap (perform messages (run.writes losers losing)) (writes-are messages stillIn (registers Heed 0) before)
+      ∙ writes-are messages losers losing (withMasters (map cleared masters) before)
+      ∙ ap (λ (ms : List Master). withMasters ms before) (map-map (writtenBy losers losing) cleared masters))
 
   -- a sample, and what follows it
   sampled-masters : mastersFrom (take count (after Sample)) (stood .contending) (stood .lost) (stood .positions)

@@ -4,13 +4,14 @@ use mathlib.Core.Path.{_≡_, refl, sym, ap, _∙_}
 use mathlib.Core.Bool.{Bool, true, false}
 use mathlib.Core.List.{List, [], _∷_, _++_, map, zipWith}
 use native.Mathlib.Omega.{arith}
-use lib.ListN.{length, getD, take, replicate, length-take, length-map}
+use lib.ListN.{length, take, replicate, length-take, length-map}
 use lib.Seq.{take-all}
 use Rattle.laws.proofs.Lists.{map-map, map-alike, everyone, map-zipWith, zipWith-alike, zipWith-front, zipWith-by}
 use Rattle.usi_registers.specs.Registers.{USICTL0, USICNT, USISRL}
 use Rattle.usi.specs.declared.Usi.{Usi}
 use Rattle.arbitration_rules.specs.Limits.{maxMasters}
 use Rattle.arbitration_rules.specs.Masters.{Master, stillIn, beaten, Write, applied, settled}
+use Rattle.arbitration_rules.specs.Outcome.{byteAt}
 use Rattle.arbitration_rules.specs.Run.{Bus, withMasters, perform, performed, writes, loads, settles}
 use Rattle.arbitration_rules.specs.Run as run
 use Rattle.arbitration_rules.proofs.Phases.{perform-append}
@@ -55,59 +56,60 @@ module _ (messages : List (List ℕ)) (count : ℕ) (few : count ≤ maxMasters)
       omega (arith, many, size)
 
   -- the byte at an index of each message
-  module _ (index : ℕ) (many : length messages ≡ count) (loaded : stood .bytes ≡ column messages index) where
-    abbrev byte : List ℕ → ℕ
-    byte message = getD message index 0
+  module _ (index : ℕ) (many : length messages ≡ count) (loaded : stood .bytes ≡ column (byteAt index) 0 messages)
+    where
+      abbrev byte : List ℕ → ℕ
+      byte = byteAt index
 
-    abbrev ready : List (ℕ × ℕ)
-    ready = (USICTL0, 0xca) ∷ (USICNT, 0x08) ∷ []
+      abbrev ready : List (ℕ × ℕ)
+      ready = (USICTL0, 0xca) ∷ (USICNT, 0x08) ∷ []
 
-    abbrev loading : Master → ℕ → Master
-    loading master value = tickedBy ticks (writtenBy stillIn (registers Load value) master)
+      abbrev loading : Master → ℕ → Master
+      loading master value = tickedBy ticks (writtenBy stillIn (registers Load value) master)
 
-    by-messages : zipWith loading masters (stood .bytes) ≡ zipWith (λ m message. loading m (byte message)) masters
-        messages
-    by-messages =
-        let whole : take maxMasters messages ≡ messages = take-all maxMasters messages (omega arith) in
-        ap (zipWith loading masters) loaded
-        ∙ zipWith-front loading masters (map byte (take maxMasters messages))
-        (replicate (maxMasters - length messages) 0)
-        (omega (arith, few-masters, length-map (take maxMasters messages) byte, ap (length {A = List ℕ}) whole))
-        ∙ ap (λ (list : List (List ℕ)). zipWith loading masters (map byte list)) whole
-        ∙ zipWith-by loading byte masters messages
+      by-messages : zipWith loading masters (stood .bytes) ≡ zipWith (λ m message. loading m (byte message)) masters
+          messages
+      by-messages =
+          let whole : take maxMasters messages ≡ messages = take-all maxMasters messages (omega arith) in
+          ap (zipWith loading masters) loaded
+          ∙ zipWith-front loading masters (map byte (take maxMasters messages))
+          (replicate (maxMasters - length messages) 0)
+          (omega (arith, few-masters, length-map (take maxMasters messages) byte, ap (length {A = List ℕ}) whole))
+          ∙ ap (λ (list : List (List ℕ)). zipWith loading masters (map byte list)) whole
+          ∙ zipWith-by loading byte masters messages
 
-    one-load : (m : Master) (message : List ℕ) → loading m (byte message)
-        ≡ tickedBy ticks (writtenBy stillIn ready (applied stillIn (Write USISRL (byte message)) m))
-    one-load m message =
-        ap (tickedBy ticks)
-        (sym (writes-first stillIn (USISRL, byte message) ready (m .usi) (m .contending) (m .lost) (m .position)))
+      one-load : (m : Master) (message : List ℕ) → loading m (byte message)
+          ≡ tickedBy ticks (writtenBy stillIn ready (applied stillIn (Write USISRL (byte message)) m))
+      one-load m message =
+          ap (tickedBy ticks)
+          (sym (writes-first stillIn (USISRL, byte message) ready (m .usi) (m .contending) (m .lost) (m .position)))
 
-    pub turned-load : busAt count (after Load) stood (wires.begun (wires.saw Load (seen count (after Load)) wire))
-        sent
-        carried levels
-        ≡ perform messages (loads index ∷ writes stillIn ready ++ [] ++ ofTick ticks) before
-    unfolding performed
-    turned-load =
-        let first = zipWith (λ m message. applied stillIn (Write USISRL (byte message)) m) masters messages in
-        let loads-them = run.performed messages (loads index) before in
-        same-bus
-        (pass-view count few (stood .positions) (sized .of-positions) (pass Load) loading
-        (treats-load ticks (wires.shown wire) (stood .contending) (stood .lost) (stood .bytes)) table
-        (sized .of-contending) (sized .of-lost) (sized .of-bytes)
-        ∙ by-messages
-        ∙ zipWith-alike (λ m message. loading m (byte message))
-        (λ m message. tickedBy ticks (writtenBy stillIn ready (applied stillIn (Write USISRL (byte message)) m)))
-        one-load masters messages
-        ∙ sym
-        (map-map (tickedBy ticks) (writtenBy stillIn ready) first
-        ∙ map-zipWith (λ m. tickedBy ticks (writtenBy stillIn ready m))
-        (λ m message. applied stillIn (Write USISRL (byte message)) m) masters messages))
-        refl refl refl refl refl
-        ∙ sym
-        (perform-append messages (loads index ∷ writes stillIn ready ++ []) (ofTick ticks) before
-        ∙ ticks-are messages ticks (perform messages (loads index ∷ writes stillIn ready ++ []) before)
-        ∙ ap (λ (bus : Bus). withMasters (map (tickedBy ticks) (bus .masters)) bus)
-        (writes-are messages stillIn ready loads-them))
+      pub turned-load : busAt count (after Load) stood (wires.begun (wires.saw Load (seen count (after Load)) wire))
+          sent
+          carried levels
+          ≡ perform messages (loads index ∷ writes stillIn ready ++ [] ++ ofTick ticks) before
+      unfolding performed
+      turned-load =
+          let first = zipWith (λ m message. applied stillIn (Write USISRL (byte message)) m) masters messages in
+          let loads-them = run.performed messages (loads index) before in
+          same-bus
+          (pass-view count few (stood .positions) (sized .of-positions) (pass Load) loading
+          (treats-load ticks (wires.shown wire) (stood .contending) (stood .lost) (stood .bytes)) table
+          (sized .of-contending) (sized .of-lost) (sized .of-bytes)
+          ∙ by-messages
+          ∙ zipWith-alike (λ m message. loading m (byte message))
+          (λ m message. tickedBy ticks (writtenBy stillIn ready (applied stillIn (Write USISRL (byte message)) m)))
+          one-load masters messages
+          ∙ sym
+          (map-map (tickedBy ticks) (writtenBy stillIn ready) first
+          ∙ map-zipWith (λ m. tickedBy ticks (writtenBy stillIn ready m))
+          (λ m message. applied stillIn (Write USISRL (byte message)) m) masters messages))
+          refl refl refl refl refl
+          ∙ sym
+          (perform-append messages (loads index ∷ writes stillIn ready ++ []) (ofTick ticks) before
+          ∙ ticks-are messages ticks (perform messages (loads index ∷ writes stillIn ready ++ []) before)
+          ∙ ap (λ (bus : Bus). withMasters (map (tickedBy ticks) (bus .masters)) bus)
+          (writes-are messages stillIn ready loads-them))
 
   -- who lost lets go of both lines
   abbrev yields : List (ℕ × ℕ)

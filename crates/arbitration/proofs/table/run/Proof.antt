@@ -74,7 +74,7 @@ use Rattle.arbitration.proofs.Module.{sequencer-row, sequencer-mir, seq
 use Rattle.arbitration.proofs.Module.{rows-row, rows-mir, rows as rows-type}
 use Rattle.arbitration.proofs.Inputs.{tokens-then, Passed, Passed-at, hands, takes, tokens-back}
 use Rattle.arbitration.proofs.PassLaws.{passed-long}
-use Rattle.arbitration.proofs.Weight.{weight, weight-falls}
+use Rattle.arbitration_turns.proofs.Weight.{weight, weight-falls}
 use Rattle.arbitration.proofs.table.run as run′
 use Rattle.arbitration.proofs.table.run.Statement as stated
 use Rattle.arbitration.proofs.table.run.Key as key
