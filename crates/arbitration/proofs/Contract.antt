@@ -5,19 +5,19 @@ use mathlib.Core.Bool.{Bool, true, false, cond, false≢true}
 use mathlib.Core.List.{List, [], _∷_, _++_, map, zipWith}
 use native.Mathlib.Omega.{arith}
 use lib.Dec.{eqb}
-use borrow.Author.Tests.{ne-eqb, eqb-true, eqb-false}
+use borrow.Author.Tests.{eq-eqb, ne-eqb, eqb-true, eqb-false}
 use lib.ListN.{length, take, drop, replicate, length-map}
 use lib.Seq.{take-append-seam}
 use Rattle.laws.specs.declared.Refusal.{Refusal}
 use Rattle.laws.specs.Buffer.{filled}
-use Rattle.laws.specs.Refusals.{none}
+use Rattle.laws.specs.Refusals.{none, given}
 use Rattle.arbitration_rules.specs.declared.Arbitrated.{Arbitrated}
 use Rattle.arbitration_rules.specs.declared.Seat.{Seat}
 use Rattle.arbitration_rules.specs.Limits.{maxMasters}
 use Rattle.arbitration_rules.specs.Masters.{Master}
 use Rattle.arbitration_rules.specs.Outcome.{Fate, least, levelCount}
 use Rattle.arbitration_rules.specs.Reply.{Request, asked, sentOf, lengthsOf, messagesOf, refusal, absent, refused, padded}
-use Rattle.arbitration_rules.specs.Reply.{seatOf, runOf, answered, arbitrated, tableAfter, carriedAfter, levelsAfter}
+use Rattle.arbitration_rules.specs.Reply.{shapeChecks, seatOf, runOf, answered, arbitrated, tableAfter, carriedAfter, levelsAfter}
 use Rattle.arbitration_rules.specs.Run.{Bus, fateOf, observed}
 use Rattle.arbitration_rules.specs.Cleared.{clearedBy}
 use Rattle.arbitration_rules.proofs.Cut.{lengths-count, messages-count}
@@ -58,8 +58,11 @@ module _ (request : Request) (entry : Lent) where
   abbrev acknowledges : List ℕ
   acknowledges = request .acknowledges
 
+  abbrev lengths : List ℕ
+  lengths = lengthsOf request
+
   abbrev count : ℕ
-  count = length (request .counts)
+  count = length lengths
 
   abbrev Promise : Lent → Arbitrated → Type 0
   Promise exit reply = Arbitrates request entry exit reply
@@ -106,8 +109,14 @@ module _ (request : Request) (entry : Lent) where
     unrefused : whatApplies ≡ none
     unrefused = held .none-applies
 
+    few : count ≤ maxMasters
+    few = omega (arith, lengths-count request, held .masters)
+
+    room : count ≤ length (entry .table)
+    room = omega (arith, lengths-count request, held .enough)
+
     module _ (final : Turn)
-        (reached : Reached (count) (rowsOf messages) acknowledges
+        (reached : Reached count (rowsOf messages) acknowledges
         (record {
           sequencer = first lengths;
           table = entry .table;
@@ -120,32 +129,32 @@ module _ (request : Request) (entry : Lent) where
 
       many : length (bus .masters) ≡ count
       many =
-          ran.as-many-masters request (held .masters) (short request small (held .passed))
-          (whole request small (held .passed)) (entry .table) (held .enough)
+          ran.as-many-masters (sentOf request) lengths acknowledges few (short request small (held .passed))
+          (whole request small (held .passed)) (entry .table) room
           (entry .carried) (entry .levels) (held .carries) (held .records) final reached
 
       sent-is : final .sequencer .sent ≡ length (bus .carried)
       sent-is =
-          ran.sent-is request (held .masters) (short request small (held .passed))
-          (whole request small (held .passed)) (entry .table) (held .enough)
+          ran.sent-is (sentOf request) lengths acknowledges few (short request small (held .passed))
+          (whole request small (held .passed)) (entry .table) room
           (entry .carried) (entry .levels) (held .carries) (held .records) final reached
 
       carried-is : final .carried ≡ filled (bus .carried) (entry .carried)
       carried-is =
-          ran.carried-is request (held .masters) (short request small (held .passed))
-          (whole request small (held .passed)) (entry .table) (held .enough)
+          ran.carried-is (sentOf request) lengths acknowledges few (short request small (held .passed))
+          (whole request small (held .passed)) (entry .table) room
           (entry .carried) (entry .levels) (held .carries) (held .records) final reached
 
       levels-are : final .levels ≡ filled (bus .levels) (entry .levels)
       levels-are =
-          ran.levels-are request (held .masters) (short request small (held .passed))
-          (whole request small (held .passed)) (entry .table) (held .enough)
+          ran.levels-are (sentOf request) lengths acknowledges few (short request small (held .passed))
+          (whole request small (held .passed)) (entry .table) room
           (entry .carried) (entry .levels) (held .carries) (held .records) final reached
 
       modules-are : final .table ≡ filled (map (λ (m : Master). m .usi) (bus .masters)) (entry .table)
       modules-are =
-          ran.table-is request (held .masters) (short request small (held .passed))
-          (whole request small (held .passed)) (entry .table) (held .enough)
+          ran.table-is (sentOf request) lengths acknowledges few (short request small (held .passed))
+          (whole request small (held .passed)) (entry .table) room
           (entry .carried) (entry .levels) (held .carries) (held .records) final reached
           ∙ ap (λ (n : ℕ). map (λ (m : Master). m .usi) (bus .masters) ++ drop n (entry .table))
           (sym (length-map (bus .masters) (λ (m : Master). m .usi) ∙ many))
@@ -158,23 +167,23 @@ module _ (request : Request) (entry : Lent) where
       cleared-alike =
           ap (λ (flags : List ℕ). zipWith seatOf flags (bus .masters))
           (run-clears messages acknowledges (arbitration request small (held .passed)))
-          ∙ seats-alike members.writesClear messages (bus .masters) (many ∙ sym (cut-count lengths bytes))
+          ∙ seats-alike members.writesClear messages (bus .masters) (many ∙ lengths-count request ∙ sym (messages-count request))
 
       seats-are : members.seats (final .sequencer .members .contending) (final .sequencer .members .positions)
-          (count)
+          count
           ≡ padded absent standing
       seats-are =
           let left : maxMasters - count ≡ maxMasters - length standing =
           omega (arith, length-map (bus .masters) (seatOf members.writesClear), many) in
-          ran.seats-are request (held .masters) (short request small (held .passed))
-          (whole request small (held .passed)) (entry .table) (held .enough)
+          ran.seats-are (sentOf request) lengths acknowledges few (short request small (held .passed))
+          (whole request small (held .passed)) (entry .table) room
           (entry .carried) (entry .levels) (held .carries) (held .records) final reached
           ∙ ap (λ (n : ℕ). standing ++ replicate n absent) left
 
       abbrev answer : Arbitrated
       answer = answered (clearedBy messages acknowledges) bus
 
-      replied : repliedBy (final .sequencer) (count) ≡ answer
+      replied : repliedBy (final .sequencer) count ≡ answer
       unfolding repliedBy answered
       replied = rw (sent-is, seats-are, cleared-alike)
 
@@ -188,12 +197,13 @@ module _ (request : Request) (entry : Lent) where
       fates-are (master ∷ masters) seats =
           ap (λ (fates : List Fate). fateOf master ∷ fates) (fates-are masters seats)
 
-      shown-is : shown (count) answer exit ≡ observed bus
+      shown-is : shown messages answer exit ≡ observed bus
       unfolding shown observed answered
       shown-is =
-          let k-is : levelCount (length (bus .carried)) ≡ length (bus .levels) =
-          ap levelCount (carried-length request small (held .passed))
+          let k-is : levelCount (take (length (bus .carried)) (least messages)) ≡ length (bus .levels) =
+          ap (λ (n : ℕ). levelCount (take n (least messages))) (carried-length request small (held .passed))
           ∙ sym (levels-length request small (held .passed)) in
+          let masters-count : length messages ≡ count = messages-count request ∙ sym (lengths-count request) in
           let modules = map (λ (m : Master). m .usi) (bus .masters) in
           rw (
             cleared-alike,
@@ -201,6 +211,7 @@ module _ (request : Request) (entry : Lent) where
             carried-is,
             levels-are,
             k-is,
+            masters-count,
             take-append-seam (bus .carried) (drop (length (bus .carried)) (entry .carried)),
             take-append-seam (bus .levels) (drop (length (bus .levels)) (entry .levels)),
             ← many,
@@ -210,7 +221,7 @@ module _ (request : Request) (entry : Lent) where
           )
 
       -- and of those that have a message
-      clears-are : clearedIn (count) answer ≡ allCleared (count)
+      clears-are : clearedIn count answer ≡ allCleared count
       unfolding answered
       clears-are =
           rw (
@@ -221,7 +232,7 @@ module _ (request : Request) (entry : Lent) where
             length-map (bus .masters) (seatOf members.writesClear),
           ) (same-cleared (bus .masters))
 
-      ran-clauses : (reply : Arbitrated) → reply ≡ repliedBy (final .sequencer) (count) → Promise exit reply
+      ran-clauses : (reply : Arbitrated) → reply ≡ repliedBy (final .sequencer) count → Promise exit reply
       unfolding arbitrated tableAfter carriedAfter levelsAfter
       ran-clauses reply is =
           let same : reply ≡ answer = is ∙ replied in
@@ -233,11 +244,15 @@ module _ (request : Request) (entry : Lent) where
             recorded = rw (no-refusal) levels-are;
             follows =
                 λ unrefused-so.
-                ap (λ (r : Arbitrated). shown (count) r exit) same
+                ap (λ (r : Arbitrated). shown messages r exit) same
                 ∙ shown-is
                 ∙ answered-outcome request (length (entry .table)) (length (entry .carried))
                 (length (entry .levels)) small accepted;
-            clears = λ unrefused-so. ap (λ (r : Arbitrated). clearedIn (count) r) same ∙ clears-are;
+            clears =
+                λ unrefused-so.
+                ap (λ (n : ℕ). clearedIn n reply) (sym (lengths-count request))
+                ∙ ap (λ (r : Arbitrated). clearedIn count r) same ∙ clears-are
+                ∙ ap allCleared (lengths-count request);
             refuses =
                 λ count sizes reading answers room-enough.
                 no-refusal ∙ sym unrefused ∙ only-undecided count sizes reading answers room-enough;
@@ -256,7 +271,7 @@ module _ (request : Request) (entry : Lent) where
   pub promised : (prepared : Prepared)
       → Prepares request (length (entry .table)) (length (entry .carried)) (length (entry .levels)) prepared
       → (final : Turn)
-      → Reached (prepared .count) (rowsOf messages) acknowledges
+      → Reached (prepared .count) (rowsOf (soundMessages request)) acknowledges
       (record {
         sequencer = prepared .first;
         table = entry .table;
@@ -266,18 +281,28 @@ module _ (request : Request) (entry : Lent) where
       final
       → (reply : Arbitrated) → reply ≡ repliedTo prepared (final .sequencer)
       → Promise (record { table = final .table; carried = final .carried; levels = final .levels }) reply
-  unfolding begunBy repliedTo
+  unfolding soundMessages repliedTo
   promised prepared prepares final reached reply is = go (eqb (prepared .refusal .number) 0) refl
     where
       go : (runs : Bool) → eqb (prepared .refusal .number) 0 ≡ runs
           → Promise (record { table = final .table; carried = final .carried; levels = final .levels }) reply
       go true runs =
+          let none-so : prepared .refusal .number ≡ 0 = eqb-true (prepared .refusal .number) 0 runs in
           let number : whatApplies .number ≡ 0 =
-          ap (λ (r : Refusal). r .number) (sym (prepares .applies)) ∙ eqb-true (prepared .refusal .number) 0 runs in
-          ran-clauses (bytes-below bytes (prepares .small)) number final
-          (rw (prepares .masters, prepares .begins, runs) at reached) reply
-          (rw (prepares .masters, runs) at is)
+          ap (λ (r : Refusal). r .number) (sym (prepares .applies)) ∙ none-so in
+          let small : Bytes (request .bytes) = bytes-below (request .bytes) (prepares .small) in
+          let sound = eq-eqb (given (shapeChecks request) .number) 0 (shaped request small (held small number .passed)) in
+          let many : prepared .count ≡ count = prepares .masters ∙ rw runs (sym (lengths-count request)) in
+          ran-clauses small number final
+          (rw (many, prepares .begins none-so, sound) at reached) reply
+          (rw (many, runs) at is)
       go false runs =
-          let same = stays reached (rw (prepares .begins, runs)) in
-          rw same (refused-clauses (prepared .refusal) reply (sym (prepares .applies))
-          (eqb-false (prepared .refusal .number) 0 runs) (rw runs at is))
+          let some = eqb-false (prepared .refusal .number) 0 runs in
+          let same = stays reached (prepares .rests some) in
+          rw same (refused-clauses (prepared .refusal) reply (sym (prepares .applies)) some (rw runs at is))
+
+-- the acknowledges play no part in which messages are sound
+pub same-sound : (bytes parts counts acknowledges : List ℕ)
+    → soundMessages (asked bytes parts counts []) ≡ soundMessages (asked bytes parts counts acknowledges)
+unfolding soundMessages
+same-sound bytes parts counts acknowledges = refl

@@ -2,17 +2,17 @@
 use native.Mathlib.Omega.{arith}
 use mathlib.Core.Bool.{true, false}
 use mathlib.Core.Path.{sym, _∙_}
-use Rattle.arbitration_rules.proofs.Carry.{Bytes}
-use Rattle.arbitration.proofs.Given.{bytes-below, settled-none, count-small}
+use Rattle.arbitration_rules.proofs.Pieces.{Bytes}
+use Rattle.arbitration.proofs.Given.{bytes-below}
 use Rattle.arbitration.proofs.Preparing.{stopped-before, decided-by-room}
 use borrow.Author.Needs.{needs}
 use Rattle.arbitration.proofs.prepare.refusal.Statement.{statement}
 use Rattle.arbitration.proofs.prepare.refusal.Tie as tie
 
 -- the bytes lent are bytes
-small : (s : tie.After-settle) → Bytes (s .before .before .before .before .args .bytes .now)
+small : (s : tie.After-settle) → Bytes (s .before .before .before .before .before .args .bytes .now)
 small s =
-    let known = s .before .before .before in
+    let known = s .before .before .before .before in
     bytes-below (known .before .args .bytes .now) (λ i. omega (arith, known .shared-slice-known .given i))
 
 settle-requires : tie.Need-settle-requires
@@ -22,28 +22,23 @@ returns : tie.Need-returns
 returns c =
     let at = c .before .before .before in
     let same = at .settle .ensures in
-    rw same (stopped-before _ _ _ _ _ _ (rw same at (c .if1 .taken)))
+    rw same (stopped-before _ _ _ _ (rw same at (c .if1 .taken)))
 
 short-requires : tie.Need-short-requires
-short-requires c κs =
-    let at = c .before .before .before in
-    let a = at .before .before .before .before .args in
-    let same = at .settle .ensures in
-    let two = settled-none (a .bytes .now) (a .lengths .now) (a .acks .now) (rw same at (c .if1 .left)) in
-    rw (same, two .1) (count-small (a .bytes .now) (a .lengths .now) (a .acks .now) (small at) (two .0))
+short-requires c κs = search needs
 
 returns-2 : tie.Need-returns-2
 returns-2 c =
     let at = c .before .before .before .before .before in
     let same = at .settle .ensures in
-    decided-by-room _ _ _ _ _ _ (small at) (rw same at (c .before .before .if1 .left)) true
+    decided-by-room _ _ _ _ (small at) (rw same at (c .before .before .if1 .left)) true
     (rw same at (sym (c .before .short .ensures) ∙ c .if2 .taken))
 
 returns-3 : tie.Need-returns-3
 returns-3 c =
     let at = c .before .before .before .before .before in
     let same = at .settle .ensures in
-    decided-by-room _ _ _ _ _ _ (small at) (rw same at (c .before .before .if1 .left)) false
+    decided-by-room _ _ _ _ (small at) (rw same at (c .before .before .if1 .left)) false
     (rw same at (sym (c .before .short .ensures) ∙ c .if2 .left))
 
 pub refusal-spec : {M : Type 1} → statement M
