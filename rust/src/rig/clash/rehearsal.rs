@@ -50,7 +50,8 @@ impl<'a> Result<'a> {
         let lengths: Vec<u32> = senders.iter().map(|(_, message)| message.len() as u32).collect();
         let (mut carried, mut levels) = ([0; MESSAGE_BYTES], vec![0; options.room(LEVELS)]);
         let mut table = [Module::power_up(0, 0); MASTERS];
-        match arbitrate(&bytes, &lengths, &acks, &mut carried, &mut levels, &mut table) {
+        let counts = vec![1; lengths.len()];
+        match arbitrate(&bytes, &lengths, &counts, &acks, &mut carried, &mut levels, &mut table) {
             Ok(run) => Result::Rehearsed(Box::new(Rehearsal::new(load, senders, acks, run, table))),
             Err(refusal) => Result::Refused(refusal),
         }

@@ -84,13 +84,8 @@ fn load(page: &mut Page, names: &[String], spoiling: usize, index: usize) {
 /// Messages that share beginnings, for some of the boards.
 fn draw(random: &mut Random, boards: usize) -> Load {
     let asked = draw_request(random);
-    let mut messages: Vec<Option<Vec<u8>>> = Vec::new();
-    let mut rest = &asked.bytes[..];
-    for &length in asked.lengths.iter().take(boards) {
-        let (message, after) = rest.split_at(length as usize);
-        messages.push(Some(message.to_vec()));
-        rest = after;
-    }
+    let mut messages: Vec<Option<Vec<u8>>> =
+        asked.messages.iter().take(boards).map(|message| Some(message.bytes())).collect();
     while messages.len() < boards {
         messages.insert(random.below(messages.len() + 1), None);
     }

@@ -1,7 +1,7 @@
 //! Files of the old form, whose boards are numbered by their rows.
 
 use super::long;
-use crate::arbitration::{MASTERS, MESSAGE_BYTES};
+use crate::arbitration::{Message, MASTERS, MESSAGE_BYTES};
 use crate::compare::arbitration::draw_request;
 use crate::random::Random;
 use crate::rig::inputs::page::Page;
@@ -26,13 +26,7 @@ fn load(page: &mut Page, spoiling: usize) {
     let name = name(page.random);
     page.line(&["load", &name]);
     let asked = draw_request(page.random);
-    let mut rest = &asked.bytes[..];
-    let mut boards = Vec::new();
-    for &length in &asked.lengths {
-        let (board, after) = rest.split_at(length as usize);
-        boards.push(board.to_vec());
-        rest = after;
-    }
+    let mut boards: Vec<Vec<u8>> = asked.messages.iter().map(Message::bytes).collect();
     let mut acks = (!page.random.once_in(3)).then(|| asked.acks.iter().map(|ack| ack.to_string()).collect());
     if page.random.once_in(spoiling) {
         spoil_boards(page.random, &mut boards);
