@@ -191,7 +191,7 @@ fn wrong_refusals(side: Wrong, asked: &Asked, reply: u64) -> u64 {
     let counted = sum(&asked.counts);
     match (side, reply & 0xFF) {
         (Wrong::RestartUndecided, 16) if asked.parts.len() > asked.counts.len() => 0,
-        (Wrong::LaterRead, 14) if reply >> 8 == 0 && asked.bytes[0] % 2 == 0 => 15,
+        (Wrong::LaterRead, 14) if reply >> 8 == 0 && asked.bytes[0] & 1 == 0 => 15,
         (Wrong::PartsRunOut, 13) if counted > asked.parts.len() as u64 => {
             13 + 256 * asked.counts.len() as u64
         }
