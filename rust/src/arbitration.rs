@@ -101,6 +101,30 @@ impl Message {
         self.parts.iter().map(Vec::len).sum()
     }
 
+    /// Its first bytes, at most so many, in their parts.
+    pub fn beginning(&self, most: usize) -> Message {
+        let mut left = most;
+        let mut parts = Vec::new();
+        for part in &self.parts {
+            parts.push(part[..part.len().min(left)].to_vec());
+            left -= part.len().min(left);
+        }
+        parts.retain(|part| !part.is_empty());
+        Message { parts }
+    }
+
+    /// The bytes after the first so many, in their parts.
+    pub fn rest(&self, first: usize) -> Message {
+        let mut left = first;
+        let mut parts = Vec::new();
+        for part in &self.parts {
+            parts.push(part[part.len().min(left)..].to_vec());
+            left -= part.len().min(left);
+        }
+        parts.retain(|part| !part.is_empty());
+        Message { parts }
+    }
+
     /// The first of its parts whose first byte is odd.
     pub fn read(&self) -> Option<usize> {
         self.parts.iter().position(|part| part[0] % 2 == 1)

@@ -59,24 +59,12 @@ fn writes(mut message: Message) -> Message {
     message
 }
 
-/// At most so many bytes of a message; a part without any is none.
-fn first_bytes(message: &Message, most: usize) -> Message {
-    let mut left = most;
-    let mut parts = Vec::new();
-    for part in &message.parts {
-        parts.push(part[..part.len().min(left)].to_vec());
-        left -= part.len().min(left);
-    }
-    parts.retain(|part| !part.is_empty());
-    Message { parts }
-}
-
 /// The base message, one that parts from it at a byte or at an ending, or one of its own.
 fn relative(random: &mut Random, base: &Message) -> Message {
     let mut message = base.clone();
     match random.below(12) {
         0..=1 => {}
-        2 => message = first_bytes(base, random.between(1, base.length())),
+        2 => message = base.beginning(random.between(1, base.length())),
         3 => {
             let more: Vec<u8> = (0..random.between(1, 3)).map(|_| random.byte()).collect();
             message.parts.last_mut().expect("a part").extend(more);
@@ -87,7 +75,7 @@ fn relative(random: &mut Random, base: &Message) -> Message {
         7..=8 => message = in_other_parts(random, base),
         _ => message = leaves(random, base),
     }
-    writes(first_bytes(&message, MESSAGE_BYTES))
+    writes(message.beginning(MESSAGE_BYTES))
 }
 
 /// The same bytes but for the first of a part: a part cut in two, two put together, or all cut anew.
@@ -112,7 +100,7 @@ fn in_other_parts(random: &mut Random, base: &Message) -> Message {
 /// One bit differs at some byte; the parts and the length after it may differ too.
 fn leaves(random: &mut Random, base: &Message) -> Message {
     let place = random.below(base.length());
-    let mut message = first_bytes(base, place + 1);
+    let mut message = base.beginning(place + 1);
     let last = message.parts.last_mut().and_then(|part| part.last_mut()).expect("a byte");
     *last ^= 1 << random.below(8);
     if random.once_in(2) {
