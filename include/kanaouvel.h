@@ -69,23 +69,29 @@ uint64_t bus_read_dump(const uint8_t *text, size_t text_length, uint32_t *stamps
                        size_t levels_length);
 uint64_t bus_dump_timescale(const uint8_t *text, size_t text_length);
 
-/* Masters that start together, up to 16, with messages of up to 64 bytes that lie in bytes one after the
- * other. The answer: the refusal's number in byte 0, the place in bytes 1 and 2, the count k of bytes carried from
- * byte 3 on. These bytes, at most 64, and 5 + 18 * k levels, at most 1,157, go to two buffers, whose rest stays.
+/* Masters that start together, up to 16, with messages of up to 64 bytes that lie in bytes one after the other. A
+ * message is one or more parts of one or more bytes: each part but the last ends in a repeated START. parts has the
+ * length of every part, message after message, counts how many parts each message has; there is one acknowledge for each
+ * byte of the longest message. The answer: the refusal's number in byte 0, the place in bytes 1 and 2, the count k of
+ * bytes carried from byte 3 on. These bytes, at most 64, and 5 + 18 * k levels, 3 more for each repeated START between
+ * two of them, at most 1,346, go to two buffers, whose rest stays.
  * The last two are tables of the caller's own, of any length. Their first entries, one for each message, are
  * overwritten, and what they held is not read; every entry past them stays as it was. An entry of modules is
  * the final module of its master, with bits 55 to 63 at 0; one of seats is 1 where the master is still in, plus
  * 2 * the flags that its writes cleared, plus 32 * the position where it lost. A table with fewer entries than
  * there are messages is 8, as any other buffer that is too short: after 12, 13, 14, 15 and 16. */
-uint64_t arbitrate(const uint8_t *bytes, size_t bytes_length, const uint32_t *lengths, size_t lengths_length,
-                   const uint8_t *acks, size_t acks_length, uint8_t *carried, size_t carried_length, uint8_t *levels,
-                   size_t levels_length, uint64_t *modules, size_t modules_length, uint32_t *seats,
-                   size_t seats_length);
+uint64_t arbitrate(const uint8_t *bytes, size_t bytes_length, const uint32_t *parts, size_t parts_length,
+                   const uint32_t *counts, size_t counts_length, const uint8_t *acks, size_t acks_length,
+                   uint8_t *carried, size_t carried_length, uint8_t *levels, size_t levels_length, uint64_t *modules,
+                   size_t modules_length, uint32_t *seats, size_t seats_length);
 
-/* Which of such messages is least, the first of equal ones (0 where there is none), and how many comparisons of two
- * messages find it: one for each message but the first. A message that runs past the bytes is cut there. */
-uint64_t least_message(const uint8_t *bytes, size_t bytes_length, const uint32_t *lengths, size_t lengths_length);
-uint64_t least_comparisons(const uint8_t *bytes, size_t bytes_length, const uint32_t *lengths, size_t lengths_length);
+/* Which of such messages is least (a restart is smaller than a STOP, and both than any byte), the first of equal ones,
+ * and how many comparisons of two messages find it: one for each message but the first. Where 12 or 13 applies both are
+ * 0. */
+uint64_t least_message(const uint8_t *bytes, size_t bytes_length, const uint32_t *parts, size_t parts_length,
+                       const uint32_t *counts, size_t counts_length);
+uint64_t least_comparisons(const uint8_t *bytes, size_t bytes_length, const uint32_t *parts, size_t parts_length,
+                           const uint32_t *counts, size_t counts_length);
 
 /* A board's message among tonight's corrections and the standing catalogue: each a block in which the messages lie one
  * after the other, with a rising list of boards and a list of lengths. The number: 0 where the board is found, else 40,

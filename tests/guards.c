@@ -1,14 +1,14 @@
 /* The proved library called from C, with guard bytes around every lent buffer: what is refused leaves all of it as it
  * was, what is filled keeps its rest, and nothing outside is written. The expected values are document 01's worked
- * numbers P1 to P12, what 01 says of each refusal, and bits of SPI worked by hand. */
+ * numbers P1 to P12, what 01 says of each refusal, request 4's restarts, and bits of SPI worked by hand. */
 #include "../include/kanaouvel.h"
 #include <stdio.h>
 #include <string.h>
 
 enum { GUARD = 64, ROOM = 2048, FILL = 0xA5 };
 
-/* the most masters, bytes of a message and levels */
-enum { MASTERS = 16, BYTES = 64, LEVELS = 5 + 18 * BYTES };
+/* the most masters, bytes of a message and levels: every byte a part of its own */
+enum { MASTERS = 16, BYTES = 64, LEVELS = 5 + 18 * BYTES + 3 * (BYTES - 1) };
 
 static int checks, failures;
 
@@ -52,8 +52,10 @@ struct load {
     const char *name;
     uint8_t bytes[(MASTERS + 1) * BYTES];
     size_t bytes_length;
-    uint32_t lengths[MASTERS + 1];
-    size_t lengths_length;
+    uint32_t parts[2 * BYTES + 1];
+    size_t parts_length;
+    uint32_t counts[MASTERS + 1];
+    size_t counts_length;
     uint8_t acks[BYTES + 1];
     size_t acks_length;
 };
@@ -63,8 +65,9 @@ static void run(struct lent *l, const struct load *load, size_t carried, size_t 
     uint8_t *c = lend(&l->carried, carried), *v = lend(&l->levels, levels);
     uint64_t *m = lend(&l->modules, 8 * modules);
     uint32_t *s = lend(&l->seats, 4 * seats);
-    l->answer = arbitrate(load->bytes, load->bytes_length, load->lengths, load->lengths_length, load->acks,
-                          load->acks_length, c, carried, v, levels, m, modules, s, seats);
+    l->answer = arbitrate(load->bytes, load->bytes_length, load->parts, load->parts_length, load->counts,
+                          load->counts_length, load->acks, load->acks_length, c, carried, v, levels, m, modules, s,
+                          seats);
 }
 
 static void refused(const char *what, const struct load *load, size_t carried, size_t levels, size_t modules,
@@ -103,9 +106,10 @@ static void overwrites(const struct lent *l, const struct load *load)
     static uint8_t carried[BYTES], levels[LEVELS];
     uint64_t modules[MASTERS + 1] = {0};
     uint32_t seats[MASTERS + 1] = {0};
-    size_t masters = load->lengths_length;
-    uint64_t answer = arbitrate(load->bytes, load->bytes_length, load->lengths, masters, load->acks, load->acks_length,
-                                carried, BYTES, levels, LEVELS, modules, MASTERS + 1, seats, MASTERS + 1);
+    size_t masters = load->counts_length;
+    uint64_t answer = arbitrate(load->bytes, load->bytes_length, load->parts, load->parts_length, load->counts, masters,
+                                load->acks, load->acks_length, carried, BYTES, levels, LEVELS, modules, MASTERS + 1,
+                                seats, MASTERS + 1);
     check(answer == l->answer, "over 0: the answer");
     check(memcmp(modules, l->modules.all + GUARD, 8 * masters) == 0, "over 0: modules");
     check(memcmp(seats, l->seats.all + GUARD, 4 * masters) == 0, "over 0: seats");
@@ -113,11 +117,12 @@ static void overwrites(const struct lent *l, const struct load *load)
         check(modules[i] == 0 && seats[i] == 0, "over 0: entries past the messages");
 }
 
-/* with tables of any length from one entry for each message on */
-static void carries(const struct load *load, const uint8_t *bytes, size_t count, const struct stands *stands)
+/* with tables of any length from one entry for each message on; so many restarts stand between the bytes carried */
+static void carries(const struct load *load, const uint8_t *bytes, size_t count, size_t restarts,
+                    const struct stands *stands)
 {
     static struct lent l;
-    size_t masters = load->lengths_length, levels = 5 + 18 * count;
+    size_t masters = load->counts_length, levels = 5 + 18 * count + 3 * restarts;
     for (size_t more = 0; more < 20; more++) {
         run(&l, load, count + more, levels + more, masters + more, masters + (more + 7) % 20);
         check(l.answer == (uint64_t)count << 24, load->name);
@@ -143,53 +148,114 @@ static void carries(const struct load *load, const uint8_t *bytes, size_t count,
 /* sixteen messages of 64 bytes that differ in the last one, the last message being the least */
 static void most(void)
 {
-    static struct load load = {"sixteen of 64 bytes", {0}, MASTERS * BYTES, {0}, MASTERS, {0}, BYTES};
+    static struct load load = {"sixteen of 64 bytes", {0}, MASTERS * BYTES, {0}, MASTERS, {0}, MASTERS, {0}, BYTES};
     static struct stands stands[MASTERS];
     memset(load.bytes, 0x90, sizeof load.bytes);
     for (int i = 0; i < MASTERS; i++) {
         int last = MASTERS - 1 - i, bit = last > 7 ? 4 : last > 3 ? 5 : last > 1 ? 6 : 7;
-        load.lengths[i] = BYTES;
+        load.parts[i] = BYTES, load.counts[i] = 1;
         load.bytes[BYTES * i + BYTES - 1] = (uint8_t)last;
         stands[i].registers = last ? 0x000080224DC0 : 0x00FF002245C8;
         stands[i].seat = last ? 6 + 32 * (9 * (BYTES - 1) + (uint32_t)bit) : 7;
     }
-    carries(&load, load.bytes + BYTES * (MASTERS - 1), BYTES, stands);
-    load.lengths_length = MASTERS + 1, load.bytes_length = (MASTERS + 1) * BYTES, load.lengths[MASTERS] = BYTES;
+    carries(&load, load.bytes + BYTES * (MASTERS - 1), BYTES, 0, stands);
+    load.parts_length = MASTERS + 1, load.counts_length = MASTERS + 1, load.bytes_length = (MASTERS + 1) * BYTES;
+    load.parts[MASTERS] = BYTES, load.counts[MASTERS] = 1;
     refused("12: seventeen", &load, BYTES, LEVELS, MASTERS + 1, MASTERS + 1, 12);
     refused("12: seventeen, sixteen entries", &load, BYTES, LEVELS, MASTERS, MASTERS, 12);
     refused("12: seventeen, no entry", &load, BYTES, LEVELS, 0, 0, 12);
-    load.lengths_length = 2, load.bytes_length = 2 * BYTES + 1;
-    load.lengths[1] = BYTES + 1, load.acks_length = BYTES + 1;
+    load.parts_length = 2, load.counts_length = 2, load.bytes_length = 2 * BYTES + 1;
+    load.parts[1] = BYTES + 1, load.acks_length = BYTES + 1;
     refused("13: 65 bytes", &load, BYTES + 1, LEVELS + 18, 2, 2, 13 + 256);
 }
 
-static void arbitrations(void)
+/* two messages of 64 parts of one byte each, of which the first loses in the last byte: the most levels */
+static void most_parts(void)
 {
-    const struct load p8 = {"P8", {0x90, 0x12, 0x90, 0x0F}, 4, {2, 2}, 2, {0, 0}, 2};
-    const struct load p9 = {"P9", {0x90, 0x12, 0x90, 0x0F}, 4, {2, 2}, 2, {1, 0}, 2};
-    const struct load p10 = {"P10", {0x90, 0x90, 0x00}, 3, {1, 2}, 2, {0, 0}, 2};
-    const struct load p11 = {"P11", {0x90, 0x90, 0x00}, 3, {1, 2}, 2, {1, 0}, 2};
-    const struct load p12 = {"P12", {0x90, 0x90, 0x00, 0x50}, 4, {1, 2, 1}, 3, {0, 0}, 2};
-    const struct stands p8s[] = {{0x000F80224DC0, 6 + 32 * 12}, {0x00FF002245C8, 7}};
-    const struct stands both_in[] = {{0, 7}, {0, 7}};
-    const struct stands two_lost[] = {{0, 6}, {0, 6}, {0, 7}};
-    carries(&p8, (const uint8_t[]){0x90, 0x0F}, 2, p8s);
-    carries(&p9, (const uint8_t[]){0x90}, 1, both_in);
-    refused("P10", &p10, 8, 200, 8, 8, 16);
-    refused("P10, modules too short", &p10, 8, 200, 1, 2, 16);
-    refused("P10, seats too short", &p10, 8, 200, 2, 1, 16);
-    carries(&p11, (const uint8_t[]){0x90}, 1, both_in);
-    carries(&p12, (const uint8_t[]){0x50}, 1, two_lost);
-    most();
+    static struct load load = {"64 parts", {0}, 2 * BYTES, {0}, 2 * BYTES, {BYTES, BYTES}, 2, {0}, BYTES};
+    const struct stands stands[] = {{0, 6 + 32 * (9 * (BYTES - 1) + 3)}, {0x00FF002245C8, 7}};
+    for (int i = 0; i < 2 * BYTES + 1; i++)
+        load.parts[i] = 1;
+    memset(load.bytes, 0x40, 2 * BYTES + 1);
+    load.bytes[BYTES - 1] = 0x50;
+    carries(&load, load.bytes + BYTES, BYTES, BYTES - 1, stands);
+    load.counts[1]++, load.parts_length++, load.bytes_length++, load.acks_length++;
+    refused("13: 65 parts", &load, BYTES + 1, LEVELS + 21, 2, 2, 13 + 256);
+}
 
-    /* 12 to 16 come before 8, each before the next, with short buffers and tables too */
-    const struct load none = {"12", {0}, 0, {0}, 0, {0}, 0};
-    const struct load empty = {"13", {0x90}, 1, {1, 0}, 2, {0}, 1};
-    const struct load sum = {"13", {0x90, 0x12}, 2, {1}, 1, {0}, 1};
-    const struct load reads = {"14", {0x90, 0x91}, 2, {1, 1}, 2, {0, 0, 0}, 3};
-    const struct load answers = {"15", {0x90, 0x12}, 2, {2}, 1, {0, 2}, 2};
-    const struct load few = {"15", {0x90, 0x12}, 2, {2}, 1, {0}, 1};
-    const struct load begins = {"16", {0x90, 0x90, 0x00}, 3, {1, 2}, 2, {0, 0}, 2};
+/* document 02, request 4: a loser lets go of SCL at each restart, and ends with 4Dh in USICTL1 and 80h in USICNT */
+static void restarts(void)
+{
+    const struct load one = {"a restart", {0x90, 0xA2}, 2, {1, 1}, 2, {2}, 1, {0, 0}, 2};
+    const struct load cut = {"cut where a part ends", {0x90, 0xA2}, 2, {1, 1}, 2, {2}, 1, {1, 0}, 2};
+    const struct load two = {"02/04 06/04", {2, 4, 6, 4}, 4, {1, 1, 1, 1}, 4, {2, 2}, 2, {0, 0}, 2};
+    const struct load three = {
+        "02/04/08 06/04/08", {2, 4, 8, 6, 4, 8}, 6, {1, 1, 1, 1, 1, 1}, 6, {3, 3}, 2, {0, 0, 0}, 3};
+    const struct load later = {"a loss after it", {2, 4, 8, 2, 4, 9}, 6, {1, 2, 1, 2}, 4, {2, 2}, 2, {0, 0, 0}, 3};
+    const struct load same = {"02/04 02/04", {2, 4, 2, 4}, 4, {1, 1, 1, 1}, 4, {2, 2}, 2, {0, 0}, 2};
+    const struct load parts = {"02/04 0204", {2, 4, 2, 4}, 4, {1, 1, 2}, 3, {2, 1}, 2, {0, 0}, 2};
+    const struct load unheard = {"02/04 0204, not acknowledged", {2, 4, 2, 4}, 4, {1, 1, 2}, 3, {2, 1}, 2, {1, 0}, 2};
+    const struct load stops = {"02/04 02", {2, 4, 2}, 3, {1, 1, 1}, 3, {2, 1}, 2, {0, 0}, 2};
+    const struct stands wins[] = {{0x00FF002245C8, 7}};
+    const struct stands second_lost[] = {{0x00FF002245C8, 7}, {0x000280224DC0, 6 + 32 * 5}};
+    const struct stands lost_later[] = {{0x00FF002245C8, 7}, {0x000880224DC0, 6 + 32 * 25}};
+    const struct stands both_in[] = {{0x00FF002245C8, 7}, {0x00FF002245C8, 7}};
+    carries(&one, one.bytes, 2, 1, wins);
+    carries(&cut, cut.bytes, 1, 0, wins);
+    carries(&two, two.bytes, 2, 1, second_lost);
+    carries(&three, three.bytes, 3, 2, second_lost);
+    carries(&later, later.bytes, 3, 1, lost_later);
+    carries(&same, same.bytes, 2, 1, both_in);
+    carries(&unheard, unheard.bytes, 1, 0, both_in);
+    refused("16: other parts", &parts, BYTES, LEVELS, 2, 2, 16);
+    refused("16: other parts, no room", &parts, 0, 0, 0, 0, 16);
+    refused("16: a restart against a STOP", &stops, BYTES, LEVELS, 2, 2, 16);
+    most_parts();
+}
+
+/* what is wrong with parts and counts, and the message where it is */
+static void wrong_parts(void)
+{
+    const struct load none = {"13: no parts", {2}, 1, {1}, 1, {1, 0}, 2, {0}, 1};
+    const struct load empty = {"13: an empty part", {2, 4}, 2, {1, 0, 1}, 3, {1, 2}, 2, {0}, 1};
+    const struct load out = {"13: parts run out", {2, 4}, 2, {2}, 1, {1, 1}, 2, {0, 0}, 2};
+    const struct load over = {"13: parts left over", {2, 4}, 2, {1, 1}, 2, {1}, 1, {0}, 1};
+    const struct load wraps = {"13: lengths beyond 32 bits", {2, 4}, 2, {0xFFFFFFFF, 3}, 2, {2}, 1, {0, 0}, 2};
+    const struct load counts = {"13: counts beyond 32 bits", {2, 4}, 2, {1, 1}, 2, {0xFFFFFFFF, 3}, 2, {0, 0}, 2};
+    const struct load reads = {"14: a later part", {2, 2, 5}, 3, {1, 1, 1}, 3, {1, 2}, 2, {0, 0}, 2};
+    const struct load acks = {"15: restarts are no bytes", {2, 4}, 2, {1, 1}, 2, {2}, 1, {0, 0, 0}, 3};
+    const struct load *all[] = {&none, &empty, &out, &over, &wraps, &counts, &reads, &acks};
+    const uint64_t answers[] = {13 + 256, 13 + 256, 13 + 512, 13 + 256, 13, 13 + 512, 14 + 256, 15};
+    for (int i = 0; i < 8; i++) {
+        refused(all[i]->name, all[i], BYTES, LEVELS, MASTERS, MASTERS, answers[i]);
+        refused(all[i]->name, all[i], 0, 0, 0, 0, answers[i]);
+    }
+}
+
+#define MESSAGES(l) (l)->bytes, (l)->bytes_length, (l)->parts, (l)->parts_length, (l)->counts, (l)->counts_length
+
+static void least(void)
+{
+    const struct load five = {
+        "least", {2, 4, 2, 2, 4, 2, 4, 6, 2}, 9, {2, 1, 1, 1, 1, 1, 1, 1}, 8, {1, 1, 2, 2, 2}, 5, {0, 0}, 2};
+    const struct load none = {"least of none", {0}, 0, {0}, 0, {0}, 0, {0}, 0};
+    const struct load empty = {"least with an empty part", {2, 4}, 2, {2, 0}, 2, {1, 1}, 2, {0}, 1};
+    check(least_message(MESSAGES(&five)) == 2 && least_comparisons(MESSAGES(&five)) == 4, "02/04 is least of five");
+    check(least_message(MESSAGES(&none)) == 0 && least_comparisons(MESSAGES(&none)) == 0, "least where 12 applies");
+    check(least_message(MESSAGES(&empty)) == 0 && least_comparisons(MESSAGES(&empty)) == 0, "least where 13 applies");
+    check(least_message(NULL, 0, NULL, 0, NULL, 0) == 0, "least: nothing lent");
+}
+
+/* 12 to 16 come before 8, each before the next, with short buffers and tables too */
+static void refusals(void)
+{
+    const struct load none = {"12", {0}, 0, {0}, 0, {0}, 0, {0}, 0};
+    const struct load empty = {"13", {0x90}, 1, {1, 0}, 2, {1, 1}, 2, {0}, 1};
+    const struct load sum = {"13", {0x90, 0x12}, 2, {1}, 1, {1}, 1, {0}, 1};
+    const struct load reads = {"14", {0x90, 0x91}, 2, {1, 1}, 2, {1, 1}, 2, {0, 0, 0}, 3};
+    const struct load answers = {"15", {0x90, 0x12}, 2, {2}, 1, {1}, 1, {0, 2}, 2};
+    const struct load few = {"15", {0x90, 0x12}, 2, {2}, 1, {1}, 1, {0}, 1};
+    const struct load begins = {"16", {0x90, 0x90, 0x00}, 3, {1, 2}, 2, {1, 1}, 2, {0, 0}, 2};
     const struct load *all[] = {&none, &empty, &sum, &reads, &answers, &few, &begins};
     const uint64_t numbers[] = {12, 13, 13, 14, 15, 15, 16};
     for (int i = 0; i < 7; i++)
@@ -202,6 +268,30 @@ static void arbitrations(void)
                       && kept_past(&l.seats, 0),
                   all[i]->name);
         }
+}
+
+static void arbitrations(void)
+{
+    const struct load p8 = {"P8", {0x90, 0x12, 0x90, 0x0F}, 4, {2, 2}, 2, {1, 1}, 2, {0, 0}, 2};
+    const struct load p9 = {"P9", {0x90, 0x12, 0x90, 0x0F}, 4, {2, 2}, 2, {1, 1}, 2, {1, 0}, 2};
+    const struct load p10 = {"P10", {0x90, 0x90, 0x00}, 3, {1, 2}, 2, {1, 1}, 2, {0, 0}, 2};
+    const struct load p11 = {"P11", {0x90, 0x90, 0x00}, 3, {1, 2}, 2, {1, 1}, 2, {1, 0}, 2};
+    const struct load p12 = {"P12", {0x90, 0x90, 0x00, 0x50}, 4, {1, 2, 1}, 3, {1, 1, 1}, 3, {0, 0}, 2};
+    const struct stands p8s[] = {{0x000F80224DC0, 6 + 32 * 12}, {0x00FF002245C8, 7}};
+    const struct stands both_in[] = {{0, 7}, {0, 7}};
+    const struct stands two_lost[] = {{0, 6}, {0, 6}, {0, 7}};
+    carries(&p8, (const uint8_t[]){0x90, 0x0F}, 2, 0, p8s);
+    carries(&p9, (const uint8_t[]){0x90}, 1, 0, both_in);
+    refused("P10", &p10, 8, 200, 8, 8, 16);
+    refused("P10, modules too short", &p10, 8, 200, 1, 2, 16);
+    refused("P10, seats too short", &p10, 8, 200, 2, 1, 16);
+    carries(&p11, (const uint8_t[]){0x90}, 1, 0, both_in);
+    carries(&p12, (const uint8_t[]){0x50}, 1, 0, two_lost);
+    most();
+    restarts();
+    wrong_parts();
+    least();
+    refusals();
 }
 
 static void traces(void)

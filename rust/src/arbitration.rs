@@ -14,18 +14,26 @@ pub mod runner;
 pub const MASTERS: usize = 16;
 /// The most bytes of a message.
 pub const MESSAGE_BYTES: usize = 64;
-/// The most levels of a run.
-pub const LEVELS: usize = levels_for(MESSAGE_BYTES);
+/// The most levels of a run: every byte is a part of its own.
+pub const LEVELS: usize = levels_for(MESSAGE_BYTES, MESSAGE_BYTES - 1);
 
-/// The levels of a run that carries so many bytes: two to the START, two a bit, three to the STOP.
-pub const fn levels_for(carried: usize) -> usize {
-    2 + 2 * 9 * carried + 3
+/// The levels of a run that carries so many bytes with so many restarts between them: two to the START, two a
+/// bit, three a repeated START, three to the STOP.
+pub const fn levels_for(carried: usize, restarts: usize) -> usize {
+    2 + 2 * 9 * carried + 3 * restarts + 3
+}
+
+/// What a master sends (02: Ask 4): one or more parts of one or more bytes. Each part but the last ends in a
+/// repeated START, the last in a STOP.
+#[derive(Clone, PartialEq, Eq, Default, Debug)]
+pub struct Message {
+    pub parts: Vec<Vec<u8>>,
 }
 
 /// Messages and acknowledges to which none of 12, 13, 14 and 15 applies.
 #[derive(Clone, PartialEq, Eq, Debug)]
 pub struct Request {
-    pub messages: Vec<Vec<u8>>,
+    pub messages: Vec<Message>,
     /// One for each byte place: 0 pulled low, 1 left high.
     pub acks: Vec<u8>,
 }
@@ -38,7 +46,7 @@ pub struct Outcome {
     pub levels: Vec<u8>,
     /// Who is still in.
     pub remaining: [bool; MASTERS],
-    /// For each loser 9·byte + bit; 0 for the others.
+    /// For each loser 9·byte + bit, carried bytes only; 0 for the others.
     pub positions: [u16; MASTERS],
     /// The final AL of each master's module.
     pub arbitration_lost: [bool; MASTERS],
@@ -56,13 +64,14 @@ pub struct Run {
 /// module of each master are in the lent slices, whose rest stays. What the table held before is not read.
 pub fn arbitrate(
     bytes: &[u8],
-    lengths: &[u32],
+    parts: &[u32],
+    counts: &[u32],
     acks: &[u8],
     carried: &mut [u8],
     levels: &mut [u8],
     table: &mut [Module],
 ) -> Result<Run, Refusal> {
-    let (run, modules) = runner::run(&Request::new(bytes, lengths, acks)?)?;
+    let (run, modules) = runner::run(&Request::new(bytes, parts, counts, acks)?)?;
     let outcome = &run.outcome;
     if carried.len() < outcome.carried.len() || levels.len() < outcome.levels.len() {
         return Err(Reason::ShortBuffer.refusal());
@@ -76,18 +85,60 @@ pub fn arbitrate(
     Ok(run)
 }
 
+impl Message {
+    /// A message without a restart.
+    pub fn of_one_part(bytes: &[u8]) -> Message {
+        Message { parts: vec![bytes.to_vec()] }
+    }
+
+    /// Its bytes, part after part.
+    pub fn bytes(&self) -> Vec<u8> {
+        self.parts.concat()
+    }
+
+    /// How many bytes it has; restarts are none.
+    pub fn length(&self) -> usize {
+        self.parts.iter().map(Vec::len).sum()
+    }
+
+    /// Its first bytes, at most so many, in their parts.
+    pub fn beginning(&self, most: usize) -> Message {
+        let mut left = most;
+        let mut parts = Vec::new();
+        for part in &self.parts {
+            parts.push(part[..part.len().min(left)].to_vec());
+            left -= part.len().min(left);
+        }
+        parts.retain(|part| !part.is_empty());
+        Message { parts }
+    }
+
+    /// The bytes after the first so many, in their parts.
+    pub fn rest(&self, first: usize) -> Message {
+        let mut left = first;
+        let mut parts = Vec::new();
+        for part in &self.parts {
+            parts.push(part[part.len().min(left)..].to_vec());
+            left -= part.len().min(left);
+        }
+        parts.retain(|part| !part.is_empty());
+        Message { parts }
+    }
+
+    /// The first of its parts whose first byte is odd.
+    pub fn read(&self) -> Option<usize> {
+        self.parts.iter().position(|part| part[0] % 2 == 1)
+    }
+}
+
 impl Request {
     /// Cuts the lent bytes into messages; refusals 12, 13, 14, 15.
-    pub fn new(bytes: &[u8], lengths: &[u32], acks: &[u8]) -> Result<Request, Refusal> {
-        if lengths.is_empty() || lengths.len() > MASTERS {
-            return Err(Reason::MasterCount.refusal());
-        }
-        check_lengths(bytes, lengths)?;
-        let messages = cut(bytes, lengths);
-        if let Some(place) = messages.iter().position(|message| message[0] % 2 == 1) {
+    pub fn new(bytes: &[u8], parts: &[u32], counts: &[u32], acks: &[u8]) -> Result<Request, Refusal> {
+        let messages = messages(bytes, parts, counts)?;
+        if let Some(place) = messages.iter().position(|message| message.read().is_some()) {
             return Err(Reason::ReadMessage.at(place));
         }
-        let longest = messages.iter().map(Vec::len).max();
+        let longest = messages.iter().map(Message::length).max();
         if longest != Some(acks.len()) || acks.iter().any(|&ack| ack > 1) {
             return Err(Reason::Acknowledges.refusal());
         }
@@ -95,37 +146,41 @@ impl Request {
     }
 }
 
-/// Refusal 13: the first message of no bytes or too many, else a wrong sum at the message count.
-fn check_lengths(bytes: &[u8], lengths: &[u32]) -> Result<(), Refusal> {
-    let bad = |&length: &u32| length == 0 || length as usize > MESSAGE_BYTES;
-    if let Some(place) = lengths.iter().position(bad) {
-        return Err(Reason::MessageLength.at(place));
+/// The messages, one after the other in the lent bytes: `parts` has the length of every part, `counts` how many
+/// parts each message has. Refusals 12 and 13.
+pub fn messages(bytes: &[u8], parts: &[u32], counts: &[u32]) -> Result<Vec<Message>, Refusal> {
+    if counts.is_empty() || counts.len() > MASTERS {
+        return Err(Reason::MasterCount.refusal());
     }
-    if lengths.iter().sum::<u32>() as usize != bytes.len() {
-        return Err(Reason::MessageLength.at(lengths.len()));
+    check_lengths(bytes, parts, counts)?;
+    Ok(cut(bytes, parts, counts))
+}
+
+/// Refusal 13: the first message of no parts, with a part of no bytes or with too many bytes, else a wrong sum at
+/// the message count. A message whose parts run out is judged by those it has.
+fn check_lengths(bytes: &[u8], parts: &[u32], counts: &[u32]) -> Result<(), Refusal> {
+    let mut rest = parts;
+    for (place, &count) in counts.iter().enumerate() {
+        let (own, after) = rest.split_at(rest.len().min(count as usize));
+        if count == 0 || own.contains(&0) || sum(own) > MESSAGE_BYTES as u64 {
+            return Err(Reason::MessageLength.at(place));
+        }
+        rest = after;
+    }
+    if sum(counts) != parts.len() as u64 || sum(parts) != bytes.len() as u64 {
+        return Err(Reason::MessageLength.at(counts.len()));
     }
     Ok(())
 }
 
-/// The messages, one after the other in the lent bytes; one that runs past them is cut there.
-pub fn cut(bytes: &[u8], lengths: &[u32]) -> Vec<Vec<u8>> {
-    let mut rest = bytes;
-    let mut messages = Vec::new();
-    for &length in lengths {
-        let (message, after) = rest.split_at(rest.len().min(length as usize));
-        messages.push(message.to_vec());
-        rest = after;
-    }
-    messages
+fn sum(numbers: &[u32]) -> u64 {
+    numbers.iter().map(|&number| u64::from(number)).sum()
 }
 
-/// The first of the least messages, and how many comparisons of two messages found it (02: Ask 3).
-pub fn least(messages: &[Vec<u8>]) -> (usize, usize) {
-    let mut comparisons = 0;
-    let in_order = |&one: &usize, &other: &usize| {
-        comparisons += 1;
-        messages[one].cmp(&messages[other])
-    };
-    let index = (0..messages.len()).min_by(in_order).unwrap_or(0);
-    (index, comparisons)
+/// The messages of lengths that fit.
+fn cut(bytes: &[u8], parts: &[u32], counts: &[u32]) -> Vec<Message> {
+    let (mut parts, mut bytes) = (parts.iter(), bytes.iter().copied());
+    let mut part = |&length: &u32| bytes.by_ref().take(length as usize).collect();
+    let mut own = |&count: &u32| parts.by_ref().take(count as usize).map(&mut part).collect();
+    counts.iter().map(|count| Message { parts: own(count) }).collect()
 }

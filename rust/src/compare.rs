@@ -46,7 +46,7 @@ pub const COMPARISONS: [Comparison; 8] = [
     Comparison { word: "bus", cases: "dumps", count: 50_000, case: dump::case },
     Comparison { word: "bus", cases: "dump texts", count: 200_000, case: dump_reader::case },
     Comparison { word: "bus", cases: "lists", count: 100_000, case: lists::case },
-    Comparison { word: "arbitration", cases: "arbitrations", count: 50_000, case: arbitration::case },
+    Comparison { word: "arbitration", cases: "arbitrations", count: 100_000, case: arbitration::case },
     Comparison { word: "catalogue", cases: "catalogues", count: 100_000, case: catalogue::case },
 ];
 

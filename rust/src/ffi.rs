@@ -78,8 +78,10 @@ extern "C" {
     fn arbitrate(
         bytes: *const u8,
         bytes_len: usize,
-        lengths: *const u32,
-        lengths_len: usize,
+        parts: *const u32,
+        parts_len: usize,
+        counts: *const u32,
+        counts_len: usize,
         acks: *const u8,
         acks_len: usize,
         carried: *mut u8,
@@ -91,8 +93,22 @@ extern "C" {
         seats: *mut u32,
         seats_len: usize,
     ) -> u64;
-    fn least_message(bytes: *const u8, bytes_len: usize, lengths: *const u32, lengths_len: usize) -> u64;
-    fn least_comparisons(bytes: *const u8, bytes_len: usize, lengths: *const u32, lengths_len: usize) -> u64;
+    fn least_message(
+        bytes: *const u8,
+        bytes_len: usize,
+        parts: *const u32,
+        parts_len: usize,
+        counts: *const u32,
+        counts_len: usize,
+    ) -> u64;
+    fn least_comparisons(
+        bytes: *const u8,
+        bytes_len: usize,
+        parts: *const u32,
+        parts_len: usize,
+        counts: *const u32,
+        counts_len: usize,
+    ) -> u64;
 }
 
 /// A function over a board and two catalogues: block, boards and lengths of each.
@@ -252,8 +268,10 @@ impl Interface for Archive {
             arbitrate(
                 asked.bytes.as_ptr(),
                 asked.bytes.len(),
-                asked.lengths.as_ptr(),
-                asked.lengths.len(),
+                asked.parts.as_ptr(),
+                asked.parts.len(),
+                asked.counts.as_ptr(),
+                asked.counts.len(),
                 asked.acks.as_ptr(),
                 asked.acks.len(),
                 lent.carried.as_mut_ptr(),
@@ -268,11 +286,23 @@ impl Interface for Archive {
         }
     }
 
-    fn least(&self, bytes: &[u8], lengths: &[u32]) -> (u64, u64) {
-        let ask = |call: unsafe extern "C" fn(*const u8, usize, *const u32, usize) -> u64| unsafe {
-            call(bytes.as_ptr(), bytes.len(), lengths.as_ptr(), lengths.len())
-        };
-        (ask(least_message), ask(least_comparisons))
+    fn least(&self, asked: &Asked) -> (u64, u64) {
+        let Asked { bytes, parts, counts, .. } = asked;
+        macro_rules! ask {
+            ($call:ident) => {
+                unsafe {
+                    $call(
+                        bytes.as_ptr(),
+                        bytes.len(),
+                        parts.as_ptr(),
+                        parts.len(),
+                        counts.as_ptr(),
+                        counts.len(),
+                    )
+                }
+            };
+        }
+        (ask!(least_message), ask!(least_comparisons))
     }
 
     fn place(&self, board: u32, corrections: &Catalogue, standing: &Catalogue) -> Place {
@@ -410,8 +440,8 @@ impl Interface for Guarded {
         })
     }
 
-    fn least(&self, bytes: &[u8], lengths: &[u32]) -> (u64, u64) {
-        Archive.least(bytes, lengths)
+    fn least(&self, asked: &Asked) -> (u64, u64) {
+        Archive.least(asked)
     }
 
     fn place(&self, board: u32, corrections: &Catalogue, standing: &Catalogue) -> Place {

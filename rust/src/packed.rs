@@ -3,7 +3,7 @@
 //! A module is one number: six registers from bit 0 up, the hidden state in bits 48 to 54; a step's answer has
 //! the refusal number in bits 55 to 59, a write's also the flags that it cleared in bits 60 to 63.
 
-use crate::arbitration::{self, runner, Request, Run};
+use crate::arbitration::{messages, outcome, runner, Message, Request, Run};
 use crate::bus::{self, Decoded};
 use crate::catalogue::{self, Catalogue, Part};
 use crate::dump;
@@ -19,8 +19,28 @@ pub const MODULE: u64 = (1 << 55) - 1;
 #[derive(Clone, Debug)]
 pub struct Asked {
     pub bytes: Vec<u8>,
-    pub lengths: Vec<u32>,
+    /// The length of every part, message after message.
+    pub parts: Vec<u32>,
+    /// How many parts each message has.
+    pub counts: Vec<u32>,
     pub acks: Vec<u8>,
+}
+
+impl Asked {
+    pub fn new(messages: &[Message], acks: Vec<u8>) -> Asked {
+        let parts = messages.iter().flat_map(|message| &message.parts);
+        Asked {
+            bytes: messages.iter().flat_map(Message::bytes).collect(),
+            parts: parts.map(|part| part.len() as u32).collect(),
+            counts: messages.iter().map(|message| message.parts.len() as u32).collect(),
+            acks,
+        }
+    }
+
+    /// The request, or which of 12, 13, 14 and 15 applies.
+    pub fn request(&self) -> Result<Request, Refusal> {
+        Request::new(&self.bytes, &self.parts, &self.counts, &self.acks)
+    }
 }
 
 /// What a caller of `arbitrate` has to lend: `modules` and `seats` with an entry for each message, or more.
@@ -81,8 +101,8 @@ pub trait Interface {
     fn read_dump(&self, text: &[u8], stamps: &mut [u32], levels: &mut [u8]) -> u64;
     fn dump_timescale(&self, text: &[u8]) -> u64;
     fn arbitrate(&self, asked: &Asked, lent: Lent) -> u64;
-    /// The index of the least message, and how many comparisons found it.
-    fn least(&self, bytes: &[u8], lengths: &[u32]) -> (u64, u64);
+    /// The index of the least message, and how many comparisons found it; both 0 where 12 or 13 applies.
+    fn least(&self, asked: &Asked) -> (u64, u64);
     /// The answers of the four functions of a catalogue.
     fn place(&self, board: u32, corrections: &Catalogue, standing: &Catalogue) -> Place;
 }
@@ -230,9 +250,7 @@ impl Interface for Model {
     }
 
     fn arbitrate(&self, asked: &Asked, lent: Lent) -> u64 {
-        let (run, modules) = match Request::new(&asked.bytes, &asked.lengths, &asked.acks)
-            .and_then(|asked| runner::run(&asked))
-        {
+        let (run, modules) = match asked.request().and_then(|request| runner::run(&request)) {
             Ok(done) => done,
             Err(refusal) => return refused(refusal),
         };
@@ -243,9 +261,14 @@ impl Interface for Model {
         (run.outcome.carried.len() as u64) << 24
     }
 
-    fn least(&self, bytes: &[u8], lengths: &[u32]) -> (u64, u64) {
-        let (index, comparisons) = arbitration::least(&arbitration::cut(bytes, lengths));
-        (index as u64, comparisons as u64)
+    fn least(&self, asked: &Asked) -> (u64, u64) {
+        match messages(&asked.bytes, &asked.parts, &asked.counts) {
+            Ok(messages) => {
+                let (index, comparisons) = outcome::least(&messages);
+                (index as u64, comparisons as u64)
+            }
+            Err(_) => (0, 0),
+        }
     }
 
     fn place(&self, board: u32, corrections: &Catalogue, standing: &Catalogue) -> Place {

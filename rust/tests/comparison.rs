@@ -1,6 +1,6 @@
 //! The comparison itself: the model behind the C functions is equal to the model, and wrong sides are found.
 
-use rehearsal_model::arbitration::{cut, LEVELS, MASTERS, MESSAGE_BYTES};
+use rehearsal_model::arbitration::{messages, Message, LEVELS, MASTERS, MESSAGE_BYTES};
 use rehearsal_model::bus::frame_open_after;
 use rehearsal_model::catalogue::Catalogue;
 use rehearsal_model::compare::catalogue::wraps;
@@ -71,6 +71,15 @@ enum Wrong {
     LastNotStepped,
     LastOfEquals,
     TwoPasses,
+    PartsUnseen,
+    RefusedLeast,
+    RestartNotDrawn,
+    RestartCounted,
+    RestartUndecided,
+    LevelsOfBytes,
+    LaterRead,
+    PartsRunOut,
+    CountsUnsummed,
     SetsCounted,
     WordsLowByte,
     LosersCleared,
@@ -149,6 +158,46 @@ fn wrong_tables(side: Wrong, masters: usize, reply: u64, before: u64, lent: Lent
         _ => {}
     }
     reply
+}
+
+/// The levels as if the first restart were one bit more.
+fn undraw(asked: &Asked, count: usize, levels: &mut [u8]) {
+    let first = asked.parts.first().map_or(0, |&part| part as usize);
+    if asked.counts == [2] && first < count {
+        levels[2 + 18 * first] = 0;
+    }
+}
+
+/// The answer with a level buffer looked at as if no message had a restart.
+fn of_bytes(asked: &Asked, lent: Lent) -> u64 {
+    let mut levels = [0; LEVELS];
+    let Lent { carried, modules, seats, .. } = lent;
+    let reply = Model.arbitrate(asked, Lent { carried, levels: &mut levels, modules, seats });
+    let needed = 5 + 18 * (reply >> 24 & 0xFFFF) as usize;
+    match reply & 0xFF {
+        0 if lent.levels.len() < needed => 8,
+        0 => {
+            let written = lent.levels.len().min(levels.len());
+            lent.levels[..written].copy_from_slice(&levels[..written]);
+            reply
+        }
+        _ => reply,
+    }
+}
+
+/// The sides that are wrong about what is refused.
+fn wrong_refusals(side: Wrong, asked: &Asked, reply: u64) -> u64 {
+    let sum = |numbers: &[u32]| numbers.iter().map(|&number| u64::from(number)).sum::<u64>();
+    let counted = sum(&asked.counts);
+    match (side, reply & 0xFF) {
+        (Wrong::RestartUndecided, 16) if asked.parts.len() > asked.counts.len() => 0,
+        (Wrong::LaterRead, 14) if reply >> 8 == 0 && asked.bytes[0] & 1 == 0 => 15,
+        (Wrong::PartsRunOut, 13) if counted > asked.parts.len() as u64 => {
+            13 + 256 * asked.counts.len() as u64
+        }
+        (Wrong::CountsUnsummed, 13) if counted < asked.parts.len() as u64 => 15,
+        _ => reply,
+    }
 }
 
 impl Interface for Wrong {
@@ -312,11 +361,12 @@ impl Interface for Wrong {
     }
 
     fn arbitrate(&self, asked: &Asked, lent: Lent) -> u64 {
-        let masters = asked.lengths.len();
+        let masters = asked.counts.len();
         let Lent { carried, levels, modules, seats } = lent;
         match self {
             Wrong::FifteenMasters if masters == MASTERS => return 12,
             Wrong::FullTables if modules.len() < MASTERS => return 8,
+            Wrong::LevelsOfBytes => return of_bytes(asked, Lent { carried, levels, modules, seats }),
             _ => {}
         }
         let before = modules.first().copied().unwrap_or_default();
@@ -331,19 +381,30 @@ impl Interface for Wrong {
             Wrong::LosersCleared if count > 0 => {
                 seats[..masters].iter_mut().filter(|seat| **seat & 1 == 0).for_each(|seat| *seat |= 16)
             }
+            Wrong::RestartNotDrawn => undraw(asked, count, levels),
+            Wrong::RestartCounted if asked.parts.len() > masters && count > 0 => {
+                seats[..masters].iter_mut().filter(|seat| **seat >= 9 * 64).for_each(|seat| *seat += 9 * 32)
+            }
             Wrong::LevelsRest if count > 0 => levels.iter_mut().skip(LEVELS + 4).for_each(|level| *level = 0),
             _ => {}
         }
+        let reply = wrong_refusals(*self, asked, reply);
         wrong_tables(*self, masters, reply, before, Lent { carried, levels, modules, seats })
     }
 
-    fn least(&self, bytes: &[u8], lengths: &[u32]) -> (u64, u64) {
-        let (index, comparisons) = Model.least(bytes, lengths);
-        let messages = cut(bytes, lengths);
+    fn least(&self, asked: &Asked) -> (u64, u64) {
+        let (index, comparisons) = Model.least(asked);
+        let messages = messages(&asked.bytes, &asked.parts, &asked.counts).unwrap_or_default();
         let last = messages.iter().rposition(|message| messages.get(index as usize) == Some(message));
         match self {
             Wrong::LastOfEquals => (last.unwrap_or(0) as u64, comparisons),
             Wrong::TwoPasses => (index, 2 * comparisons),
+            Wrong::PartsUnseen => {
+                let bytes: Vec<Vec<u8>> = messages.iter().map(Message::bytes).collect();
+                let index = (0..bytes.len()).min_by_key(|&index| &bytes[index]).unwrap_or(0);
+                (index as u64, comparisons)
+            }
+            Wrong::RefusedLeast if messages.is_empty() => (0, asked.counts.len().saturating_sub(1) as u64),
             _ => (index, comparisons),
         }
     }
@@ -462,6 +523,25 @@ fn every_limit_of_arbitration_occurs() {
     }
 }
 
+/// Restarts on either side of an ending, refused and not; each fault of parts and counts, at each place.
+#[test]
+fn every_kind_of_parts_occurs() {
+    let counts = run(comparison("arbitrations"), &Model, 1, 20_000).unwrap();
+    let occurs = |kind: &str| assert!(counts.get(kind) >= 20, "{kind}: {}", counts.get(kind));
+    for number in [0, 16] {
+        for kind in ["Restart against Stop", "Restart against Byte", "Stop against Byte"] {
+            occurs(&format!("refused {number} with {kind}"));
+        }
+    }
+    let kinds = "the least in one part|the least in some parts|the least in 64 parts|cut where a part ends\
+        |cut elsewhere|levels as many as needed|levels one short|refused 13 at the first message\
+        |refused 13 at a later message|refused 13 at the number of messages|refused 14 at the first message\
+        |refused 14 at a later message|refused 13: a message of no parts|refused 13: a part of no bytes\
+        |refused 13: parts that run out|refused 13: parts left over\
+        |refused 13: parts that do not sum to the bytes|refused 13: too many bytes";
+    kinds.split('|').for_each(occurs);
+}
+
 #[test]
 fn modules_wrong_in_spi_are_found() {
     use Wrong::*;
@@ -513,6 +593,11 @@ fn wrong_arbitrations_are_found() {
     );
     check_detected("arbitrations", &[FifteenMasters, FullTables, TableBefore16, PoweredUpFirst]);
     check_detected("arbitrations", &[PastTheMasters, SeatsPastTheMasters, OldContents, LastNotStepped]);
+    check_detected("arbitrations", &[PartsUnseen, RefusedLeast, RestartNotDrawn, RestartCounted]);
+    check_detected(
+        "arbitrations",
+        &[RestartUndecided, LevelsOfBytes, LaterRead, PartsRunOut, CountsUnsummed],
+    );
 }
 
 #[test]

@@ -1,33 +1,71 @@
-//! Arbitration by 01's steps 1 to 4 over the modules' own writes, samples and ticks.
+//! Arbitration by 01's steps 1 to 4, with 02's restart, over the modules' own writes, samples and ticks.
 
-use super::{Outcome, Request, Run, MASTERS};
+use super::{Message, Outcome, Request, Run, MASTERS};
 use crate::module::{Module, AL};
 use crate::refusal::{Reason, Refusal};
 
 /// Runs the request; gives the reply and the final module of each master. Refusal 16 is seen here on the
-/// bus: after a byte acknowledged by 0, some masters that are still in have ended their message and others
-/// have not. `outcome` has it in 01's own words.
+/// bus: after a byte acknowledged by 0, the masters that are still in do not all do the same next. `outcome` has
+/// it in 02's own words.
 pub fn run(request: &Request) -> Result<(Run, Vec<Module>), Refusal> {
     let mut runner = Runner::new(request);
     runner.start();
     let mut carried = Vec::new();
     for (place, &ack) in request.acks.iter().enumerate() {
         carried.push(runner.byte(place, ack));
-        let ended = runner.remaining().filter(|&master| request.messages[master].len() == place + 1).count();
-        if ack == 0 && ended > 0 && ended < runner.remaining().count() {
-            return Err(Reason::Undecided.refusal());
-        }
-        if ack == 1 || ended > 0 {
+        if ack == 1 {
             break;
+        }
+        match runner.next()? {
+            Next::Byte => {}
+            Next::Restart => runner.restart(),
+            Next::Stop => break,
         }
     }
     runner.stop();
     Ok(runner.reply(carried))
 }
 
+/// What a master does after a byte that was acknowledged.
+#[derive(Clone, Copy, PartialEq, Eq)]
+enum Next {
+    Byte,
+    Restart,
+    Stop,
+}
+
+/// A message, and how far its master is: the part, and the next byte in it.
+struct Sender<'a> {
+    message: &'a Message,
+    part: usize,
+    byte: usize,
+}
+
+impl Sender<'_> {
+    fn next_byte(&mut self) -> u8 {
+        self.byte += 1;
+        self.message.parts[self.part][self.byte - 1]
+    }
+
+    fn next(&self) -> Next {
+        if self.byte < self.message.parts[self.part].len() {
+            Next::Byte
+        } else if self.part + 1 < self.message.parts.len() {
+            Next::Restart
+        } else {
+            Next::Stop
+        }
+    }
+
+    fn next_part(&mut self) {
+        self.part += 1;
+        self.byte = 0;
+    }
+}
+
 /// The bus with all its masters.
 struct Runner<'a> {
-    messages: &'a [Vec<u8>],
+    senders: Vec<Sender<'a>>,
     modules: Vec<Module>,
     /// The flags that each master's writes have cleared.
     cleared: Vec<u8>,
@@ -44,7 +82,7 @@ impl Runner<'_> {
     fn new(request: &Request) -> Runner<'_> {
         let masters = request.messages.len();
         let mut runner = Runner {
-            messages: &request.messages,
+            senders: request.messages.iter().map(|message| Sender { message, part: 0, byte: 0 }).collect(),
             modules: vec![Module::power_up(0, 0); masters],
             cleared: vec![0; masters],
             lost: vec![None; masters],
@@ -117,7 +155,8 @@ impl Runner<'_> {
     fn byte(&mut self, place: usize, ack: u8) -> u8 {
         let senders: Vec<usize> = self.remaining().collect();
         for &master in &senders {
-            self.write(master, Module::USISRL, self.messages[master][place]);
+            let byte = self.senders[master].next_byte();
+            self.write(master, Module::USISRL, byte);
             self.write(master, Module::USICTL0, 0xCA);
             self.write(master, Module::USICNT, 0x08);
         }
@@ -154,6 +193,38 @@ impl Runner<'_> {
         self.recorded_sample();
         self.all_tick();
         self.recorded_sample() >> 1
+    }
+
+    /// What all masters still in do next; 16 where they do not all do the same.
+    fn next(&self) -> Result<Next, Refusal> {
+        let mut nexts = self.remaining().map(|master| self.senders[master].next());
+        let first = nexts.next().expect("the least message is still in");
+        if nexts.any(|next| next != first) {
+            return Err(Reason::Undecided.refusal());
+        }
+        Ok(first)
+    }
+
+    /// 02's restart: SDA is let go and SCL rises, then SDA falls. The START holds up every loser again, at every
+    /// restart, so each lets go of SCL once more; 49h keeps its AL.
+    fn restart(&mut self) {
+        self.remaining_write(Module::USISRL, 0xFF);
+        self.remaining_write(Module::USICTL0, 0xCA);
+        self.remaining_write(Module::USICNT, 0x01);
+        self.bit_turn(false);
+        self.remaining_write(Module::USISRL, 0x00);
+        self.remaining_write(Module::USICTL0, 0xCE);
+        self.remaining_write(Module::USICTL0, 0xCA);
+        self.recorded_sample();
+        self.remaining_write(Module::USICTL1, 0x41);
+        for master in 0..self.modules.len() {
+            if self.lost[master].is_some() {
+                self.write(master, Module::USICTL1, 0x49);
+                self.write(master, Module::USICNT, 0x80);
+            } else {
+                self.senders[master].next_part();
+            }
+        }
     }
 
     /// Step 4: the STOP condition.

@@ -1,6 +1,6 @@
 //! `bench`: 40 arbitrations of the most masters with the longest messages, by the library and by the model.
 
-use rehearsal_model::arbitration::{LEVELS, MASTERS, MESSAGE_BYTES};
+use rehearsal_model::arbitration::{Message, LEVELS, MASTERS, MESSAGE_BYTES};
 use rehearsal_model::ffi::Archive;
 use rehearsal_model::packed::{Asked, Buffers, Interface, Model};
 use rehearsal_model::random::Random;
@@ -29,13 +29,13 @@ fn main() {
 fn late_losers(random: &mut Random) -> Asked {
     let mut shared: Vec<u8> = (0..MESSAGE_BYTES).map(|_| random.byte()).collect();
     shared[0] &= 0xFE;
-    let mut bytes = Vec::new();
+    let mut messages = Vec::new();
     for master in 0..MASTERS {
         let mut message = shared.clone();
         message[MESSAGE_BYTES - 1 - master % 4] ^= 1 << random.below(8);
-        bytes.extend(message);
+        messages.push(Message::of_one_part(&message));
     }
-    Asked { bytes, lengths: vec![MESSAGE_BYTES as u32; MASTERS], acks: vec![0; MESSAGE_BYTES] }
+    Asked::new(&messages, vec![0; MESSAGE_BYTES])
 }
 
 /// Buffers of just the size needed.

@@ -1,7 +1,7 @@
 //! `count library|model arbitrate|decode N`: so many equal calls and nothing else, for a count of instructions under
 //! callgrind: the difference between N and 2N calls is N calls'.
 
-use rehearsal_model::arbitration::{LEVELS, MASTERS, MESSAGE_BYTES};
+use rehearsal_model::arbitration::{Message, LEVELS, MASTERS, MESSAGE_BYTES};
 use rehearsal_model::bus::{drawing, START, STOP};
 use rehearsal_model::ffi::Archive;
 use rehearsal_model::packed::{Asked, Buffers, Interface, Model};
@@ -27,12 +27,10 @@ fn main() {
 
 /// The most masters with the longest messages, which differ in their last four bytes.
 fn arbitrate(side: &dyn Interface, count: usize) {
-    let message = |master: usize| (0..MESSAGE_BYTES).map(move |at| message_byte(at, master));
-    let asked = Asked {
-        bytes: (0..MASTERS).flat_map(message).collect(),
-        lengths: vec![MESSAGE_BYTES as u32; MASTERS],
-        acks: vec![0; MESSAGE_BYTES],
-    };
+    let bytes = |master: usize| (0..MESSAGE_BYTES).map(move |at| message_byte(at, master));
+    let message = |master: usize| Message::of_one_part(&bytes(master).collect::<Vec<_>>());
+    let messages: Vec<Message> = (0..MASTERS).map(message).collect();
+    let asked = Asked::new(&messages, vec![0; MESSAGE_BYTES]);
     let mut lent = Buffers {
         carried: vec![0; MESSAGE_BYTES],
         levels: vec![0; LEVELS],

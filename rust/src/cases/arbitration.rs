@@ -13,20 +13,48 @@ pub fn arbitration(script: &str) -> Result<String, String> {
     answer_lines(script, command)
 }
 
+/// What a command lends: bytes, the length of every part, how many parts each message has, and acknowledges.
+struct Lent {
+    bytes: Vec<u8>,
+    parts: Vec<u32>,
+    counts: Vec<u32>,
+    acks: Vec<u8>,
+}
+
 fn command(words: &[&str]) -> Result<String, String> {
-    match words {
-        ["run", carried, levels, acks, messages @ ..] => {
-            let messages = messages.iter().map(|word| bytes(word)).collect::<Result<Vec<_>, _>>()?;
-            let lengths: Vec<u32> = messages.iter().map(|message| message.len() as u32).collect();
-            let rooms = (decimal(carried)?, decimal(levels)?);
-            Ok(answer(&messages.concat(), &lengths, &digits(acks)?, rooms))
+    let (name, header, rest) = match words {
+        [name, carried, levels, acks, rest @ ..] => (*name, (carried, levels, acks), rest),
+        _ => return Err("no such command".to_string()),
+    };
+    let rooms = (decimal(header.0)?, decimal(header.1)?);
+    let acks = digits(header.2)?;
+    let lent = match (name, rest) {
+        ("run", messages) => whole(messages, acks)?,
+        ("lens", [flat, lengths @ ..]) => {
+            Lent { bytes: bytes(flat)?, parts: decimals(lengths)?, counts: vec![1; lengths.len()], acks }
         }
-        ["lens", carried, levels, acks, flat, lengths @ ..] => {
-            let rooms = (decimal(carried)?, decimal(levels)?);
-            Ok(answer(&bytes(flat)?, &decimals(lengths)?, &digits(acks)?, rooms))
+        ("parts", [flat, messages, numbers @ ..]) => {
+            let mut counts: Vec<u32> = decimals(numbers)?;
+            let parts = counts.split_off(counts.len().min(decimal(messages)?));
+            Lent { bytes: bytes(flat)?, parts, counts, acks }
         }
-        _ => Err("no such command".to_string()),
+        _ => return Err("no such command".to_string()),
+    };
+    Ok(answer(&lent, rooms))
+}
+
+/// Messages in hexadecimal, with `/` between two parts.
+fn whole(messages: &[&str], acks: Vec<u8>) -> Result<Lent, String> {
+    let mut lent = Lent { bytes: Vec::new(), parts: Vec::new(), counts: Vec::new(), acks };
+    for message in messages {
+        for part in message.split('/') {
+            let part = if part.is_empty() { Vec::new() } else { bytes(part)? };
+            lent.parts.push(part.len() as u32);
+            lent.bytes.extend(part);
+        }
+        lent.counts.push(message.split('/').count() as u32);
     }
+    Ok(lent)
 }
 
 /// A hex word of bytes; `-` for none.
@@ -49,11 +77,12 @@ fn digits(word: &str) -> Result<Vec<u8>, String> {
     word.chars().map(digit).collect::<Option<_>>().ok_or(format!("no digits `{word}`"))
 }
 
-fn answer(bytes: &[u8], lengths: &[u32], acks: &[u8], rooms: (usize, usize)) -> String {
+fn answer(lent: &Lent, rooms: (usize, usize)) -> String {
+    let Lent { bytes, parts, counts, acks } = lent;
     let (mut carried, mut levels) = (vec![UNTOUCHED; rooms.0], vec![UNTOUCHED; rooms.1]);
     let mut table = [Module::power_up(UNTOUCHED, UNTOUCHED); MASTERS];
-    let reply = arbitrate(bytes, lengths, acks, &mut carried, &mut levels, &mut table);
-    let masters = table.iter().take(lengths.len());
+    let reply = arbitrate(bytes, parts, counts, acks, &mut carried, &mut levels, &mut table);
+    let masters = table.iter().take(counts.len());
     let reply = reply_text(reply, masters);
     let carried: String = carried.iter().map(|byte| format!("{byte:02X}")).collect();
     let levels: String = levels.iter().map(|&level| level_text(level)).collect();

@@ -2,17 +2,22 @@
 
 use super::lists::{draw_room, pattern};
 use super::{equal, Counts, Difference};
-use crate::arbitration::outcome::outcome;
+use crate::arbitration::outcome::{first_difference, least, outcome};
 use crate::arbitration::{levels_for, Outcome, Request, MASTERS, MESSAGE_BYTES};
 use crate::module::AL;
 use crate::packed::{unpack, Asked, Buffers, Interface, Model};
 use crate::random::Random;
 use crate::refusal::{Reason, Refusal};
+pub use draws::draw_request;
+use draws::spoil;
 use std::cmp::Ordering;
+
+mod draws;
 
 /// One arbitration, asked of both sides.
 pub fn case(other: &dyn Interface, random: &mut Random, counts: &mut Counts) -> Result<(), Difference> {
-    let mut asked = draw_request(random);
+    let Request { messages, acks } = draw_request(random);
+    let mut asked = Asked::new(&messages, acks);
     if random.once_in(4) {
         spoil(random, &mut asked);
     }
@@ -36,9 +41,8 @@ pub fn case(other: &dyn Interface, random: &mut Random, counts: &mut Counts) -> 
 
 /// Which message is least, and how many comparisons found it: of refused messages too.
 fn compare_least(other: &dyn Interface, asked: &Asked) -> Result<(), Difference> {
-    let (bytes, lengths) = (&asked.bytes, &asked.lengths);
-    let inputs = || format!("least of {bytes:X?}, lengths {lengths:?}");
-    equal(&Model.least(bytes, lengths), &other.least(bytes, lengths), inputs, |(index, comparisons)| {
+    let inputs = || format!("least of {asked:X?}");
+    equal(&Model.least(asked), &other.least(asked), inputs, |(index, comparisons)| {
         format!("index {index}, {comparisons} comparisons")
     })
 }
@@ -53,7 +57,7 @@ fn check_cleared(asked: &Asked, (reply, lent): &(u64, Buffers)) -> Result<(), Di
     if reply & 0xFF > 0 {
         return Ok(());
     }
-    let masters = asked.lengths.len();
+    let masters = asked.counts.len();
     let cleared: Vec<u32> = lent.seats[..masters].iter().map(|seat| seat >> 1 & 15).collect();
     let inputs = || format!("flags cleared in {asked:X?}");
     equal(&vec![3; masters], &cleared, inputs, |flags| format!("{flags:?}"))
@@ -61,33 +65,120 @@ fn check_cleared(asked: &Asked, (reply, lent): &(u64, Buffers)) -> Result<(), Di
 
 /// Both tables past the masters are as they were lent, and at a refusal all of them (02: Ask 6).
 fn check_rest(asked: &Asked, before: &Buffers, (reply, after): &(u64, Buffers)) -> Result<(), Difference> {
-    let written = if reply & 0xFF == 0 { asked.lengths.len() } else { 0 };
+    let written = if reply & 0xFF == 0 { asked.counts.len() } else { 0 };
     let rest = |lent: &Buffers| (lent.modules[written..].to_vec(), lent.seats[written..].to_vec());
     let inputs = || format!("entries from {written} on, of {asked:X?}");
     equal(&rest(before), &rest(after), inputs, |rest| format!("{rest:X?}"))
 }
 
 fn count_kinds(asked: &Asked, model: &(u64, Buffers), counts: &mut Counts) {
-    let masters = asked.lengths.len();
-    counts.add(format!("refused {}", model.0 & 0xFF));
+    let masters = asked.counts.len();
+    let number = model.0 & 0xFF;
+    counts.add(format!("refused {number}"));
     counts.add(format!("{masters} masters"));
-    let longest = asked.lengths.iter().max().map_or(0, |&length| length as usize);
+    let longest = longest(asked);
     if longest.abs_diff(MESSAGE_BYTES) <= 1 {
-        counts.add(format!("refused {} with {longest} bytes at most", model.0 & 0xFF));
+        counts.add(format!("refused {number} with {longest} bytes at most"));
     }
-    if [0, 8].contains(&(model.0 & 0xFF)) {
-        for (table, length) in [("modules", model.1.modules.len()), ("seats", model.1.seats.len())] {
-            counts.add(match length.cmp(&masters) {
-                Ordering::Less => format!("{table} shorter than the masters"),
-                Ordering::Equal => format!("{table} as long as the masters"),
-                Ordering::Greater => format!("{table} longer than the masters"),
-            });
-        }
+    if [13, 14].contains(&number) {
+        let place = (model.0 >> 8 & 0xFFFF) as usize;
+        counts.add(format!("refused {number} at {}", place_words(place, masters)));
     }
-    if model.0 & 0xFF == 0 {
-        let losers = model.1.seats[..asked.lengths.len()].iter().filter(|&seat| seat & 1 == 0).count();
+    if number == 13 {
+        counts.add(format!("refused 13: {}", fault_words(asked)));
+    }
+    if [0, 8].contains(&number) {
+        count_rooms(masters, &model.1, counts);
+    }
+    if let Ok(request) = asked.request() {
+        count_meetings(&request, number, counts);
+        count_levels(&request, model.1.levels.len(), counts);
+    }
+    if number == 0 {
+        let losers = model.1.seats[..masters].iter().filter(|&seat| seat & 1 == 0).count();
         counts.add(format!("{losers} lost"));
         counts.add(if model.0 >> 24 & 0xFF > 8 { "carried over 8 bytes" } else { "carried 1 to 8 bytes" });
+    }
+}
+
+/// The bytes of the longest message, whatever is lent.
+fn longest(asked: &Asked) -> usize {
+    let mut parts = asked.parts.iter();
+    let own = |count: &u32| parts.by_ref().take(*count as usize).map(|&part| part as usize).sum();
+    asked.counts.iter().map(own).max().unwrap_or(0)
+}
+
+fn place_words(place: usize, masters: usize) -> &'static str {
+    match place {
+        0 => "the first message",
+        _ if place < masters => "a later message",
+        _ => "the number of messages",
+    }
+}
+
+/// What 13 is given for, where the faults allow to say it in a word.
+fn fault_words(asked: &Asked) -> &'static str {
+    let sum = |numbers: &[u32]| numbers.iter().map(|&number| u64::from(number)).sum::<u64>();
+    let (counted, lengths) = (sum(&asked.counts), sum(&asked.parts));
+    if asked.counts.contains(&0) {
+        "a message of no parts"
+    } else if asked.parts.contains(&0) {
+        "a part of no bytes"
+    } else if counted > asked.parts.len() as u64 {
+        "parts that run out"
+    } else if counted < asked.parts.len() as u64 {
+        "parts left over"
+    } else if lengths != asked.bytes.len() as u64 {
+        "parts that do not sum to the bytes"
+    } else {
+        "too many bytes"
+    }
+}
+
+/// How long the tables are, beside what is needed.
+fn count_rooms(masters: usize, lent: &Buffers, counts: &mut Counts) {
+    for (table, length) in [("modules", lent.modules.len()), ("seats", lent.seats.len())] {
+        counts.add(match length.cmp(&masters) {
+            Ordering::Less => format!("{table} shorter than the masters"),
+            Ordering::Equal => format!("{table} as long as the masters"),
+            Ordering::Greater => format!("{table} longer than the masters"),
+        });
+    }
+}
+
+/// Whether the buffer for levels is at the border.
+fn count_levels(request: &Request, room: usize, counts: &mut Counts) {
+    let Ok(outcome) = outcome(request) else { return };
+    let needed = outcome.levels.len();
+    if needed > levels_for(outcome.carried.len(), 0) && room == needed {
+        counts.add("levels as many as needed");
+    } else if needed > levels_for(outcome.carried.len(), 0) && room + 1 == needed {
+        counts.add("levels one short");
+    }
+}
+
+/// In how many parts the least message is, where it is cut, and how the others part from it.
+fn count_meetings(request: &Request, number: u64, counts: &mut Counts) {
+    let least = &request.messages[least(&request.messages).0];
+    counts.add(match least.parts.len() {
+        1 => "the least in one part",
+        MESSAGE_BYTES => "the least in 64 parts",
+        _ => "the least in some parts",
+    });
+    let ends = least.parts.iter().scan(0, |end, part| {
+        *end += part.len();
+        Some(*end)
+    });
+    if let Some(place) = request.acks.iter().position(|&ack| ack == 1) {
+        let at_an_end = ends.take(least.parts.len() - 1).any(|end| end == place + 1);
+        counts.add(if at_an_end { "cut where a part ends" } else { "cut elsewhere" });
+    }
+    for difference in request.messages.iter().filter_map(|other| first_difference(least, other)) {
+        if difference.is_at_an_ending() {
+            let kind = format!("{:?} against {:?}", difference.one, difference.other);
+            let kind = kind.split('(').next().unwrap_or_default();
+            counts.add(format!("refused {number} with {kind}"));
+        }
     }
 }
 
@@ -100,16 +191,15 @@ struct Visible {
 
 /// The other side's answer against the outcome from messages and acknowledges alone.
 fn compare_outcome(asked: &Asked, before: &Buffers, answer: &(u64, Buffers)) -> Result<(), Difference> {
-    let Ok(request) = Request::new(&asked.bytes, &asked.lengths, &asked.acks) else {
-        return Ok(());
-    };
+    let Ok(request) = asked.request() else { return Ok(()) };
     let masters = request.messages.len();
     let expected = match outcome(&request).and_then(|outcome| enough(outcome, masters, before)) {
         Ok(outcome) => Visible { refusal: 0, outcome: Some(outcome) },
         Err(refusal) => Visible { refusal: u64::from(refusal.number()), outcome: None },
     };
     let inputs = || format!("the outcome of {request:X?}");
-    equal(&expected, &visible(masters, answer), inputs, |visible| format!("{visible:X?}"))
+    let levels = expected.outcome.as_ref().map_or(0, |outcome| outcome.levels.len());
+    equal(&expected, &visible(masters, levels, answer), inputs, |visible| format!("{visible:X?}"))
 }
 
 /// Refusal 8, after all others.
@@ -124,7 +214,8 @@ fn enough(outcome: Outcome, masters: usize, lent: &Buffers) -> Result<Outcome, R
     Ok(outcome)
 }
 
-fn visible(masters: usize, (reply, lent): &(u64, Buffers)) -> Visible {
+/// What an answer says; `levels` is how many of them were to be written.
+fn visible(masters: usize, levels: usize, (reply, lent): &(u64, Buffers)) -> Visible {
     let refusal = reply & 0xFF;
     if refusal > 0 {
         return Visible { refusal, outcome: None };
@@ -132,7 +223,7 @@ fn visible(masters: usize, (reply, lent): &(u64, Buffers)) -> Visible {
     let count = (reply >> 24 & 0xFFFF) as usize;
     let outcome = Outcome {
         carried: lent.carried[..count].to_vec(),
-        levels: lent.levels[..levels_for(count)].to_vec(),
+        levels: lent.levels[..levels.min(lent.levels.len())].to_vec(),
         remaining: of_masters(masters, |master| lent.seats[master] & 1 == 1),
         positions: of_masters(masters, |master| (lent.seats[master] >> 5) as u16),
         arbitration_lost: of_masters(masters, |master| unpack(lent.modules[master]).is(AL)),
@@ -145,111 +236,13 @@ fn of_masters<T: Default>(masters: usize, one: impl Fn(usize) -> T) -> [T; MASTE
     std::array::from_fn(|place| if place < masters { one(place) } else { T::default() })
 }
 
-/// Messages that share beginnings, of one master up to the most, and acknowledges mostly 0.
-pub fn draw_request(random: &mut Random) -> Asked {
-    let base = draw_message(random);
-    let most = random.pick(&[3, 8, MASTERS]);
-    let masters = random.between(1, most);
-    let messages: Vec<Vec<u8>> = (0..masters).map(|_| relative(random, &base)).collect();
-    let longest = messages.iter().map(Vec::len).max().unwrap_or(0);
-    let refusing = random.pick(&[2, 8, 1000]);
-    Asked {
-        bytes: messages.concat(),
-        lengths: messages.iter().map(|message| message.len() as u32).collect(),
-        acks: (0..longest).map(|_| u8::from(random.once_in(refusing))).collect(),
-    }
-}
-
-/// Most are short, some are as long as can be; the first byte is even (a write).
-fn draw_message(random: &mut Random) -> Vec<u8> {
-    let length = match random.below(16) {
-        0..=1 => MESSAGE_BYTES - random.below(2),
-        2..=4 => random.between(1, MESSAGE_BYTES),
-        _ => random.between(1, 5),
-    };
-    let mut message: Vec<u8> = (0..length).map(|_| random.byte()).collect();
-    message[0] &= 0xFE;
-    message
-}
-
-/// The base message, a beginning of it, a longer one, one that leaves it at some bit, or one of its own.
-fn relative(random: &mut Random, base: &[u8]) -> Vec<u8> {
-    let mut message = base.to_vec();
-    match random.below(8) {
-        0..=1 => {}
-        2 => message.truncate(random.between(1, base.len())),
-        3 => message.extend((0..random.between(1, 3)).map(|_| random.byte())),
-        4 => message = draw_message(random),
-        _ => {
-            let place = random.below(base.len());
-            message[place] ^= 1 << random.below(8);
-            let tail = random.between(place + 1, MESSAGE_BYTES.min(place + 4));
-            message.resize(tail.max(base.len() - random.below(base.len() - place)), 0x5A);
-        }
-    }
-    message.truncate(MESSAGE_BYTES);
-    message[0] &= 0xFE;
-    message
-}
-
-/// One to three faults, so that the order of the refusals shows too.
-fn spoil(random: &mut Random, asked: &mut Asked) {
-    for _ in 0..random.between(1, 3) {
-        let master = random.below(asked.lengths.len().max(1));
-        match random.below(10) {
-            0 => asked.lengths.clear(),
-            1 => too_many(random, asked),
-            2 if master < asked.lengths.len() => {
-                asked.lengths[master] = random.pick(&[0, MESSAGE_BYTES as u32 + 1, 300, u32::MAX])
-            }
-            3 => asked.bytes.push(random.byte()),
-            4 => drop(asked.bytes.pop()),
-            5 => make_odd(asked, master),
-            6 => drop(asked.acks.pop()),
-            7 => asked.acks.push(random.byte() % 3),
-            8 => too_long(asked),
-            _ if asked.acks.is_empty() => {}
-            _ => {
-                let place = random.below(asked.acks.len());
-                asked.acks[place] = random.pick(&[2, 3, 255]);
-            }
-        }
-    }
-}
-
-/// One message more than the most, or a few; the lengths sum to the bytes as they did.
-fn too_many(random: &mut Random, asked: &mut Asked) {
-    let more = random.pick(&[1, 1, 2, 5]);
-    while asked.lengths.len() < MASTERS + more {
-        asked.lengths.push(1);
-        asked.bytes.push(0x90);
-    }
-}
-
-/// The last message has one byte more than the most; the acknowledges follow, and so do the bytes.
-fn too_long(asked: &mut Asked) {
-    let Some(last) = asked.lengths.last_mut() else { return };
-    let more = (MESSAGE_BYTES + 1).saturating_sub(*last as usize);
-    *last += more as u32;
-    asked.bytes.resize(asked.bytes.len() + more, 0x5A);
-    asked.acks.resize(asked.acks.len().max(MESSAGE_BYTES + 1), 0);
-}
-
-/// The first byte of a message becomes odd.
-fn make_odd(asked: &mut Asked, master: usize) {
-    let first: usize = asked.lengths.iter().take(master).map(|&length| length.min(100) as usize).sum();
-    if let Some(byte) = asked.bytes.get_mut(first) {
-        *byte |= 1;
-    }
-}
-
 /// Buffers with a pattern in them: exact, too short or with a rest; the tables seldom too short.
 fn draw_buffers(random: &mut Random, asked: &Asked) -> Buffers {
-    let request = Request::new(&asked.bytes, &asked.lengths, &asked.acks);
-    let count = request.and_then(|request| outcome(&request)).map_or(0, |outcome| outcome.carried.len());
+    let outcome = asked.request().and_then(|request| outcome(&request));
+    let (count, recorded) = outcome.map_or((0, 5), |outcome| (outcome.carried.len(), outcome.levels.len()));
     let salt = random.bits();
     let fill = |length: usize| (0..length as u64).map(move |index| pattern(salt, index));
-    let masters = asked.lengths.len();
+    let masters = asked.counts.len();
     let table = |random: &mut Random| match random.below(32) {
         0 => random.below(masters + 1),
         1 => masters.saturating_sub(1),
@@ -258,7 +251,7 @@ fn draw_buffers(random: &mut Random, asked: &Asked) -> Buffers {
     };
     Buffers {
         carried: fill(draw_room(random, count)).map(|bits| bits as u8).collect(),
-        levels: fill(draw_room(random, levels_for(count))).map(|bits| bits as u8).collect(),
+        levels: fill(draw_room(random, recorded)).map(|bits| bits as u8).collect(),
         modules: fill(table(random)).collect(),
         seats: fill(table(random)).map(|bits| bits as u32).collect(),
     }

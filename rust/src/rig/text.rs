@@ -133,6 +133,11 @@ pub fn hex(bytes: &[u8]) -> String {
     bytes.iter().map(|byte| format!("{byte:02X}")).collect::<Vec<_>>().join(" ")
 }
 
+/// The parts of a message in hexadecimal, with ` / ` between two.
+pub fn parted(parts: &[Vec<u8>]) -> String {
+    parts.iter().map(|part| hex(part)).collect::<Vec<_>>().join(" / ")
+}
+
 /// A word with `?` for each control byte.
 pub fn printable(word: &str) -> String {
     word.chars().map(|letter| if is_control(letter) { '?' } else { letter }).collect()

@@ -106,7 +106,8 @@ fn only(program: &str, source: &str) -> String {
     })
 }
 
-/// One program that writes the answers of each mutant to a file; a mutant that panics answers nothing.
+/// One program that writes the answers of each mutant to a file; one that panics answers case by case, and nothing
+/// where it panics.
 fn build(folder: &Path, program: &str, count: usize) -> PathBuf {
     let mut source = "#![allow(warnings)]\n".to_string();
     let mut calls = String::new();
@@ -117,7 +118,14 @@ fn build(folder: &Path, program: &str, count: usize) -> PathBuf {
     source += "fn answer(index: usize, answers: fn(&str) -> Result<String, String>) {\n\
         \x20   let mut arguments = std::env::args().skip(1);\n\
         \x20   let script = std::fs::read_to_string(arguments.next().unwrap()).unwrap();\n\
-        \x20   let text = std::panic::catch_unwind(|| answers(&script).unwrap()).unwrap_or_default();\n\
+        \x20   let ask = |text: &str| std::panic::catch_unwind(|| answers(text).unwrap());\n\
+        \x20   let each = || script.split_inclusive('\\n').fold(vec![String::new()], |mut cases, line| {\n\
+        \x20       if line.starts_with('#') { cases.push(String::new()); }\n\
+        \x20       cases.last_mut().unwrap().push_str(line);\n\
+        \x20       cases\n\
+        \x20   });\n\
+        \x20   let one_by_one = |_| each().iter().map(|case| ask(case).unwrap_or_default()).collect();\n\
+        \x20   let text = ask(&script).unwrap_or_else(one_by_one);\n\
         \x20   std::fs::write(format!(\"{}/{index}.answers\", arguments.next().unwrap()), text).unwrap();\n}\n";
     write(folder.join("main.rs"), format!("{source}fn main() {{\n{calls}}}\n")).unwrap();
     let built = folder.join("mutants");

@@ -93,6 +93,27 @@ fn every_board_may_be_silenced() {
 }
 
 #[test]
+fn corrections_in_parts() {
+    let output = corrected("", NIGHT, "load x\nboard p 50 26 / 62\nboard q 50 26 / 64 FF\nend 1\n");
+    let expected = "\
+load x first
+  corrected 0 p, 1 q
+  WON    0 p  50 26 / 62               sent 3 of 3 bytes
+  lost   1 q  50 26 / 64 FF            byte 2 bit 5: sends 1, the bus is 0; 4 bytes still to send
+";
+    assert!(output.starts_with(expected), "{output}");
+    let standing = NIGHT.replace("board q 50 26 FF", "board q 50 26 / 62");
+    let output = corrected("", &standing, "load x\nboard r 50 27\nend 1\n");
+    let words = "  corrected 2 r\n  refused 16: q (line 4) restarts after 50 26, acknowledged, where p (line 3) ends\n";
+    assert!(output.contains(words), "{output}");
+    for bytes in ["/", "/ 50", "50 /", "50 / / 52"] {
+        let output = corrected("", NIGHT, &format!("load x\nboard p {bytes}\nend 1\n"));
+        let words = "! corrections line 2: / needs a byte before it and one after it; nothing is rehearsed\n";
+        assert!(output.starts_with(words), "{bytes}: {output}");
+    }
+}
+
+#[test]
 fn a_message_that_is_too_long_or_empty() {
     let night = |message: &str| format!("boards p q\nload x\nboard p{message}\nboard q 62\nack all\nend 1\n");
     let long = " 50".repeat(70);

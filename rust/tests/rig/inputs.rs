@@ -58,7 +58,7 @@ fn clash_blocks_reach_every_answer() {
         |CUT after |not acknowledged; | not acknowledged\n|  note: no ack line|  NOT AS EXPECTED\
         |  regs   |  carried |  sda:|  refused 8: |every board is silent|refused 12: no board\
         |boards, and at most|has no bytes|bytes, and at most|which is odd|, the longest|neither 0 nor 1\
-        |goes on with|  ERROR: not rehearsed|  WON    10 |  WON     9|  in     15 |  lost   15 |  lost    0 \
+        |goes on with|  ERROR: not rehearsed|restarts after|ends with| ends\n| / |restarts with| ACK / |  WON    10 |  WON     9|  in     15 |  lost   15 |  lost    0 \
         |  silent 15 |  silent  0 |  regs   15 |  regs    0 |has 65 bytes|sent 64 of 64 bytes";
     check_reach("clash", &texts.split('|').collect::<Vec<_>>());
 }
@@ -67,7 +67,7 @@ fn clash_blocks_reach_every_answer() {
 fn clash_tables_reach_every_answer() {
     let texts = " sent\n|sent, no ack line|CUT at byte |not sent\n|, the last\n|UNDECIDED at byte|EXPECTED \
         |REFUSED 8: too|REFUSED 12: every|REFUSED 12: no board|REFUSED 12: 17 boards|REFUSED 13: \
-        |REFUSED 14: |acknowledges for |: acknowledge |REFUSED 16: |ERROR: not rehearsed|~ |~\n\
+        |REFUSED 14: | restarts with | begins | restarts in |acknowledges for |: acknowledge |REFUSED 16: |ERROR: not rehearsed|~ |~\n\
         |! cannot open|! cannot read|\nsee | and 1 more|\nok |\nlook |\nrefused 1|\nerror | in error\
         | undecided| not as expected|faults outside";
     check_reach("clash", &texts.split('|').collect::<Vec<_>>());
@@ -82,7 +82,7 @@ fn clash_files_reach_every_error() {
         |the title is longer|this name was taken|more than 4096 loads\
         |expected load, board, ack, expect or end|expected load, board or ack|boards must stand\
         |expected board NAME|no board '|a second line for board|expected nothing after\
-        |expected bytes of two|expected bytes of one or two|a second ack line|expected all, or\
+        |expected bytes of two|expected bytes of one or two|/ needs a byte before it and one after it\n|a second ack line|expected all, or\
         |a second expect line|expected expect NAME N/M\n|expected expect NAME N/M, not|no line for board\
         |this load may be cut short|expected end N, the number of loads\n\
         |expected end N, the number of loads, not|end says|after end (line|! the file ends without\
@@ -98,7 +98,7 @@ fn corrections_reach_every_answer() {
         |expected a name of 1 to 32 bytes;|expected a name of 1 to 32 bytes, not|expected load NAME, one word\
         |this name was taken on line|more than 256 corrections|expected board NAME and its bytes, or - for none;\
         |expected a name of 1 to 16 bytes|a second line for board|expected nothing after -|two hexadecimal digits\
-        |bytes, and at most 64 may be sent;|expected end N, the number of loads;|number of loads, not\
+        |bytes, and at most 64 may be sent;|/ needs a byte before it and one after it;|expected end N, the number of loads;|number of loads, not\
         |: end says|: after end (line|: longer than 4096 bytes;|: a byte that is no text;";
     check_reach("clash", &texts.split('|').collect::<Vec<_>>());
 }

@@ -11,6 +11,7 @@ mod differ;
 mod encode;
 mod inputs;
 mod refusals;
+mod restarts;
 mod session;
 
 use rehearsal_model::rig::answer;

@@ -5,8 +5,9 @@ use super::load::Load;
 use super::refused;
 use super::registers::{flags, spelt, waveform};
 use super::rehearsal::{Rehearsal, Result, Verdict};
+use crate::arbitration::Message;
 use crate::rig::arguments::Options;
-use crate::rig::text::{counted, hex};
+use crate::rig::text::{counted, parted};
 
 pub fn block(load: &Load, boards: &Boards, result: &Result, options: &Options) -> String {
     let mut lines = vec![format!("load {}", load.heading())];
@@ -42,8 +43,8 @@ pub fn trace(result: &Result) -> String {
     levels.map(|(sample, level)| format!("{} {level}\n", 50 * sample)).collect()
 }
 
-fn board_line(word: &str, label: &str, message: &[u8], fate: &str) -> String {
-    format!("  {word:<6} {label}  {:<23}  {fate}", hex(message))
+fn board_line(word: &str, label: &str, message: &Message, fate: &str) -> String {
+    format!("  {word:<6} {label}  {:<23}  {fate}", parted(&message.parts))
 }
 
 /// The boards still in, the losers and the silent.
@@ -58,7 +59,7 @@ fn in_and_out(load: &Load, boards: &Boards, rehearsal: &Rehearsal) -> Vec<String
         lines.push(board_line(word, &label, message, &fate(rehearsal, message)));
     }
     for (board, message, place) in rehearsal.losers() {
-        let (byte, bit, bytes) = (place / 9, place % 9, counted(message.len(), "byte"));
+        let (byte, bit, bytes) = (place / 9, place % 9, counted(message.length(), "byte"));
         let fate = format!("byte {byte} bit {bit}: sends 1, the bus is 0; {bytes} still to send");
         lines.push(board_line("lost", &boards.label(board.number, columns), message, &fate));
     }
@@ -79,18 +80,18 @@ fn between(rehearsal: &Rehearsal) -> String {
 }
 
 /// What became of a message that is still in.
-fn fate(rehearsal: &Rehearsal, message: &[u8]) -> String {
+fn fate(rehearsal: &Rehearsal, message: &Message) -> String {
     let carried = rehearsal.carried().len();
-    let of = format!("{carried} of {}", counted(message.len(), "byte"));
+    let of = format!("{carried} of {}", counted(message.length(), "byte"));
     let (place, byte) = rehearsal.last_carried();
     match rehearsal.verdict {
         Verdict::Sent => format!("sent {of}"),
         Verdict::Undecided => format!("{of} carried"),
         Verdict::Cut => {
             let cut = format!("CUT after {of}: byte {place} ({byte:02X}) not acknowledged");
-            match &message[carried..] {
+            match &message.rest(carried).parts[..] {
                 [] => cut,
-                rest => format!("{cut}; {} not sent", hex(rest)),
+                rest => format!("{cut}; {} not sent", parted(rest)),
             }
         }
     }
@@ -121,14 +122,16 @@ fn registers(load: &Load, boards: &Boards, rehearsal: &Rehearsal) -> Vec<String>
     words.collect()
 }
 
-/// The carried bytes with their acknowledges, and the two lines of the bus.
+/// The carried bytes with their acknowledges, ` / ` where the bus restarted, and the two lines of the bus.
 fn bus(rehearsal: &Rehearsal) -> Vec<String> {
-    let word = |ack: &u8| if *ack == 0 { "ACK" } else { "NACK" };
-    let bytes = rehearsal.carried().iter().zip(&rehearsal.acks);
-    let carried: Vec<String> = bytes.map(|(byte, ack)| format!("{byte:02X} {}", word(ack))).collect();
+    let message = rehearsal.winners()[0].1.beginning(rehearsal.carried().len());
+    let mut acks = rehearsal.acks.iter().map(|&ack| if ack == 0 { "ACK" } else { "NACK" });
+    let mut byte = |byte: &u8| format!("{byte:02X} {}", acks.next().expect("an acknowledge a byte"));
+    let mut part = |part: &Vec<u8>| part.iter().map(&mut byte).collect::<Vec<_>>().join(", ");
+    let carried: Vec<String> = message.parts.iter().map(&mut part).collect();
     let levels = &rehearsal.run.outcome.levels;
     vec![
-        format!("  carried {}", carried.join(", ")),
+        format!("  carried {}", carried.join(" / ")),
         format!("  scl:{}", waveform(levels.iter().map(|level| level % 2 == 1))),
         format!("  sda:{}", waveform(levels.iter().map(|level| level / 2 == 1))),
     ]

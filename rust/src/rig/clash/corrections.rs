@@ -3,7 +3,7 @@
 use super::boards::{check_name, Boards};
 use super::load::{message, Board, Load, NAME_BYTES};
 use super::reading::said_by_end;
-use crate::arbitration::MESSAGE_BYTES;
+use crate::arbitration::{Message, MESSAGE_BYTES};
 use crate::catalogue::{find, Catalogue};
 use crate::refusal::Reason;
 use crate::rig::files::Contents;
@@ -12,11 +12,11 @@ use crate::rig::text::{counted, expected, lines};
 /// The most corrections.
 const CORRECTIONS: usize = 256;
 
-/// What one board sends tonight; no bytes: nothing.
+/// What one board sends tonight; no parts: nothing.
 struct Correction {
     line: usize,
     board: String,
-    bytes: Vec<u8>,
+    message: Message,
 }
 
 /// The corrections of one load, and whether it was met in a file.
@@ -123,18 +123,18 @@ impl Corrections {
         if let Some(first) = load.boards.iter().find(|correction| correction.board == board) {
             return Err(format!("a second line for board {board}, the first is line {}", first.line));
         }
-        let bytes = match message(&words[1..])? {
-            None => Vec::new(),
-            Some(bytes) if bytes.is_empty() => return Err(nothing()),
-            Some(bytes) if bytes.len() > MESSAGE_BYTES => {
-                let count = bytes.len();
+        let message = match message(&words[1..])? {
+            None => Message::default(),
+            Some(message) if message.parts.is_empty() => return Err(nothing()),
+            Some(message) if message.length() > MESSAGE_BYTES => {
+                let count = message.length();
                 return Err(format!(
                     "board {board} has {count} bytes, and at most {MESSAGE_BYTES} may be sent"
                 ));
             }
-            Some(bytes) => bytes,
+            Some(message) => message,
         };
-        load.boards.push(Correction { line, board: board.to_string(), bytes });
+        load.boards.push(Correction { line, board: board.to_string(), message });
         Ok(())
     }
 
@@ -164,7 +164,7 @@ impl Corrections {
         let mut corrections = Vec::new();
         for correction in &tonight.boards {
             match boards.number(&correction.board) {
-                Ok(number) => corrections.push((number, correction.bytes.clone())),
+                Ok(number) => corrections.push((number, correction.message.clone())),
                 Err(words) => {
                     load.in_error = true;
                     wrong.push(format!("corrections line {}: load {}: {words}", correction.line, load.name));
@@ -172,7 +172,7 @@ impl Corrections {
             }
         }
         if !load.in_error {
-            corrections.sort();
+            corrections.sort_by_key(|(number, _)| *number);
             lay(load, &corrections);
         }
         wrong
@@ -188,27 +188,32 @@ impl Corrections {
 }
 
 /// Messages by the numbers of their boards, which rise.
-fn catalogue<'a>(messages: impl Iterator<Item = (usize, &'a [u8])>) -> Catalogue {
+fn catalogue<'a>(messages: impl Iterator<Item = (usize, &'a Message)>) -> Catalogue {
     let mut catalogue = Catalogue { block: Vec::new(), boards: Vec::new(), lengths: Vec::new() };
     for (board, message) in messages {
-        catalogue.block.extend(message);
+        catalogue.block.extend(message.bytes());
         catalogue.boards.push(board as u32);
-        catalogue.lengths.push(message.len() as u32);
+        catalogue.lengths.push(message.length() as u32);
     }
     catalogue
 }
 
-/// What each board sends tonight.
-fn lay(load: &mut Load, corrections: &[(usize, Vec<u8>)]) {
-    let tonight = catalogue(corrections.iter().map(|(board, bytes)| (*board, &bytes[..])));
-    let standing = catalogue(load.senders().into_iter().map(|(board, bytes)| (board.number, bytes)));
+/// What each board sends tonight: the part that the catalogues say, in the parts of its own line.
+fn lay(load: &mut Load, corrections: &[(usize, Message)]) {
+    let tonight = catalogue(corrections.iter().map(|(board, message)| (*board, message)));
+    let standing = catalogue(load.senders().into_iter().map(|(board, message)| (board.number, message)));
     load.corrected = corrections.iter().map(|(board, _)| *board).collect();
     for Board { number, message, .. } in &mut load.boards {
         match find(*number as u32, &tonight, &standing) {
             Ok(part) if part.corrected => {
-                *message = Some(tonight.block[part.bytes].to_vec()).filter(|bytes| !bytes.is_empty());
+                let own = corrections.iter().find(|(board, _)| board == number).expect("a correction");
+                assert_eq!(tonight.block[part.bytes], own.1.bytes());
+                *message = Some(own.1.clone()).filter(|message| !message.parts.is_empty());
             }
-            Ok(part) => *message = Some(standing.block[part.bytes].to_vec()),
+            Ok(part) => {
+                let own = message.as_ref().expect("a message that stands");
+                assert_eq!(standing.block[part.bytes], own.bytes());
+            }
             Err(refusal) if refusal.reason == Reason::BoardAbsent => *message = None,
             Err(refusal) => load.not_laid = Some(refusal),
         }

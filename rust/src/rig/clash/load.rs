@@ -1,17 +1,20 @@
 //! A load as the lines of the file give it.
 
 use super::boards::Boards;
+use crate::arbitration::Message;
 use crate::refusal::Refusal;
 use crate::rig::text::{beginning, byte, decimal, expected, short_byte};
 
 pub const NAME_BYTES: usize = 32;
 const TITLE_BYTES: usize = 64;
 
+const EMPTY_PART: &str = "/ needs a byte before it and one after it";
+
 /// A board of a load: its number, the line it stands on and its message; none: it is silent.
 pub struct Board {
     pub number: usize,
     pub line: usize,
-    pub message: Option<Vec<u8>>,
+    pub message: Option<Message>,
 }
 
 /// An `ack` line.
@@ -79,7 +82,7 @@ impl Load {
     /// `board NAME ..`, or `board ..` in the old form.
     pub fn board(&mut self, line: usize, words: &[&str], boards: &Boards) -> Result<(), String> {
         if !boards.are_named() {
-            let message = bytes("bytes of one or two hexadecimal digits", words, short_byte)?;
+            let message = parts("bytes of one or two hexadecimal digits", words, short_byte)?;
             let number = self.boards.len();
             self.boards.push(Board { number, line, message: Some(message) });
             return Ok(());
@@ -140,21 +143,43 @@ impl Load {
     }
 
     /// The boards that send, in the order of their numbers, each with its message.
-    pub fn senders(&self) -> Vec<(&Board, &[u8])> {
+    pub fn senders(&self) -> Vec<(&Board, &Message)> {
         let mut senders: Vec<_> =
-            self.boards.iter().filter_map(|board| Some((board, board.message.as_deref()?))).collect();
+            self.boards.iter().filter_map(|board| Some((board, board.message.as_ref()?))).collect();
         senders.sort_by_key(|(board, _)| board.number);
         senders
     }
 }
 
-/// What a board sends: bytes, or nothing at all after `-`.
-pub fn message(words: &[&str]) -> Result<Option<Vec<u8>>, String> {
+/// What a board sends: parts of bytes, or nothing at all after `-`.
+pub fn message(words: &[&str]) -> Result<Option<Message>, String> {
     match words {
         ["-"] => Ok(None),
         ["-", extra, ..] => Err(expected("nothing after -", Some(extra))),
-        _ => bytes("bytes of two hexadecimal digits", words, byte).map(Some),
+        _ => parts("bytes of two hexadecimal digits", words, byte).map(Some),
     }
+}
+
+/// Bytes with `/` between two parts, word by word; the first that is wrong is the error. No word at all is a
+/// message of no parts.
+fn parts(what: &str, words: &[&str], one: impl Fn(&str) -> Option<u8>) -> Result<Message, String> {
+    let mut message = Message::default();
+    let mut part = Vec::new();
+    for word in words {
+        if *word != "/" {
+            part.push(one(word).ok_or_else(|| expected(what, Some(word)))?);
+        } else if part.is_empty() {
+            return Err(EMPTY_PART.to_string());
+        } else {
+            message.parts.push(std::mem::take(&mut part));
+        }
+    }
+    match part.is_empty() {
+        false => message.parts.push(part),
+        true if message.parts.is_empty() => {}
+        true => return Err(EMPTY_PART.to_string()),
+    }
+    Ok(message)
 }
 
 /// Each word by itself; the first that is none is the error.

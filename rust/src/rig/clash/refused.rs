@@ -3,9 +3,10 @@
 use super::boards::Boards;
 use super::load::{Board, Load};
 use super::rehearsal::acknowledges;
-use crate::arbitration::{MASTERS, MESSAGE_BYTES};
+use crate::arbitration::outcome::{first_difference, least, Symbol};
+use crate::arbitration::{Message, MASTERS, MESSAGE_BYTES};
 use crate::refusal::{Reason, Refusal};
-use crate::rig::text::{counted, hex};
+use crate::rig::text::{counted, parted};
 
 /// The words in a block and those in a row, both without the number.
 pub struct Words {
@@ -20,7 +21,7 @@ pub fn words(load: &Load, boards: &Boards, refusal: Refusal) -> Words {
         Reason::MessageLength => length(boards, senders[refusal.place]),
         Reason::ReadMessage => read(boards, senders[refusal.place]),
         Reason::Acknowledges => acks(load, boards, &senders),
-        Reason::Undecided => begins(boards, &senders),
+        Reason::Undecided => undecided(load, boards, &senders),
         Reason::BoardsDoNotRise => pair("the boards do not rise", "the boards do not rise"),
         Reason::BoardLengths => pair("the lengths do not fit", "the lengths do not fit"),
         _ => pair("the reply needs more room than was lent", "too little room"),
@@ -47,9 +48,9 @@ fn no_or_many(boards: &Boards, count: usize) -> Words {
     }
 }
 
-fn length(boards: &Boards, (board, message): (&Board, &[u8])) -> Words {
+fn length(boards: &Boards, (board, message): (&Board, &Message)) -> Words {
     let (placed, called) = (placed(boards, board), boards.called(board.number));
-    match message.len() {
+    match message.length() {
         0 => pair(format!("{placed} has no bytes"), format!("{called} has no bytes")),
         many => pair(
             format!("{placed} has {many} bytes, and at most {MESSAGE_BYTES} may be sent"),
@@ -58,20 +59,23 @@ fn length(boards: &Boards, (board, message): (&Board, &[u8])) -> Words {
     }
 }
 
-fn read(boards: &Boards, (board, message): (&Board, &[u8])) -> Words {
-    let (placed, first) = (placed(boards, board), message[0]);
+/// The first part that is a read: the message begins with it or restarts with it.
+fn read(boards: &Boards, (board, message): (&Board, &Message)) -> Words {
+    let part = message.read().expect("a part that is a read");
+    let (placed, first) = (placed(boards, board), message.parts[part][0]);
+    let does = if part == 0 { "begins" } else { "restarts" };
     pair(
-        format!("{placed} begins with {first:02X}, which is odd, a read"),
-        format!("{} begins with {first:02X}", boards.called(board.number)),
+        format!("{placed} {does} with {first:02X}, which is odd, a read"),
+        format!("{} {does} with {first:02X}", boards.called(board.number)),
     )
 }
 
-fn acks(load: &Load, boards: &Boards, senders: &[(&Board, &[u8])]) -> Words {
+fn acks(load: &Load, boards: &Boards, senders: &[(&Board, &Message)]) -> Words {
     let acks = acknowledges(load);
     let line = load.acks.as_ref().map_or(0, |acks| acks.line);
-    let longest = senders.iter().map(|(_, message)| message.len()).max().unwrap_or(0);
+    let longest = senders.iter().map(|(_, message)| message.length()).max().unwrap_or(0);
     if acks.len() != longest {
-        let first = senders.iter().find(|(_, message)| message.len() == longest).expect("the longest");
+        let first = senders.iter().find(|(_, message)| message.length() == longest).expect("the longest");
         let (count, bytes) = (counted(acks.len(), "acknowledge"), counted(longest, "byte"));
         let placed = placed(boards, first.0);
         return pair(
@@ -87,16 +91,30 @@ fn acks(load: &Load, boards: &Boards, senders: &[(&Board, &[u8])]) -> Words {
     )
 }
 
-fn begins(boards: &Boards, senders: &[(&Board, &[u8])]) -> Words {
-    let (least, message) = senders.iter().min_by_key(|(_, message)| *message).expect("a message");
-    let longer = |other: &[u8]| other.len() > message.len() && other.starts_with(message);
-    let (other, begun) = senders.iter().find(|(_, other)| longer(other)).expect("a message that is begun");
-    let (least_placed, other_placed) = (placed(boards, least), placed(boards, other));
-    let (bytes, next) = (hex(message), begun[message.len()]);
+/// The first board with the least message, and the first from which that one parts at an ending that the bus comes
+/// to: what each of them does there.
+fn undecided(load: &Load, boards: &Boards, senders: &[(&Board, &Message)]) -> Words {
+    let acks = acknowledges(load);
+    let messages: Vec<Message> = senders.iter().map(|(_, message)| (*message).clone()).collect();
+    let (board, message) = senders[least(&messages).0];
+    let parts = |(other, others): &(&'_ Board, &Message)| {
+        let difference = first_difference(message, others)?;
+        difference.is_undecided(&acks).then_some((other.number, placed(boards, other), difference))
+    };
+    let (number, other, difference) = senders.iter().find_map(parts).expect("a message that parts there");
+    let bytes = parted(&message.beginning(difference.place).parts);
+    let does = if difference.one == Symbol::Stop { "ends with" } else { "restarts after" };
+    let (goes_on, row) = match (difference.one, difference.other) {
+        (Symbol::Stop, Symbol::Byte(next)) => {
+            (format!("goes on with {next:02X}"), (board.number, "begins", number))
+        }
+        (_, Symbol::Byte(next)) => {
+            (format!("goes on with {next:02X}"), (board.number, "restarts in", number))
+        }
+        _ => ("ends".to_string(), (number, "begins", board.number)),
+    };
     pair(
-        format!(
-            "{least_placed} ends with {bytes}, acknowledged, where {other_placed} goes on with {next:02X}"
-        ),
-        format!("{} begins {}", boards.called(least.number), boards.called(other.number)),
+        format!("{} {does} {bytes}, acknowledged, where {other} {goes_on}", placed(boards, board)),
+        format!("{} {} {}", boards.called(row.0), row.1, boards.called(row.2)),
     )
 }

@@ -1,8 +1,9 @@
 //! The rehearsal of a load, and its verdict.
 
 use super::load::{Board, Load};
-use crate::arbitration::{arbitrate, Run, LEVELS, MASTERS, MESSAGE_BYTES};
+use crate::arbitration::{arbitrate, Message, Run, LEVELS, MASTERS, MESSAGE_BYTES};
 use crate::module::Module;
+use crate::packed::Asked;
 use crate::refusal::Refusal;
 use crate::rig::arguments::Options;
 
@@ -20,7 +21,7 @@ pub enum Verdict {
 /// A load that was rehearsed.
 pub struct Rehearsal<'a> {
     /// The boards that send, in order, each with its message; they are the library's masters.
-    pub senders: Vec<(&'a Board, &'a [u8])>,
+    pub senders: Vec<(&'a Board, &'a Message)>,
     pub acks: Vec<u8>,
     pub run: Run,
     /// The final modules, from that of the first sender on.
@@ -45,12 +46,11 @@ impl<'a> Result<'a> {
             return Result::Refused(refusal);
         }
         let senders = load.senders();
-        let acks = acknowledges(load);
-        let bytes: Vec<u8> = senders.iter().flat_map(|(_, message)| message.to_vec()).collect();
-        let lengths: Vec<u32> = senders.iter().map(|(_, message)| message.len() as u32).collect();
+        let messages: Vec<Message> = senders.iter().map(|(_, message)| (*message).clone()).collect();
+        let Asked { bytes, parts, counts, acks } = Asked::new(&messages, acknowledges(load));
         let (mut carried, mut levels) = ([0; MESSAGE_BYTES], vec![0; options.room(LEVELS)]);
         let mut table = [Module::power_up(0, 0); MASTERS];
-        match arbitrate(&bytes, &lengths, &acks, &mut carried, &mut levels, &mut table) {
+        match arbitrate(&bytes, &parts, &counts, &acks, &mut carried, &mut levels, &mut table) {
             Ok(run) => Result::Rehearsed(Box::new(Rehearsal::new(load, senders, acks, run, table))),
             Err(refusal) => Result::Refused(refusal),
         }
@@ -68,14 +68,14 @@ impl<'a> Result<'a> {
 /// The acknowledges given, or one 0 for each byte of the longest message.
 pub fn acknowledges(load: &Load) -> Vec<u8> {
     let given = load.acks.as_ref().and_then(|acks| acks.given.clone());
-    let longest = load.senders().iter().map(|(_, message)| message.len()).max().unwrap_or(0);
+    let longest = load.senders().iter().map(|(_, message)| message.length()).max().unwrap_or(0);
     given.unwrap_or_else(|| vec![0; longest])
 }
 
 impl<'a> Rehearsal<'a> {
     fn new(
         load: &Load,
-        senders: Vec<(&'a Board, &'a [u8])>,
+        senders: Vec<(&'a Board, &'a Message)>,
         acks: Vec<u8>,
         run: Run,
         table: [Module; MASTERS],
@@ -92,7 +92,7 @@ impl<'a> Rehearsal<'a> {
         let carried = self.carried();
         if winners.iter().any(|(_, other)| *other != message) {
             Verdict::Undecided
-        } else if carried == message && self.acks[carried.len() - 1] == 0 {
+        } else if carried == message.bytes() && self.acks[carried.len() - 1] == 0 {
             Verdict::Sent
         } else {
             Verdict::Cut
@@ -103,7 +103,7 @@ impl<'a> Rehearsal<'a> {
         let Some(expected) = &load.expected else { return true };
         let winners = self.winners();
         let winner = winners.iter().find(|(board, _)| board.number == expected.board);
-        let length = winner.map(|(_, message)| message.len() as u64);
+        let length = winner.map(|(_, message)| message.length() as u64);
         self.verdict != Verdict::Undecided
             && length == Some(expected.length)
             && self.carried().len() as u64 == expected.carried
@@ -121,13 +121,13 @@ impl<'a> Rehearsal<'a> {
     }
 
     /// The boards still in, each with its message.
-    pub fn winners(&self) -> Vec<(&'a Board, &'a [u8])> {
+    pub fn winners(&self) -> Vec<(&'a Board, &'a Message)> {
         let masters = self.senders.iter().zip(self.run.outcome.remaining);
         masters.filter(|(_, remains)| *remains).map(|(sender, _)| *sender).collect()
     }
 
     /// The boards that lost, each with its message and its place.
-    pub fn losers(&self) -> Vec<(&'a Board, &'a [u8], u16)> {
+    pub fn losers(&self) -> Vec<(&'a Board, &'a Message, u16)> {
         let outcome = &self.run.outcome;
         let masters = self.senders.iter().zip(outcome.remaining).zip(outcome.positions);
         let lost = masters.filter(|((_, remains), _)| !remains);

@@ -45,7 +45,7 @@ fn cut(text: &str, width: usize) -> String {
 
 /// The boards still in, and how much of their message was carried.
 fn won(boards: &Boards, rehearsal: &Rehearsal) -> (String, String) {
-    let bytes = format!("{}/{}", rehearsal.carried().len(), rehearsal.winners()[0].1.len());
+    let bytes = format!("{}/{}", rehearsal.carried().len(), rehearsal.winners()[0].1.length());
     (names(boards, rehearsal, ","), bytes)
 }
 
@@ -61,7 +61,7 @@ fn verdict(load: &Load, boards: &Boards, rehearsal: &Rehearsal) -> String {
         Verdict::Sent => None,
         Verdict::Undecided => Some(format!("UNDECIDED at byte {place}: {}", names(boards, rehearsal, ", "))),
         Verdict::Cut => {
-            let rest = rehearsal.winners()[0].1.len() - rehearsal.carried().len();
+            let rest = rehearsal.winners()[0].1.length() - rehearsal.carried().len();
             let rest = if rest > 0 { format!("{rest} not sent") } else { "the last".to_string() };
             Some(format!("CUT at byte {place} ({byte:02X}), {rest}"))
         }

@@ -1,7 +1,8 @@
 //! Files for `rig clash`, with named boards mostly; `numbered` has the old form.
 
 use super::page::Page;
-use crate::arbitration::{MASTERS, MESSAGE_BYTES};
+use crate::arbitration::outcome::least;
+use crate::arbitration::{Message, MASTERS, MESSAGE_BYTES};
 use crate::compare::arbitration::draw_request;
 use crate::random::Random;
 
@@ -49,7 +50,7 @@ fn far_too_many(random: &mut Random) -> Vec<u8> {
 
 /// A load as it is before it is spoilt: a message for each board, none where it is silent, and acknowledges.
 struct Load {
-    messages: Vec<Option<Vec<u8>>>,
+    messages: Vec<Option<Message>>,
     acks: Vec<u8>,
 }
 
@@ -84,46 +85,44 @@ fn load(page: &mut Page, names: &[String], spoiling: usize, index: usize) {
 /// Messages that share beginnings, for some of the boards.
 fn draw(random: &mut Random, boards: usize) -> Load {
     let asked = draw_request(random);
-    let mut messages: Vec<Option<Vec<u8>>> = Vec::new();
-    let mut rest = &asked.bytes[..];
-    for &length in asked.lengths.iter().take(boards) {
-        let (message, after) = rest.split_at(length as usize);
-        messages.push(Some(message.to_vec()));
-        rest = after;
-    }
+    let mut messages: Vec<Option<Message>> =
+        asked.messages.iter().take(boards).map(|message| Some(message.clone())).collect();
     while messages.len() < boards {
         messages.insert(random.below(messages.len() + 1), None);
     }
-    let longest = messages.iter().flatten().map(Vec::len).max().unwrap_or(0);
+    let longest = messages.iter().flatten().map(Message::length).max().unwrap_or(0);
     Load { messages, acks: asked.acks[..longest].to_vec() }
 }
 
 /// All silent, or an empty or too long message, a read, or one board's message for another.
-fn spoil_messages(random: &mut Random, messages: &mut [Option<Vec<u8>>]) {
+fn spoil_messages(random: &mut Random, messages: &mut [Option<Message>]) {
     let board = random.below(messages.len());
     match random.below(6) {
         0 => messages.fill(None),
-        1 => messages[board] = Some(Vec::new()),
-        2 => messages[board] = Some(vec![0x5A; long(random)]),
-        3 => messages[board] = Some(vec![random.byte() | 1]),
+        1 => messages[board] = Some(Message::default()),
+        2 => messages[board] = Some(too_long(random)),
+        3 => messages[board].get_or_insert_default().parts.push(vec![random.byte() | 1]),
         4 => messages[board] = messages[random.below(messages.len())].clone(),
         _ => {
-            let first = messages[board].as_ref().map(|message| message[..1].to_vec());
+            let first = messages[board].as_ref().map(|message| message.beginning(1));
             messages[random.below(messages.len())] = first;
         }
     }
 }
 
-/// About the most bytes of a message, or many more.
-fn long(random: &mut Random) -> usize {
-    random.pick(&[MESSAGE_BYTES - 1, MESSAGE_BYTES, MESSAGE_BYTES + 1, 300, 1000])
+/// About the most bytes of a message, or many more, now and then in many parts.
+fn too_long(random: &mut Random) -> Message {
+    let length = random.pick(&[MESSAGE_BYTES - 1, MESSAGE_BYTES, MESSAGE_BYTES + 1, 300, 1000]);
+    let part = if random.once_in(2) { length } else { random.between(1, MESSAGE_BYTES + 1) };
+    Message { parts: vec![0x5A; length].chunks(part).map(<[u8]>::to_vec).collect() }
 }
 
 /// What the least message and the acknowledges make likely, or something else.
 fn expect(page: &mut Page, names: &[String], load: &Load, spoiling: usize) {
-    let least = load.messages.iter().flatten().min();
+    let messages: Vec<Message> = load.messages.iter().flatten().cloned().collect();
+    let least = messages.get(least(&messages).0);
     let winner = load.messages.iter().position(|message| message.as_ref() == least && least.is_some());
-    let length = least.map_or(0, Vec::len);
+    let length = least.map_or(0, Message::length);
     let carried = load.acks.iter().position(|&ack| ack == 1).map_or(length, |place| (place + 1).min(length));
     let (mut board, mut fraction) = (winner.unwrap_or(0), format!("{carried}/{length}"));
     if page.random.once_in(spoiling) {

@@ -1,5 +1,6 @@
 //! A file being written line by line: tidy, or with the blanks, comments and spellings that the rules allow.
 
+use crate::arbitration::Message;
 use crate::random::Random;
 
 pub struct Page<'a> {
@@ -83,6 +84,18 @@ impl Page<'_> {
         } else {
             format!("{byte:02X}")
         }
+    }
+
+    /// The words of a message, each byte as `byte` writes it, with `/` between two parts.
+    pub fn message(&mut self, message: &Message, byte: fn(&mut Self, u8) -> String) -> Vec<String> {
+        let mut words = Vec::new();
+        for (index, part) in message.parts.iter().enumerate() {
+            if index > 0 {
+                words.push("/".to_string());
+            }
+            words.extend(part.iter().map(|&one| byte(self, one)));
+        }
+        words
     }
 
     /// A number, now and then with zeros before it.

@@ -97,11 +97,18 @@ fn board(page: &mut Page, name: &str, spoiling: usize) {
     if page.random.once_in(16 * spoiling) {
         length = page.random.pick(&[0, MESSAGE_BYTES - 1, MESSAGE_BYTES, MESSAGE_BYTES + 1, 300]);
     }
+    let cutting = page.random.pick(&[0, 0, 2, 6]);
     for index in 0..length {
         let odd = index == 0 && page.random.once_in(8 * spoiling);
         let byte = page.random.pick(&[0x50, 0x50, 0x62, 0x00, 0xFE]) | u8::from(odd);
         let byte = page.two_digits(byte);
         words.push(byte);
+        if cutting > 0 && index + 1 < length && page.random.once_in(cutting) {
+            words.push("/".to_string());
+        }
+    }
+    if page.random.once_in(16 * spoiling) {
+        words.insert(page.random.between(2, words.len()), "/".to_string());
     }
     page.line(&words);
 }

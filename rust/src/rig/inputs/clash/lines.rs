@@ -1,6 +1,6 @@
 //! The lines of a file with named boards, each right or, once in a while, wrong.
 
-use crate::arbitration::{MASTERS, MESSAGE_BYTES};
+use crate::arbitration::{Message, MASTERS, MESSAGE_BYTES};
 use crate::random::Random;
 use crate::rig::inputs::page::Page;
 
@@ -80,15 +80,16 @@ fn odd_name(random: &mut Random) -> Option<String> {
 }
 
 /// `board` with a message, or `-`; now and then wrong, left out or there twice.
-pub fn board(page: &mut Page, names: &[String], board: usize, message: &Option<Vec<u8>>, spoiling: usize) {
+pub fn board(page: &mut Page, names: &[String], board: usize, message: &Option<Message>, spoiling: usize) {
     let mut words = vec!["board".to_string(), names[board].clone()];
     match message {
-        Some(bytes) => words.extend(bytes.iter().map(|&byte| page.two_digits(byte))),
+        Some(message) => words.extend(page.message(message, Page::two_digits)),
         None => words.push("-".to_string()),
     }
     if page.random.once_in(30 * spoiling) {
         let place = page.random.between(1, words.len());
-        let wrong = ["5", "9x", "0x50", "100", "/", "-", "nobody", "G0", "m\u{e9}mo", "99999999999999999999"];
+        let wrong =
+            ["5", "9x", "0x50", "100", "/", "/", "-", "nobody", "G0", "m\u{e9}mo", "99999999999999999999"];
         words.insert(place, page.random.pick(&wrong).to_string());
     }
     if page.random.once_in(60 * spoiling) {

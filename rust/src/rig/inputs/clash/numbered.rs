@@ -1,7 +1,7 @@
 //! Files of the old form, whose boards are numbered by their rows.
 
-use super::long;
-use crate::arbitration::{MASTERS, MESSAGE_BYTES};
+use super::too_long;
+use crate::arbitration::{Message, MASTERS, MESSAGE_BYTES};
 use crate::compare::arbitration::draw_request;
 use crate::random::Random;
 use crate::rig::inputs::page::Page;
@@ -26,13 +26,7 @@ fn load(page: &mut Page, spoiling: usize) {
     let name = name(page.random);
     page.line(&["load", &name]);
     let asked = draw_request(page.random);
-    let mut rest = &asked.bytes[..];
-    let mut boards = Vec::new();
-    for &length in &asked.lengths {
-        let (board, after) = rest.split_at(length as usize);
-        boards.push(board.to_vec());
-        rest = after;
-    }
+    let mut boards = asked.messages.clone();
     let mut acks = (!page.random.once_in(3)).then(|| asked.acks.iter().map(|ack| ack.to_string()).collect());
     if page.random.once_in(spoiling) {
         spoil_boards(page.random, &mut boards);
@@ -47,14 +41,14 @@ fn load(page: &mut Page, spoiling: usize) {
 }
 
 /// The boards in order, and the acknowledges somewhere among them.
-fn write(page: &mut Page, boards: &[Vec<u8>], mut acks: Option<Vec<String>>) {
+fn write(page: &mut Page, boards: &[Message], mut acks: Option<Vec<String>>) {
     let place = page.random.below(2 * boards.len() + 1);
     for (index, board) in boards.iter().enumerate() {
         if index == place {
             write_acks(page, acks.take());
         }
         let mut words = vec!["board".to_string()];
-        words.extend(board.iter().map(|&byte| page.hex(byte)));
+        words.extend(page.message(board, Page::hex));
         page.line(&words);
     }
     write_acks(page, acks);
@@ -80,7 +74,7 @@ fn name(random: &mut Random) -> String {
 }
 
 /// No board, too many, an empty or too long one, or a read.
-fn spoil_boards(random: &mut Random, boards: &mut Vec<Vec<u8>>) {
+fn spoil_boards(random: &mut Random, boards: &mut Vec<Message>) {
     for _ in 0..random.between(1, 2) {
         if boards.is_empty() {
             return;
@@ -88,10 +82,13 @@ fn spoil_boards(random: &mut Random, boards: &mut Vec<Vec<u8>>) {
         let board = random.below(boards.len());
         match random.below(6) {
             0 => boards.clear(),
-            1 => boards.resize(random.pick(&[MASTERS - 1, MASTERS, MASTERS + 1, 100]), vec![0x90]),
-            2 => boards[board].clear(),
-            3 => boards[board].resize(long(random), 0x5A),
-            4 => boards[board] = vec![random.byte() | 1],
+            1 => boards.resize(
+                random.pick(&[MASTERS - 1, MASTERS, MASTERS + 1, 100]),
+                Message::of_one_part(&[0x90]),
+            ),
+            2 => boards[board] = Message::default(),
+            3 => boards[board] = too_long(random),
+            4 => boards[board].parts.push(vec![random.byte() | 1]),
             _ => boards.push(boards[board].clone()),
         }
     }
