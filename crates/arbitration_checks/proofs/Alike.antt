@@ -1,75 +1,83 @@
--- Two messages compared byte by byte: what holds at the loop's head, and what a turn finds.
-use Prim.Native.Nat.{ℕ, zero, suc, _+_, _<_, _≤_}
+-- Two messages compared from the front: what holds at the loop's head, and what a turn finds.
+use Prim.Native.Nat.{ℕ, suc, _+_, _<_, _≤_}
 use mathlib.Core.Path.{_≡_, refl, sym, ap, ap₂, _∙_}
-use mathlib.Core.Bool.{Bool, true, false, or-false}
-use mathlib.Core.List.{List, [], _∷_}
+use mathlib.Core.Bool.{Bool, true, false, not, or-false}
+use mathlib.Core.List.{List, _∷_}
 use native.Mathlib.Nat.{le-of-eq}
 use native.Mathlib.Numerals.{add-one}
 use native.Mathlib.Omega.{arith}
-use borrow.Author.Tests.{eq-eqb, ne-eqb, lt-ltb, le-ltb}
-use lib.Dec.{ltb, leb·suc-suc}
+use borrow.Author.Tests.{eq-eqb, ne-eqb, le-ltb, ltb-true, ltb-false, le-leb, lt-leb}
+use lib.Dec.{ltb, leb}
 use lib.ListN.{length, getD, drop, drop-of-length-le}
 use lib.Seq.{drop-cons}
-use Rattle.arbitration_rules.specs.Outcome.{begins}
+use Rattle.arbitration_rules.specs.Outcome.{restarts, atMost}
 use Rattle.arbitration_checks.specs.Order.{comparedOf}
 use Rattle.arbitration_checks.specs.declared.order.Compared.{Compared}
 
--- a message passed begins what has more bytes
-rest-begins : (other : List ℕ) (i : ℕ) → begins [] (drop i other) ≡ ltb i (length other)
-rest-begins [] zero = refl
-rest-begins [] (suc i) = sym (le-ltb (suc i) 0 (omega arith))
-rest-begins (byte ∷ bytes) zero = sym (lt-ltb 0 (suc (length bytes)) (omega arith))
-rest-begins (byte ∷ bytes) (suc i) = rest-begins bytes i ∙ sym (leb·suc-suc (suc i) (length bytes))
+-- a byte without a restart
+not-restarts : (sent : ℕ) → leb 256 sent ≡ not (restarts sent)
+not-restarts sent = go (restarts sent) refl
+  where
+    go : (again : Bool) → restarts sent ≡ again → leb 256 sent ≡ not again
+    go true is = lt-leb 256 sent (ltb-true sent 256 is)
+    go false is = le-leb 256 sent (ltb-false sent 256 is)
 
--- the first i bytes are in common
-pub record Shared (message other : List ℕ) (count i : ℕ) : Type 0 where
+-- the first i of both are the same
+pub record Shared (message other : List ℕ) (i : ℕ) : Type 0 where
   pub within : i ≤ length message
   pub within-other : i ≤ length other
-  pub same : comparedOf message other count ≡ comparedOf (drop i message) (drop i other) count
+  pub same : atMost message other ≡ atMost (drop i message) (drop i other)
 
-pub shared-start : (message other : List ℕ) (count : ℕ) → Shared message other count 0
-shared-start message other count = record { within = omega arith; within-other = omega arith; same = refl }
+pub shared-start : (message other : List ℕ) → Shared message other 0
+shared-start message other = record { within = omega arith; within-other = omega arith; same = refl }
 
-module _ (message other : List ℕ) (count i : ℕ) (shared : Shared message other count i) where
+module _ (message other : List ℕ) (count i : ℕ) (shared : Shared message other i) where
   -- an answer, this comparison counted
-  abbrev answer : Bool → Bool → Compared
-  answer precedes begins = record { precedes = precedes; begins = begins; comparisons = count + 1 }
+  abbrev answer : Bool → Compared
+  answer precedes = record { precedes = precedes; comparisons = count + 1 }
 
-  abbrev compared : List ℕ → List ℕ → Compared
-  compared one two = comparedOf one two count
+  abbrev sent : ℕ
+  sent = getD message i 0
 
-  pub shared-end : length message ≤ i
-      → answer true (ltb i (length other)) ≡ comparedOf message other count
-  shared-end done =
-      let none = drop-of-length-le message done in
-      sym
-      (shared .same
-      ∙ ap (λ (rest : List ℕ). comparedOf rest (drop i other) count) none
-      ∙ ap (answer true) (rest-begins other i))
+  abbrev its : ℕ
+  its = getD other i 0
+
+  answered : (precedes : Bool) → atMost message other ≡ precedes → answer precedes ≡ comparedOf message other count
+  answered precedes is = ap answer (sym is)
+
+  module _ (done : length message ≤ i) where
+    pub shared-end : length other ≤ i → answer true ≡ comparedOf message other count
+    shared-end all =
+        answered true (shared .same ∙ ap₂ atMost (drop-of-length-le message done) (drop-of-length-le other all))
+
+    pub shared-stop : i < length other → answer (leb 256 its) ≡ comparedOf message other count
+    shared-stop less =
+        answered (leb 256 its)
+        (shared .same
+        ∙ ap₂ atMost (drop-of-length-le message done) (drop-cons other i 0 less)
+        ∙ sym (not-restarts its))
 
   module _ (less : i < length message) where
-    next : drop i message ≡ getD message i 0 ∷ drop (suc i) message
+    next : drop i message ≡ sent ∷ drop (suc i) message
     next = drop-cons message i 0 less
 
-    pub shared-other-end : i ≡ length other → answer false false ≡ comparedOf message other count
+    pub shared-other-end : i ≡ length other → answer (restarts sent) ≡ comparedOf message other count
     shared-other-end done =
         let done-other : length other ≤ i = omega arith in
-        sym (shared .same ∙ ap₂ compared next (drop-of-length-le other done-other))
+        answered (restarts sent) (shared .same ∙ ap₂ atMost next (drop-of-length-le other done-other))
 
     module _ (less-other : i < length other) where
-      here : compared message other
-          ≡ compared (getD message i 0 ∷ drop (suc i) message) (getD other i 0 ∷ drop (suc i) other)
-      here = shared .same ∙ ap₂ compared next (drop-cons other i 0 less-other)
+      here : atMost message other ≡ atMost (sent ∷ drop (suc i) message) (its ∷ drop (suc i) other)
+      here = shared .same ∙ ap₂ atMost next (drop-cons other i 0 less-other)
 
-      pub shared-more : getD message i 0 ≡ getD other i 0 → Shared message other count (i + 1)
+      pub shared-more : sent ≡ its → Shared message other (i + 1)
       shared-more equal =
-          let not-less = le-ltb (getD message i 0) (getD other i 0) (le-of-eq (sym equal)) in
+          let not-less = le-ltb sent its (le-of-eq (sym equal)) in
           record {
             within = omega arith;
             within-other = omega arith;
             same = rw (add-one i) (rw (not-less, eq-eqb _ _ equal) at here);
           }
 
-      pub shared-differ : (getD message i 0 ≡ getD other i 0 → ⊥)
-          → answer (ltb (getD message i 0) (getD other i 0)) false ≡ comparedOf message other count
-      shared-differ unequal = sym (rw (ne-eqb _ _ unequal, or-false) at here)
+      pub shared-differ : (sent ≡ its → ⊥) → answer (ltb sent its) ≡ comparedOf message other count
+      shared-differ unequal = answered (ltb sent its) (rw (ne-eqb _ _ unequal, or-false) at here)

@@ -10,11 +10,12 @@ use lib.Seq.{drop-cons}
 use Rattle.laws.specs.Everyone.{Everyone, also}
 use Rattle.laws.specs.Search.{first}
 use Rattle.arbitration_rules.specs.Outcome.{atMost, lesser, leastFrom, least}
-use Rattle.arbitration_rules.specs.Reply.{messagesOf}
-use Rattle.arbitration_rules.proofs.Accepted.{cut-count}
+use Rattle.arbitration_rules.specs.Reply.{cut}
+use Rattle.arbitration_rules.proofs.Cut.{cut-count}
 use Rattle.arbitration_rules.proofs.LeastMessage.{at-most, at-most-holds, at-most-refl, at-most-trans, least-at-most}
-use Rattle.arbitration_checks.specs.Order.{leastIndex, LeastAt}
-use Rattle.arbitration_checks.proofs.Walk.{At, at-start, at-more, in-messages, message-is, ordered, end-within}
+use Rattle.arbitration_checks.specs.Order.{leastIndex, leastAmong, LeastAt}
+use Rattle.arbitration_checks.specs.declared.order.Located.{Located}
+use Rattle.arbitration_messages.proofs.Walk.{At, at-start, at-more, in-messages, message-is, ordered, end-within}
 
 -- where the least message stands, of a best so far at an index and the messages from an index on
 abbrev standsFrom : List ℕ → ℕ → ℕ → List (List ℕ) → ℕ
@@ -107,20 +108,20 @@ least-drop (message ∷ messages) some = refl
 
 -- from one index to another lies the least of the first i messages, the first such, after a comparison with each but
 -- the first
-pub record Leading (lengths bytes : List ℕ) (from index best to comparisons i : ℕ) : Type 0 where
-  pub at : At lengths bytes i from
+pub record Leading (lengths sent : List ℕ) (from index best to comparisons i : ℕ) : Type 0 where
+  pub at : At lengths sent i from
   pub counted : comparisons + 1 ≡ i
   pub ordered-so : best ≤ to
-  pub inside : to ≤ length bytes
-  pub there : getD (messagesOf lengths bytes) index [] ≡ take (to - best) (drop best bytes)
-  pub foremost : leastIndex (messagesOf lengths bytes)
-      ≡ standsFrom (take (to - best) (drop best bytes)) index i (drop i (messagesOf lengths bytes))
-  pub same : least (messagesOf lengths bytes)
-      ≡ leastFrom (take (to - best) (drop best bytes)) (drop i (messagesOf lengths bytes))
+  pub inside : to ≤ length sent
+  pub there : getD (cut lengths sent) index [] ≡ take (to - best) (drop best sent)
+  pub foremost : leastIndex (cut lengths sent)
+      ≡ standsFrom (take (to - best) (drop best sent)) index i (drop i (cut lengths sent))
+  pub same : least (cut lengths sent)
+      ≡ leastFrom (take (to - best) (drop best sent)) (drop i (cut lengths sent))
 
-pub no-message : (lengths bytes : List ℕ) → length lengths ≡ 0
-    → LeastAt lengths bytes (record { index = 0; from = 0; to = 0; comparisons = 0 })
-no-message [] bytes none =
+pub no-message : (lengths sent : List ℕ) → length lengths ≡ 0
+    → LeastAt lengths sent (record { index = 0; from = 0; to = 0; comparisons = 0 })
+no-message [] sent none =
     record {
       there = refl;
       foremost = refl;
@@ -129,67 +130,67 @@ no-message [] bytes none =
       within = omega arith;
       same = refl;
     }
-no-message (count ∷ counts) bytes none = absurd (omega arith)
+no-message (count ∷ counts) sent none = absurd (omega arith)
 
-pub leading-start : (lengths bytes : List ℕ) (to : ℕ) → 0 < length lengths
-    → to ≡ min (0 + getD lengths 0 0) (length bytes) → Leading lengths bytes to 0 0 to 0 1
-leading-start lengths bytes to some end =
-    let start = at-start lengths bytes in
-    let own = message-is lengths bytes 0 0 to start some end in
-    let inside = in-messages lengths bytes 0 0 to start some end in
+pub leading-start : (lengths sent : List ℕ) (to : ℕ) → 0 < length lengths
+    → to ≡ min (0 + getD lengths 0 0) (length sent) → Leading lengths sent to 0 0 to 0 1
+leading-start lengths sent to some end =
+    let start = at-start lengths sent in
+    let own = message-is lengths sent 0 0 to start some end in
+    let inside = in-messages lengths sent 0 0 to start some end in
     record {
-      at = at-more lengths bytes 0 0 to start some end;
+      at = at-more lengths sent 0 0 to start some end;
       counted = refl;
       ordered-so = omega arith;
       inside = omega arith;
       there = sym own;
       foremost =
-          index-drop (messagesOf lengths bytes) inside
-          ∙ ap (λ (message : List ℕ). standsFrom message 0 1 (drop 1 (messagesOf lengths bytes))) (sym own);
+          index-drop (cut lengths sent) inside
+          ∙ ap (λ (message : List ℕ). standsFrom message 0 1 (drop 1 (cut lengths sent))) (sym own);
       same =
-          least-drop (messagesOf lengths bytes) inside
-          ∙ ap (λ (message : List ℕ). leastFrom message (drop 1 (messagesOf lengths bytes))) (sym own);
+          least-drop (cut lengths sent) inside
+          ∙ ap (λ (message : List ℕ). leastFrom message (drop 1 (cut lengths sent))) (sym own);
     }
 
-module _ (lengths bytes : List ℕ) (from index best best-end comparisons i to : ℕ)
-    (leading : Leading lengths bytes from index best best-end comparisons i) (less : i < length lengths)
-    (end : to ≡ min (from + getD lengths i 0) (length bytes)) where
-  own : take (to - from) (drop from bytes) ≡ getD (messagesOf lengths bytes) i []
-  own = message-is lengths bytes i from to (leading .at) less end
+module _ (lengths sent : List ℕ) (from index best best-end comparisons i to : ℕ)
+    (leading : Leading lengths sent from index best best-end comparisons i) (less : i < length lengths)
+    (end : to ≡ min (from + getD lengths i 0) (length sent)) where
+  own : take (to - from) (drop from sent) ≡ getD (cut lengths sent) i []
+  own = message-is lengths sent i from to (leading .at) less end
 
   abbrev bestMessage : List ℕ
-  bestMessage = take (best-end - best) (drop best bytes)
+  bestMessage = take (best-end - best) (drop best sent)
 
-  split : drop i (messagesOf lengths bytes)
-      ≡ getD (messagesOf lengths bytes) i [] ∷ drop (suc i) (messagesOf lengths bytes)
-  split = drop-cons (messagesOf lengths bytes) i [] (in-messages lengths bytes i from to (leading .at) less end)
+  split : drop i (cut lengths sent)
+      ≡ getD (cut lengths sent) i [] ∷ drop (suc i) (cut lengths sent)
+  split = drop-cons (cut lengths sent) i [] (in-messages lengths sent i from to (leading .at) less end)
 
-  next : least (messagesOf lengths bytes)
-      ≡ leastFrom (lesser bestMessage (take (to - from) (drop from bytes))) (drop (i + 1) (messagesOf lengths bytes))
+  next : least (cut lengths sent)
+      ≡ leastFrom (lesser bestMessage (take (to - from) (drop from sent))) (drop (i + 1) (cut lengths sent))
   next =
       leading .same
       ∙ ap (leastFrom bestMessage) split
-      ∙ ap₂ (λ (other : List ℕ) (k : ℕ). leastFrom (lesser bestMessage other) (drop k (messagesOf lengths bytes)))
+      ∙ ap₂ (λ (other : List ℕ) (k : ℕ). leastFrom (lesser bestMessage other) (drop k (cut lengths sent)))
       (sym own) (sym (add-one i))
 
   abbrev precedes : Bool
-  precedes = atMost bestMessage (take (to - from) (drop from bytes))
+  precedes = atMost bestMessage (take (to - from) (drop from sent))
 
-  next-index : leastIndex (messagesOf lengths bytes)
-      ≡ cond precedes (standsFrom bestMessage index (i + 1) (drop (i + 1) (messagesOf lengths bytes)))
-      (standsFrom (take (to - from) (drop from bytes)) i (i + 1) (drop (i + 1) (messagesOf lengths bytes)))
+  next-index : leastIndex (cut lengths sent)
+      ≡ cond precedes (standsFrom bestMessage index (i + 1) (drop (i + 1) (cut lengths sent)))
+      (standsFrom (take (to - from) (drop from sent)) i (i + 1) (drop (i + 1) (cut lengths sent)))
   next-index =
       leading .foremost
       ∙ ap (standsFrom bestMessage index i) split
       ∙ ap₂ (λ (other : List ℕ) (k : ℕ).
-      cond (atMost bestMessage other) (standsFrom bestMessage index k (drop k (messagesOf lengths bytes)))
-      (standsFrom other i k (drop k (messagesOf lengths bytes)))) (sym own) (sym (add-one i))
+      cond (atMost bestMessage other) (standsFrom bestMessage index k (drop k (cut lengths sent)))
+      (standsFrom other i k (drop k (cut lengths sent)))) (sym own) (sym (add-one i))
 
   -- the best stays, or this message takes its place
-  pub leading-stays : precedes ≡ true → Leading lengths bytes to index best best-end (comparisons + 1) (i + 1)
+  pub leading-stays : precedes ≡ true → Leading lengths sent to index best best-end (comparisons + 1) (i + 1)
   leading-stays stays =
       record {
-        at = at-more lengths bytes i from to (leading .at) less end;
+        at = at-more lengths sent i from to (leading .at) less end;
         counted = omega (arith, leading .counted);
         ordered-so = leading .ordered-so;
         inside = leading .inside;
@@ -198,31 +199,37 @@ module _ (lengths bytes : List ℕ) (from index best best-end comparisons i to :
         same = rw stays at next;
       }
 
-  pub leading-yields : precedes ≡ false → Leading lengths bytes to i from to (comparisons + 1) (i + 1)
+  pub leading-yields : precedes ≡ false → Leading lengths sent to i from to (comparisons + 1) (i + 1)
   leading-yields yields =
       record {
-        at = at-more lengths bytes i from to (leading .at) less end;
+        at = at-more lengths sent i from to (leading .at) less end;
         counted = omega (arith, leading .counted);
-        ordered-so = ordered lengths bytes i from to (leading .at) less end;
-        inside = end-within lengths bytes i from to (leading .at) less end;
+        ordered-so = ordered lengths sent i from to (leading .at) less end;
+        inside = end-within lengths sent i from to (leading .at) less end;
         there = sym own;
         foremost = rw yields at next-index;
         same = rw yields at next;
       }
 
-pub leading-done : (lengths bytes : List ℕ) (from index best best-end comparisons i : ℕ)
-    → Leading lengths bytes from index best best-end comparisons i → i ≤ length lengths → length lengths ≤ i
-    → LeastAt lengths bytes (record { index = index; from = best; to = best-end; comparisons = comparisons })
-leading-done lengths bytes from index best best-end comparisons i leading within done =
-    let past : length (messagesOf lengths bytes) ≤ i = omega (arith, cut-count lengths bytes) in
-    let none = drop-of-length-le (messagesOf lengths bytes) past in
-    let is = leading .same ∙ ap (leastFrom (take (best-end - best) (drop best bytes))) none in
+pub leading-done : (lengths sent : List ℕ) (from index best best-end comparisons i : ℕ)
+    → Leading lengths sent from index best best-end comparisons i → i ≤ length lengths → length lengths ≤ i
+    → LeastAt lengths sent (record { index = index; from = best; to = best-end; comparisons = comparisons })
+leading-done lengths sent from index best best-end comparisons i leading within done =
+    let past : length (cut lengths sent) ≤ i = omega (arith, cut-count lengths sent) in
+    let none = drop-of-length-le (cut lengths sent) past in
+    let is = leading .same ∙ ap (leastFrom (take (best-end - best) (drop best sent))) none in
     record {
       there = leading .there ∙ sym is;
       foremost =
-          sym (leading .foremost ∙ ap (standsFrom (take (best-end - best) (drop best bytes)) index i) none);
+          sym (leading .foremost ∙ ap (standsFrom (take (best-end - best) (drop best sent)) index i) none);
       counted = omega (arith, leading .counted);
       ordered = leading .ordered-so;
       within = leading .inside;
       same = sym is;
     }
+
+-- its index and the comparisons, of the messages
+pub least-answer : (lengths sent : List ℕ) (found : Located) → LeastAt lengths sent found
+    → record { index = found .index; comparisons = found .comparisons } ≡ leastAmong (cut lengths sent)
+least-answer lengths sent found at =
+    rw (at .foremost, at .counted, ← cut-count lengths sent) refl

@@ -1,6 +1,7 @@
 pub mod Sums
-pub mod Walk
 pub mod Alike
+pub mod Endings
+pub mod Carried
 pub mod SearchedMessages
 pub mod LeastMessage
 pub mod Decided

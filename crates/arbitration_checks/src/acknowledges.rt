@@ -1,10 +1,10 @@
-// Acknowledges (01: answers): one above 1, and the first byte that is not acknowledged.
+// Acknowledges (01: answers): one above 1, one at an index, and how many bytes are carried.
 ghost use mathlib.Core.Path.{_≡_};
-ghost use Prim.Native.Nat.{_≤_};
-ghost use lib.ListN.{length, take};
-ghost use Rattle.laws.specs.Search.{first, any};
+ghost use lib.Dec.{eqb};
+ghost use lib.ListN.{getD};
+ghost use Rattle.laws.specs.Search.{any};
+ghost use Rattle.arbitration_rules.specs.Outcome.{carriedCount};
 ghost use Rattle.arbitration_rules.specs.Reply.{aboveOne};
-ghost use Rattle.arbitration_checks.specs.Settled.{notAcknowledged};
 
 // Some acknowledge is above 1.
 pub(crate) fn any_above_one(acks: &[u8]) -> bool
@@ -20,17 +20,26 @@ pub(crate) fn any_above_one(acks: &[u8]) -> bool
     false
 }
 
-// The first of so many bytes that is not acknowledged, else their number.
-pub(crate) fn first_refused(count: usize, acks: &[u8]) -> usize
-    requires { ⌜ count ≤ length (now acks) ⌝ }
-    ensures { λ r. ⌜ r ≡ first notAcknowledged (take count (now (acks .entry))) ⌝ }
+// The byte at an index is acknowledged; one past the acknowledges is too.
+pub(crate) fn acknowledged(acks: &[u8], i: usize) -> bool
+    ensures { λ r. ⌜ r ≡ eqb (getD (now (acks .entry)) i 0) 0 ⌝ }
+{
+    if i < acks.len() {
+        return acks[i] == 0;
+    }
+    true
+}
+
+// How many bytes of a message are carried: up to the first that is not acknowledged, with it.
+pub(crate) fn carried_count(message: &[u16], acks: &[u8]) -> usize
+    ensures { λ r. ⌜ r ≡ carriedCount (now (message .entry)) (now (acks .entry)) ⌝ }
 {
     let mut i: usize = 0;
-    while i < count {
+    while (i < message.len()) & (i < acks.len()) {
         if acks[i] == 1 {
-            return i;
+            return i + 1;
         }
         i += 1;
     }
-    i
+    message.len()
 }

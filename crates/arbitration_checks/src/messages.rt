@@ -1,43 +1,48 @@
-// Messages that lie one after the other in bytes (01: plans): searched from the first.
+// Messages that lie one after the other in what is sent: searched from the first.
 ghost use mathlib.Core.Path.{_≡_};
-ghost use Prim.Native.Nat.{_+_, min};
+ghost use Rattle.bits.specs.Positions.{isSet};
 ghost use Rattle.laws.specs.Search.{first, any};
-ghost use Rattle.arbitration_rules.specs.Outcome.{begins};
-ghost use Rattle.arbitration_rules.specs.Reply.{messagesOf, reads as readsOf};
-use crate::order;
+ghost use Rattle.arbitration_rules.specs.Outcome.{endingDiffers};
+ghost use Rattle.arbitration_rules.specs.Reply.{cut, reads as readsOf};
+use crate::acknowledges;
+use arbitration_messages::NO_RESTART;
 
-// Where a message of so many bytes ends that starts at an index, within the bytes there are.
-pub fn end_of(size: usize, from: usize, count: u32) -> usize
-    ensures { λ r. ⌜ r ≡ min (from + count) size ⌝ }
+// A byte is odd.
+fn odd(sent: u16) -> bool
+    ensures { λ r. ⌜ r ≡ isSet 0 sent ⌝ }
 {
-    if size < from {
-        return size;
-    }
-    if size - from < count as usize {
-        return size;
-    }
-    from + (count as usize)
+    sent % 2 == 1
 }
 
-// A message's first byte is odd.
-fn reads(message: &[u8]) -> bool
+// The first byte of one of a message's parts is odd.
+fn reads(message: &[u16]) -> bool
     ensures { λ r. ⌜ r ≡ readsOf (now (message .entry)) ⌝ }
 {
     if message.len() == 0 {
         return false;
     }
-    bits::is_set(message[0], 0)
+    if odd(message[0]) {
+        return true;
+    }
+    let mut i: usize = 0;
+    while i < message.len() {
+        if (message[i] < NO_RESTART) & odd(message[i]) {
+            return true;
+        }
+        i += 1;
+    }
+    false
 }
 
-// The first message whose first byte is odd (14), else how many there are.
-pub(crate) fn first_read(bytes: &[u8], lengths: &[u32]) -> usize
-    ensures { λ r. ⌜ r ≡ first readsOf (messagesOf (now (lengths .entry)) (now (bytes .entry))) ⌝ }
+// The first message with such a part (14), else how many there are.
+pub(crate) fn first_read(sent: &[u16], lengths: &[u32]) -> usize
+    ensures { λ r. ⌜ r ≡ first readsOf (cut (now (lengths .entry)) (now (sent .entry))) ⌝ }
 {
     let mut from: usize = 0;
     let mut i: usize = 0;
     while i < lengths.len() {
-        let to = end_of(bytes.len(), from, lengths[i]);
-        if reads(&bytes[from..to]) {
+        let to = arbitration_messages::end_of(sent.len(), from, lengths[i]);
+        if reads(&sent[from..to]) {
             return i;
         }
         from = to;
@@ -46,16 +51,42 @@ pub(crate) fn first_read(bytes: &[u8], lengths: &[u32]) -> usize
     i
 }
 
-// A message is a proper beginning of some message (16). These comparisons are not counted.
-pub(crate) fn begins_any(message: &[u8], bytes: &[u8], lengths: &[u32]) -> bool
+// Two messages first differ at an ending of either one, a restart or the STOP, and all before it is acknowledged.
+fn ending_differs(message: &[u16], other: &[u16], acks: &[u8]) -> bool
+    ensures { λ r. ⌜ r ≡ endingDiffers (now (acks .entry)) (now (message .entry)) (now (other .entry)) ⌝ }
+{
+    let mut i: usize = 0;
+    while i < message.len() {
+        if i == other.len() {
+            return true;
+        }
+        if message[i] != other[i] {
+            return (message[i] < NO_RESTART) != (other[i] < NO_RESTART);
+        }
+        if !acknowledges::acknowledged(acks, i) {
+            return false;
+        }
+        i += 1;
+    }
+    i < other.len()
+}
+
+// A message does so from some message (16). These comparisons are not counted.
+pub(crate) fn any_ending_differs(
+    message: &[u16],
+    sent: &[u16],
+    lengths: &[u32],
+    acks: &[u8],
+) -> bool
     ensures { λ r. ⌜ r
-        ≡ any (begins (now (message .entry))) (messagesOf (now (lengths .entry)) (now (bytes .entry))) ⌝ }
+        ≡ any (endingDiffers (now (acks .entry)) (now (message .entry)))
+        (cut (now (lengths .entry)) (now (sent .entry))) ⌝ }
 {
     let mut from: usize = 0;
     let mut i: usize = 0;
     while i < lengths.len() {
-        let to = end_of(bytes.len(), from, lengths[i]);
-        if order::compare(message, &bytes[from..to], 0).begins {
+        let to = arbitration_messages::end_of(sent.len(), from, lengths[i]);
+        if ending_differs(message, &sent[from..to], acks) {
             return true;
         }
         from = to;

@@ -2,7 +2,7 @@
 use Prim.Native.Nat.{ℕ, _≤_, _-_}
 use mathlib.Core.Path.{_≡_, refl, sym, ap, ap₂, _∙_}
 use mathlib.Core.Bool.{true, false, not, _||_}
-use mathlib.Core.List.{List, _++_, map, zipWith}
+use mathlib.Core.List.{List, [], _++_, map, zipWith}
 use native.Mathlib.Omega.{arith}
 use borrow.Author.Tests.{ltb-false, eq-eqb, ne-eqb, eqb-true, not-false}
 use lib.Dec.{eqb, ltb}
@@ -14,8 +14,8 @@ use Rattle.laws.proofs.Bools.{neither}
 use Rattle.laws.proofs.Lists.{zipWith-front, zipWith-by, zipWith-alike, zipWith-length, everyone-append}
 use Rattle.laws.proofs.Search.{any-first}
 use Rattle.arbitration_rules.specs.Limits.{maxMasters, maxLength}
-use Rattle.arbitration_rules.specs.Reply.{Request, cut, total, padded, itself, badMessage, badMessages, badCount, badLengths}
-use Rattle.arbitration_rules.specs.Reply.{sentOf, lengthsOf, marksAfter, allMarks}
+use Rattle.arbitration_rules.specs.Reply.{Request, cut, total, padded, itself, badMessage, badMessages, badCount}
+use Rattle.arbitration_rules.specs.Reply.{badLengths, sentOf, lengthsOf, marksAfter, allMarks}
 use Rattle.arbitration_rules.proofs.Cut.{cut-count, lengths-count}
 use Rattle.arbitration_messages.specs.Lengths.{limited, badLength, badLengthsOf}
 use Rattle.arbitration_messages.specs.Marks.{maxSent, started, joinedOf}
@@ -39,7 +39,7 @@ bad-lengths counts parts =
 
 module _ (bytes parts counts : List ℕ) where
   abbrev request : Request
-  request = asked bytes parts counts
+  request = asked bytes parts counts []
 
   -- whether one of them is bad, by the place of the first
   some-bad : any itself (badMessages request) ≡ ltb (first itself (badMessages request)) (length counts)
@@ -71,7 +71,10 @@ module _ (bytes parts counts : List ℕ) where
     module _ (lengths : List ℕ) (bad sum : ℕ) (is : lengths ≡ padded 0 (map limited (cut counts parts)))
         (at : bad ≡ first itself (badLengthsOf counts lengths)) (summed : sum ≡ total counts) where
       place : bad ≡ first itself (badMessages request)
-      place = at ∙ ap (λ (l : List ℕ). first itself (badLengthsOf counts l)) is ∙ ap (first itself) (bad-lengths counts parts)
+      place =
+          at
+          ∙ ap (λ (l : List ℕ). first itself (badLengthsOf counts l)) is
+          ∙ ap (first itself) (bad-lengths counts parts)
 
       test-is : ltb bad (length counts) || not (eqb sum (length parts))
           ≡ any itself (badMessages request) || not (eqb (total counts) (length parts))
@@ -131,7 +134,8 @@ module _ (bytes parts counts : List ℕ) where
               let size = lengths-count request in
               let own : take (length counts) lengths ≡ lengthsOf request =
               ap (take (length counts)) lengths-are
-              ∙ take-at (lengthsOf request) (replicate (maxMasters - length (lengthsOf request)) 0) (length counts) size in
+              ∙ take-at (lengthsOf request) (replicate (maxMasters - length (lengthsOf request)) 0) (length counts)
+              size in
               marked ∙ ap₂ started own parted ∙ sound-marks (replicate (maxSent - total parts) 256) all-sound
 
           pub marks-within : (i : ℕ) → getD marks i 0 ≤ 256
@@ -140,7 +144,8 @@ module _ (bytes parts counts : List ℕ) where
               let most : Small 256 = omega arith in
               rw marks-are
               (everyone-at none
-              (everyone-append (marks-small (cut counts parts)) (everyone-same Small 256 (maxSent - total parts) most)) i)
+              (everyone-append (marks-small (cut counts parts))
+              (everyone-same Small 256 (maxSent - total parts) most)) i)
 
           pub gathered-all : (size : ℕ) (sent : List ℕ) → size ≡ total lengths → size ≡ length bytes
               → sent ≡ joinedOf bytes marks

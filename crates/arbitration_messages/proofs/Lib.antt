@@ -4,3 +4,4 @@ pub mod Limited
 pub mod Marking
 pub mod Sound
 pub mod Gathering
+pub mod Whole

@@ -6,7 +6,8 @@ use mathlib.Core.List.{List, [], _∷_, _++_, append-assoc, append-nil}
 use native.Mathlib.Numerals.{add-one}
 use native.Mathlib.Omega.{arith}
 use borrow.Author.Tests.{eqb-false}
-use lib.ListN.{length, getD, set, take, drop, replicate, length-replicate, drop-of-length-le, length-append, replicate-append-replicate, take-append-drop}
+use lib.ListN.{length, getD, set, take, drop, replicate, length-replicate, drop-of-length-le, length-append}
+use lib.ListN.{replicate-append-replicate, take-append-drop}
 use lib.Seq.{drop-cons, set-append-seam, take-set-le, drop-set-add, take-add, drop-drop}
 use Rattle.laws.specs.Search.{any}
 use Rattle.laws.proofs.Bools.{neither}
@@ -124,14 +125,19 @@ module _ (lengths marks₀ marks : List ℕ) (from i : ℕ) (begin : Started len
       let count = getD lengths i 0 in
       let fresh : set (drop from marks) 0 256 ≡ drop from next =
       sym (drop-set-add from marks 0 256) ∙ ap (λ (k : ℕ). drop from (set marks k 256)) (omega arith) in
+      let left = drop (suc i) lengths in
+      let kept = sym (take-set-le from marks from 256 (omega arith)) in
       record {
         same =
             begin .same
-            ∙ ap₂ (λ (l k : List ℕ). l ++ started k (drop from marks)) (sym (take-set-le from marks from 256 (omega arith))) (drop-cons lengths i 0 less)
-            ∙ ap (λ (l : List ℕ). take from next ++ (take count l ++ started (drop (suc i) lengths) (drop count l))) fresh
-            ∙ sym (append-assoc (take from next) (take count (drop from next)) (started (drop (suc i) lengths) (drop count (drop from next))))
-            ∙ ap₂ (λ (l k : List ℕ). l ++ started (drop (suc i) lengths) k) (sym (take-add from count next)) (drop-drop count from next)
-            ∙ ap (λ (k : ℕ). take (from + count) next ++ started (drop k lengths) (drop (from + count) next)) (sym (add-one i));
+            ∙ ap₂ (λ (l k : List ℕ). l ++ started k (drop from marks)) kept (drop-cons lengths i 0 less)
+            ∙ ap (λ (l : List ℕ). take from next ++ (take count l ++ started left (drop count l))) fresh
+            ∙ sym
+            (append-assoc (take from next) (take count (drop from next))
+            (started left (drop count (drop from next))))
+            ∙ ap₂ (λ (l k : List ℕ). l ++ started left k) (sym (take-add from count next)) (drop-drop count from next)
+            ∙ ap (λ (k : ℕ). take (from + count) next ++ started (drop k lengths) (drop (from + count) next))
+            (sym (add-one i));
       }
 
   pub started-done : length lengths ≤ i → marks ≡ started lengths marks₀

@@ -39,7 +39,12 @@ after-length : (parts : List ℕ) → length (marksAfter parts) ≡ total parts
 after-length [] = refl
 after-length (zero ∷ parts) = omega (arith, after-length parts)
 after-length (suc n ∷ parts) =
-    omega (arith, length-append (replicate n 256) (marksAfter parts), length-replicate {A = ℕ} n 256, after-length parts)
+    omega (
+      arith,
+      length-append (replicate n 256) (marksAfter parts),
+      length-replicate {A = ℕ} n 256,
+      after-length parts,
+    )
 
 pub marks-length : (parts : List ℕ) → length (marksOf parts) ≡ total parts
 marks-length [] = refl
@@ -105,20 +110,23 @@ unfolding zipWith
 sound [] [] good sums = no-more
 sound [] (part ∷ parts) good sums = absurd (omega arith)
 sound (count ∷ counts) parts good sums =
-    let two = neither (badMessage count (take count parts)) (any itself (zipWith badMessage counts (cut counts (drop count parts)))) good in
-    let shape = neither (isEmpty count || any isEmpty (take count parts)) (ltb maxLength (total (take count parts))) (two .0) in
-    let full = neither (isEmpty count) (any isEmpty (take count parts)) (shape .0) in
+    let own = take count parts in
+    let others = zipWith badMessage counts (cut counts (drop count parts)) in
+    let two = neither (badMessage count own) (any itself others) good in
+    let shape = neither (isEmpty count || any isEmpty own) (ltb maxLength (total own)) (two .0) in
+    let full = neither (isEmpty count) (any isEmpty own) (shape .0) in
     let unequal : count ≡ 0 → ⊥ = eqb-false count 0 (full .0) in
     let some : 0 < count = omega arith in
     let enough : count ≤ length parts = omega arith in
     let rest : total counts ≡ length (drop count parts) = omega (arith, length-drop count parts) in
-    message some enough (full .1) (ltb-false maxLength (total (take count parts)) (shape .1))
+    message some enough (full .1) (ltb-false maxLength (total own) (shape .1))
     (sound counts (drop count parts) (two .1) rest)
 
 pub sound-full : {counts parts : List ℕ} → Sound counts parts → any isEmpty parts ≡ false
 sound-full no-more = refl
 sound-full (message {count} {counts} {parts} some enough full short more) =
-    rw (← take-append-drop count parts) (any-append isEmpty (take count parts) (drop count parts) full (sound-full more))
+    rw (← take-append-drop count parts)
+    (any-append isEmpty (take count parts) (drop count parts) full (sound-full more))
 
 pub sound-lengths : {counts parts : List ℕ} → Sound counts parts
     → map limited (cut counts parts) ≡ map total (cut counts parts)

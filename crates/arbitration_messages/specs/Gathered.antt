@@ -6,13 +6,14 @@ use lib.Dec.{eqb}
 use lib.ListN.{length, replicate}
 use Rattle.laws.specs.declared.Refusal.{Refusal}
 use Rattle.laws.specs.Refusals.{none, given}
-use Rattle.arbitration_rules.specs.Reply.{Request, lengthsOf, sentOf, shapeChecks, padded}
+use Rattle.arbitration_rules.specs.Reply.{Request, lengthsOf, sentOf, messagesOf, shapeChecks, padded}
 use Rattle.arbitration_messages.specs.Marks.{maxSent}
 use Rattle.arbitration_messages.specs.declared.Messages.{Messages}
 
--- a request whose acknowledges play no part
-abbrev pub asked : List ℕ → List ℕ → List ℕ → Request
-asked bytes parts counts = record { bytes = bytes; parts = parts; counts = counts; acknowledges = [] }
+-- what four lent slices ask
+abbrev pub asked : List ℕ → List ℕ → List ℕ → List ℕ → Request
+asked bytes parts counts acknowledges =
+    record { bytes = bytes; parts = parts; counts = counts; acknowledges = acknowledges }
 
 -- what is sent, and past it 256; the lengths, and past them 0
 abbrev pub sending : Refusal → List ℕ → List ℕ → Messages
@@ -28,7 +29,12 @@ sending found sent lengths =
 abbrev pub without : Refusal → Messages
 without found = sending found [] []
 
+-- acknowledges play no part
 unfoldable pub gathered : Request → Messages
 gathered request =
     let found = given (shapeChecks request) in
     cond (eqb (found .number) 0) (sending none (sentOf request) (lengthsOf request)) (without found)
+
+-- the messages of a request that 12 and 13 pass, of another none
+unfoldable pub passing : Request → List (List ℕ)
+passing request = cond (eqb (given (shapeChecks request) .number) 0) (messagesOf request) []

@@ -1,5 +1,6 @@
 // The messages of a request, gathered from lent slices: what each sends, one after the other, and their lengths.
 ghost use mathlib.Core.Path.{_≡_};
+ghost use mathlib.Core.List.{[]};
 ghost use Rattle.laws.specs.Refusals.{refusedAt};
 ghost use Rattle.arbitration_messages.specs.Gathered.{asked, without, gathered};
 
@@ -13,6 +14,9 @@ pub use lengths::end_of;
 
 // The most bytes that all messages together have.
 pub const MAX_SENT: usize = MAX_MASTERS * MAX_LENGTH;
+
+// What is added to a byte that no restart stands before.
+pub const NO_RESTART: u16 = 256;
 
 // The first of 12 and 13 that applies, else the messages: what they send, one number a byte, as many as size says, and
 // past it 256; and the length of each, as many as count says, and past it 0. At a refusal there is no message.
@@ -41,7 +45,7 @@ fn refused(number: u8, place: usize) -> Messages
 // The messages of a request.
 pub fn gather(bytes: &[u8], parts: &[u32], counts: &[u32]) -> Messages
     ensures { λ r. ⌜ r
-        ≡ gathered (asked (now (bytes .entry)) (now (parts .entry)) (now (counts .entry))) ⌝ }
+        ≡ gathered (asked (now (bytes .entry)) (now (parts .entry)) (now (counts .entry)) []) ⌝ }
 {
     let count = counts.len();
     if (count == 0) | (count > MAX_MASTERS) {

@@ -9,13 +9,14 @@ ghost use Rattle.arbitration_rules.specs.Limits.{maxMasters, maxLength};
 ghost use Rattle.arbitration_rules.specs.Reply.{isEmpty, total, marksAfter};
 ghost use Rattle.arbitration_messages.specs.Marks.{maxSent, started, joinedOf};
 use crate::MAX_SENT;
+use crate::NO_RESTART;
 use arbitration_rules::MAX_MASTERS;
 
 // No restart anywhere.
 pub(crate) fn unmarked() -> [u16; MAX_SENT]
     ensures { λ r. ⌜ r ≡ replicate maxSent 256 ⌝ }
 {
-    [256u16; MAX_SENT]
+    [NO_RESTART; MAX_SENT]
 }
 
 // A restart before every part.
@@ -48,7 +49,7 @@ pub(crate) fn message_marks(
     let mut from: usize = 0;
     let mut i: usize = 0;
     while i < count {
-        marks[from] = 256;
+        marks[from] = NO_RESTART;
         from += lengths[i] as usize;
         i += 1;
     }

@@ -96,7 +96,8 @@ message-marks-requires c κs =
     let a = passed .before .before .before .before .args in (
       laws.few-counts (a .bytes .now) (a .parts .now) (a .counts .now) (passed .if1 .left),
       laws.lengths-short (a .bytes .now) (a .parts .now) (a .counts .now) (passed .if1 .left) _ _ _
-          (measured .lengths-of .ensures) (searched .first-bad .ensures) (summed .total .ensures) (c .before .before .before .before .if2 .left),
+          (measured .lengths-of .ensures) (searched .first-bad .ensures) (summed .total .ensures)
+          (c .before .before .before .before .if2 .left),
     )
 
 joined-requires : tie.Need-joined-requires
@@ -113,7 +114,8 @@ joined-requires c κs =
     (measured .lengths-of .ensures) (searched .first-bad .ensures) (summed .total .ensures) passes in (
       omega (arith, within, size, c .before .before .before .total2 .ensures, c .before .before .if3 .left),
       laws.marks-within (a .bytes .now) (a .parts .now) (a .counts .now) (passed .if1 .left) _ _ _
-          (measured .lengths-of .ensures) (searched .first-bad .ensures) (summed .total .ensures) passes _ _ (c .before .part-marks .ensures) (c .message-marks .ensures),
+          (measured .lengths-of .ensures) (searched .first-bad .ensures) (summed .total .ensures) passes _ _
+          (c .before .part-marks .ensures) (c .message-marks .ensures),
     )
 
 returns-4 : tie.Need-returns-4

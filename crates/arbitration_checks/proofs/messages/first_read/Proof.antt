@@ -11,10 +11,10 @@ use Rattle.arbitration_checks.proofs.messages.first_read.Statement.{sta
 use Rattle.arbitration_checks.proofs.messages.first_read.Tie as tie
 
 abbrev Inv-loop : tie.InvT-loop
-Inv-loop bytes lengths from₀ i₀ from i = (i ≤ length lengths) × Searched reads lengths bytes i from
+Inv-loop sent lengths from₀ i₀ from i = (i ≤ length lengths) × Searched reads lengths sent i from
 
 abbrev μ-loop : tie.MeasureT-loop
-μ-loop bytes lengths from₀ i₀ from i = length lengths - i
+μ-loop sent lengths from₀ i₀ from i = length lengths - i
 
 loop-holds : tie.Need-loop-holds Inv-loop μ-loop
 loop-holds c = (search needs, searched-start reads _ _)
@@ -27,6 +27,9 @@ shared-slice-read-end-of c = search needs
 
 end-of-requires : tie.Need-end-of-requires Inv-loop μ-loop
 end-of-requires c κs = tt
+
+mul-reads : tie.Need-mul-reads Inv-loop μ-loop
+mul-reads c = omega (arith, c .before .before .before .loop .inv .1 .at .within)
 
 sub-reads : tie.Need-sub-reads Inv-loop μ-loop
 sub-reads c = omega (arith, c .end-of .ensures, c .before .before .before .loop .inv .1 .at .within)
@@ -79,6 +82,7 @@ first-read-spec =
     mul-end-of
     shared-slice-read-end-of
     end-of-requires
+    mul-reads
     sub-reads
     part-reads-start
     part-reads-end

@@ -45,7 +45,8 @@ returns c =
     let lengths = args .lengths .now in
     let less : head .i < length counts = omega arith in
     let less-too : head .i < length lengths = omega arith in
-    let more : head .i < length (badLengthsOf counts lengths) = omega (arith, zipWith-length badLength counts lengths) in
+    let size = zipWith-length badLength counts lengths in
+    let more : head .i < length (badLengthsOf counts lengths) = omega (arith, size) in
     let here = zipWith-at badLength counts lengths (head .i) 0 0 false less less-too in
     found-first itself (badLengthsOf counts lengths) (head .i) false (head .inv) more (here ∙ c .if1 .taken)
 
@@ -64,15 +65,18 @@ loop-again c =
     let lengths = args .lengths .now in
     let less : head .i < length counts = omega arith in
     let less-too : head .i < length lengths = omega arith in
-    let more : head .i < length (badLengthsOf counts lengths) = omega (arith, zipWith-length badLength counts lengths) in
+    let size = zipWith-length badLength counts lengths in
+    let more : head .i < length (badLengthsOf counts lengths) = omega (arith, size) in
     let here = zipWith-at badLength counts lengths (head .i) 0 0 false less less-too in
     passed-more itself (badLengthsOf counts lengths) (head .i) false (head .inv) more (here ∙ c .if1 .left)
 
 returns-2 : tie.Need-returns-2 Inv-loop μ-loop
 returns-2 c =
     let args = c .before .before .args in
-    let size = zipWith-length badLength (args .counts .now) (args .lengths .now) in
-    let done : length (badLengthsOf (args .counts .now) (args .lengths .now)) ≤ c .before .loop .i = omega (arith, size) in
+    let counts = args .counts .now in
+    let lengths = args .lengths .now in
+    let size = zipWith-length badLength counts lengths in
+    let done : length (badLengthsOf counts lengths) ≤ c .before .loop .i = omega (arith, size) in
     none-first itself _ _ (c .before .loop .inv) done
 
 pub first-bad-spec : {M : Type 1} → statement M

@@ -90,7 +90,8 @@ loop-again c =
       search needs,
       at-more counts parts (head .i) (head .from) _ (head .inv .1) less end,
       ap (set (head .lengths) (head .i)) (c .length-of .ensures ∙ ap limited own)
-          ∙ gathered-more limited (cut counts parts) (replicate maxMasters 0) (head .lengths) (head .i) [] (head .inv .2) here room,
+          ∙ gathered-more limited (cut counts parts) (replicate maxMasters 0) (head .lengths) (head .i) []
+          (head .inv .2) here room,
     )
 
 returns : tie.Need-returns Inv-loop μ-loop

@@ -1,21 +1,21 @@
--- The messages passed so far are not begun by it.
+-- The messages passed so far do not differ from it at an ending.
 use native.Mathlib.Omega.{arith}
 use Prim.Native.Nat.{_≤_, _-_}
-use mathlib.Core.Path.{sym, ap, _∙_}
+use mathlib.Core.Path.{sym, _∙_}
 use lib.ListN.{length}
-use Rattle.arbitration_rules.specs.Outcome.{begins}
-use Rattle.arbitration_checks.specs.declared.order.Compared.{Compared}
+use Rattle.arbitration_rules.specs.Outcome.{endingDiffers}
 use Rattle.arbitration_checks.proofs.SearchedMessages.{Searched, searched-start, searched-more, searched-any}
 use Rattle.arbitration_checks.proofs.SearchedMessages.{searched-not}
 use borrow.Author.Needs.{needs}
-use Rattle.arbitration_checks.proofs.messages.begins_any.Statement.{statement}
-use Rattle.arbitration_checks.proofs.messages.begins_any.Tie as tie
+use Rattle.arbitration_checks.proofs.messages.any_ending_differs.Statement.{statement}
+use Rattle.arbitration_checks.proofs.messages.any_ending_differs.Tie as tie
 
 abbrev Inv-loop : tie.InvT-loop
-Inv-loop message bytes lengths from₀ i₀ from i = (i ≤ length lengths) × Searched (begins message) lengths bytes i from
+Inv-loop message sent lengths acks from₀ i₀ from i =
+    (i ≤ length lengths) × Searched (endingDiffers acks message) lengths sent i from
 
 abbrev μ-loop : tie.MeasureT-loop
-μ-loop message bytes lengths from₀ i₀ from i = length lengths - i
+μ-loop message sent lengths acks from₀ i₀ from i = length lengths - i
 
 loop-holds : tie.Need-loop-holds Inv-loop μ-loop
 loop-holds c = (search needs, searched-start _ _ _)
@@ -29,26 +29,28 @@ shared-slice-read-end-of c = search needs
 end-of-requires : tie.Need-end-of-requires Inv-loop μ-loop
 end-of-requires c κs = tt
 
-sub-compare : tie.Need-sub-compare Inv-loop μ-loop
-sub-compare c = omega (arith, c .end-of .ensures, c .before .before .before .loop .inv .1 .at .within)
+mul-ending-differs : tie.Need-mul-ending-differs Inv-loop μ-loop
+mul-ending-differs c = omega (arith, c .before .before .before .loop .inv .1 .at .within)
 
-part-compare-start : tie.Need-part-compare-start Inv-loop μ-loop
-part-compare-start c = omega (arith, c .end-of .ensures, c .before .before .before .loop .inv .1 .at .within)
+sub-ending-differs : tie.Need-sub-ending-differs Inv-loop μ-loop
+sub-ending-differs c = omega (arith, c .end-of .ensures, c .before .before .before .loop .inv .1 .at .within)
 
-part-compare-end : tie.Need-part-compare-end Inv-loop μ-loop
-part-compare-end c = omega (arith, c .end-of .ensures)
+part-ending-differs-start : tie.Need-part-ending-differs-start Inv-loop μ-loop
+part-ending-differs-start c = omega (arith, c .end-of .ensures, c .before .before .before .loop .inv .1 .at .within)
 
-compare-requires : tie.Need-compare-requires Inv-loop μ-loop
-compare-requires c κs = search needs
+part-ending-differs-end : tie.Need-part-ending-differs-end Inv-loop μ-loop
+part-ending-differs-end c = omega (arith, c .end-of .ensures)
+
+ending-differs-requires : tie.Need-ending-differs-requires Inv-loop μ-loop
+ending-differs-requires c κs = tt
 
 returns : tie.Need-returns Inv-loop μ-loop
 returns c =
     let at3 = c .before .before .before in
     let at5 = at3 .before .before in
-    let at6 = at5 .before in
-    let head = at6 .loop in
+    let head = at5 .before .loop in
     searched-any _ _ _ (head .i) (head .from) _ (head .inv .1) (at5 .loop-test .taken) (at3 .end-of .ensures)
-    (sym (ap (λ (r : Compared). r .begins) (c .before .compare .ensures)) ∙ c .if1 .taken)
+    (sym (c .before .ending-differs .ensures) ∙ c .if1 .taken)
 
 add-i : tie.Need-add-i Inv-loop μ-loop
 add-i c = search needs
@@ -60,18 +62,17 @@ loop-again : tie.Need-loop-again Inv-loop μ-loop
 loop-again c =
     let at3 = c .before .before .before in
     let at5 = at3 .before .before in
-    let at6 = at5 .before in
-    let head = at6 .loop in (
+    let head = at5 .before .loop in (
       search needs,
       searched-more _ _ _ (head .i) (head .from) _ (head .inv .1) (at5 .loop-test .taken) (at3 .end-of .ensures)
-          (sym (ap (λ (r : Compared). r .begins) (c .before .compare .ensures)) ∙ c .if1 .left),
+          (sym (c .before .ending-differs .ensures) ∙ c .if1 .left),
     )
 
 returns-2 : tie.Need-returns-2 Inv-loop μ-loop
 returns-2 c = searched-not _ _ _ _ (c .before .loop .from) (c .before .loop .inv .1) (c .loop-test .left)
 
-pub begins-any-spec : {M : Type 1} → statement M
-begins-any-spec =
+pub any-ending-differs-spec : {M : Type 1} → statement M
+any-ending-differs-spec =
     tie.close
     (tie.spec
     Inv-loop
@@ -80,10 +81,11 @@ begins-any-spec =
     mul-end-of
     shared-slice-read-end-of
     end-of-requires
-    sub-compare
-    part-compare-start
-    part-compare-end
-    compare-requires
+    mul-ending-differs
+    sub-ending-differs
+    part-ending-differs-start
+    part-ending-differs-end
+    ending-differs-requires
     returns
     add-i
     loop-less
