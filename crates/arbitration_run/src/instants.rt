@@ -140,7 +140,8 @@ fn byte(at: usize) -> Instant
     turn(at - 26, Effect::Acknowledge, Effect::Record, false)
 }
 
-// A repeated START or the STOP: SDA is set for it, a bit turn, and SDA changes.
+// A repeated START, or the STOP of step 4: SDA is set for it, a bit turn, and SDA changes; SCL stays high in the sample
+// that shows it.
 fn condition(at: usize, set: Operation, change: Operation, past: Operation) -> Instant
     ensures { λ r. ⌜ r ≡ rows.condition set change past at ⌝ }
 {

@@ -1,5 +1,5 @@
-// Messages as rows by value, one for each master (01: plans; up to sixteen of up to 64 bytes each): what a message sends,
-// 256 and a byte, or the byte alone where a restart stands before it.
+// Messages as rows by value, one for each master (01: plans; up to sixteen of up to 64 bytes each). A row is what its
+// message sends, one number a byte: 256 and the byte, or the byte alone where a restart stands before it.
 ghost use mathlib.Core.Path.{_≡_};
 ghost use Prim.Native.Nat.{_+_, _-_, _≤_, min};
 ghost use lib.ListN.{length, take, drop};
