@@ -25,6 +25,7 @@ use Rattle.arbitration_rules.proofs.Pieces.{Bytes}
 use Rattle.arbitration_rules.proofs.Accepted.{answered-outcome, refused-by-16}
 use Rattle.arbitration_rules.proofs.ClearedFlags.{run-clears}
 use Rattle.arbitration_run.specs.Members as members
+use Rattle.arbitration_messages.specs.Gathered.{passing}
 use Rattle.arbitration_run.specs.Rows.{rowsOf}
 use Rattle.arbitration_run.specs.Sequence.{first}
 use Rattle.arbitration_turns.specs.Turns.{Turn, Reached, ended, more}
@@ -32,7 +33,7 @@ use Rattle.arbitration_turns.proofs.Ran as ran
 use Rattle.arbitration.specs.declared.prepare.Prepared.{Prepared}
 use Rattle.arbitration.specs.Shown as shows
 use Rattle.arbitration.specs.Shown.{Lent, shown, clearedIn, allCleared, OnlyUndecided, Arbitrates}
-use Rattle.arbitration.specs.Prepared.{Prepares, soundMessages, repliedBy, repliedTo}
+use Rattle.arbitration.specs.Prepared.{Prepares, repliedBy, repliedTo}
 use Rattle.arbitration.proofs.Given.{bytes-below, arbitration, shaped, whole, short, carried-length, levels-length}
 use Rattle.arbitration.proofs.Given.{Unrefused, unrefused-gives}
 
@@ -271,7 +272,7 @@ module _ (request : Request) (entry : Lent) where
   pub promised : (prepared : Prepared)
       → Prepares request (length (entry .table)) (length (entry .carried)) (length (entry .levels)) prepared
       → (final : Turn)
-      → Reached (prepared .count) (rowsOf (soundMessages request)) acknowledges
+      → Reached (prepared .count) (rowsOf (passing request)) acknowledges
       (record {
         sequencer = prepared .first;
         table = entry .table;
@@ -281,7 +282,7 @@ module _ (request : Request) (entry : Lent) where
       final
       → (reply : Arbitrated) → reply ≡ repliedTo prepared (final .sequencer)
       → Promise (record { table = final .table; carried = final .carried; levels = final .levels }) reply
-  unfolding soundMessages repliedTo
+  unfolding passing repliedTo
   promised prepared prepares final reached reply is = go (eqb (prepared .refusal .number) 0) refl
     where
       go : (runs : Bool) → eqb (prepared .refusal .number) 0 ≡ runs
@@ -302,7 +303,7 @@ module _ (request : Request) (entry : Lent) where
           rw same (refused-clauses (prepared .refusal) reply (sym (prepares .applies)) some (rw runs at is))
 
 -- the acknowledges play no part in which messages are sound
-pub same-sound : (bytes parts counts acknowledges : List ℕ)
-    → soundMessages (asked bytes parts counts []) ≡ soundMessages (asked bytes parts counts acknowledges)
-unfolding soundMessages
-same-sound bytes parts counts acknowledges = refl
+pub same-passing : (bytes parts counts acknowledges : List ℕ)
+    → passing (asked bytes parts counts []) ≡ passing (asked bytes parts counts acknowledges)
+unfolding passing
+same-passing bytes parts counts acknowledges = refl

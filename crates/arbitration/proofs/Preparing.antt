@@ -5,15 +5,18 @@ use mathlib.Core.Bool.{Bool, true, false, cond}
 use native.Mathlib.Omega.{arith}
 use lib.Dec.{eqb}
 use borrow.Author.Tests.{ne-eqb, eqb-true}
-use lib.ListN.{length}
+use lib.ListN.{length, take}
 use Rattle.laws.specs.declared.Refusal.{Refusal}
 use Rattle.laws.specs.Refusals.{none, refusedAt}
 use Rattle.arbitration_rules.specs.Limits.{maxMasters}
-use Rattle.arbitration_rules.specs.Reply.{Request, refusal}
+use Rattle.arbitration_rules.specs.Reply.{Request, lengthsOf, refusal}
 use Rattle.arbitration_rules.proofs.Pieces.{Bytes}
+use Rattle.arbitration_messages.specs.declared.Messages.{Messages}
+use Rattle.arbitration_messages.specs.Gathered.{gathered}
+use Rattle.arbitration_messages.proofs.Whole.{refusal-is, lengths-whole}
 use Rattle.arbitration_checks.specs.Settled.{settled}
 use Rattle.arbitration.specs.Prepared.{Short}
-use Rattle.arbitration.proofs.Given.{settled-none, settled-some, short-is, applies-is, passes-some, lacks}
+use Rattle.arbitration.proofs.Given.{settled-none, settled-some, shaped, short-is, applies-is, passes-some, lacks}
 use Rattle.arbitration.proofs.Given.{Unrefused, unrefused-gives}
 
 module _ (request : Request) (tableRoom carriedRoom levelRoom : ℕ) where
@@ -59,3 +62,14 @@ module _ (request : Request) (tableRoom carriedRoom levelRoom : ℕ) where
           (ap (λ (r : Refusal). r .number) (sym is) ∙ eqb-true (found .number) 0 runs) in
           (all .masters, all .enough)
       go false runs = (omega arith, omega arith)
+
+  -- and the messages that are gathered are those that run
+  pub lengths-so : Bytes (request .bytes) → (found : Refusal) → found ≡ whatApplies → (messages : Messages)
+      → messages ≡ gathered request → found .number ≡ 0
+      → take (messages .count) (messages .lengths) ≡ lengthsOf request
+  lengths-so small found is messages gathers runs =
+      let all =
+      unrefused-gives request tableRoom carriedRoom levelRoom small
+      (ap (λ (r : Refusal). r .number) (sym is) ∙ runs) in
+      lengths-whole request messages gathers
+      (ap (λ (r : Refusal). r .number) (refusal-is request messages gathers) ∙ shaped request small (all .passed))

@@ -2,14 +2,14 @@
 use Prim.Native.Nat.{ℕ, _<_, _≤_}
 use mathlib.Core.Path.{_≡_}
 use mathlib.Core.Bool.{Bool, cond, false, _||_}
-use mathlib.Core.List.{List, []}
+use mathlib.Core.List.{List}
 use lib.Dec.{eqb, ltb}
 use lib.ListN.{length, getD}
 use Rattle.laws.specs.declared.Refusal.{Refusal}
-use Rattle.laws.specs.Refusals.{none, given}
+use Rattle.laws.specs.Refusals.{none}
 use Rattle.arbitration_rules.specs.declared.Arbitrated.{Arbitrated}
 use Rattle.arbitration_rules.specs.Limits.{maxMasters}
-use Rattle.arbitration_rules.specs.Reply.{Request, lengthsOf, messagesOf, shapeChecks, refusal, refused}
+use Rattle.arbitration_rules.specs.Reply.{Request, lengthsOf, refusal, refused}
 use Rattle.arbitration_run.specs.declared.sequencer.Sequencer.{Sequencer}
 use Rattle.arbitration_run.specs.Members.{seats}
 use Rattle.arbitration_run.specs.Sequence.{first}
@@ -37,10 +37,6 @@ stopped sequencer =
 -- the sequencer before its first turn; after a refusal it makes none
 unfoldable pub begunBy : Refusal → List ℕ → Sequencer
 begunBy found lengths = cond (eqb (found .number) 0) (first lengths) (stopped (first lengths))
-
--- the messages of a request that 12 and 13 pass, else none
-unfoldable pub soundMessages : Request → List (List ℕ)
-soundMessages request = cond (eqb (given (shapeChecks request) .number) 0) (messagesOf request) []
 
 -- what a call is to do: it runs all masters, or after a refusal none, and there is room for those that run; and that
 -- the bytes lent are bytes

@@ -2,11 +2,13 @@
 ghost use mathlib.Core.Path.{_≡_};
 ghost use mathlib.Core.Bool.{cond};
 ghost use mathlib.Core.List.{[]};
+ghost use Prim.Native.Nat.{_≤_};
 ghost use lib.Dec.{eqb};
 ghost use lib.ListN.{length, take};
 ghost use Rattle.arbitration_rules.specs.Reply.{asked, refusal as applies};
 ghost use Rattle.arbitration_run.specs.Rows.{rowsOf};
-ghost use Rattle.arbitration.specs.Prepared.{Short, Prepares, begunBy, soundMessages};
+ghost use Rattle.arbitration_messages.specs.Gathered.{passing};
+ghost use Rattle.arbitration.specs.Prepared.{Short, Prepares, begunBy};
 use arbitration_messages::Messages;
 use arbitration_rules::MAX_LENGTH;
 use arbitration_rules::MAX_MASTERS;
@@ -75,6 +77,7 @@ fn refusal(
 
 // The sequencer before its first turn; after a refusal it makes none.
 fn begun(found: Refusal, messages: Messages) -> Sequencer
+    requires { ⌜ messages .count ≤ length (messages .lengths) ⌝ }
     ensures { λ r. ⌜ r ≡ begunBy found (take (messages .count) (messages .lengths)) ⌝ }
 {
     let lengths = messages.lengths;
@@ -120,13 +123,9 @@ pub(crate) fn prepare(
 }
 
 // The messages as rows, one for each master; none where 12 or 13 applies.
-pub(crate) fn rows(
-    bytes: &[u8],
-    parts: &[u32],
-    counts: &[u32],
-) -> [[u16; MAX_LENGTH]; MAX_MASTERS]
+pub(crate) fn rows(bytes: &[u8], parts: &[u32], counts: &[u32]) -> [[u16; MAX_LENGTH]; MAX_MASTERS]
     ensures { λ r. ⌜ r
-        ≡ rowsOf (soundMessages (asked (now (bytes .entry)) (now (parts .entry)) (now (counts .entry)) [])) ⌝ }
+        ≡ rowsOf (passing (asked (now (bytes .entry)) (now (parts .entry)) (now (counts .entry)) [])) ⌝ }
 {
     let messages = arbitration_messages::gather(bytes, parts, counts);
     let sent = messages.sent;

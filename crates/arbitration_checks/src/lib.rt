@@ -3,7 +3,7 @@
 ghost use mathlib.Core.Path.{_≡_};
 ghost use Prim.Native.Nat.{_≤_};
 ghost use lib.ListN.{length};
-ghost use Rattle.arbitration_messages.specs.Gathered.{asked};
+ghost use Rattle.arbitration_rules.specs.Reply.{asked};
 ghost use Rattle.arbitration_messages.specs.Marks.{maxSent};
 ghost use Rattle.arbitration_checks.specs.Settled.{stoppedAt, carrying as carryingOf, decided, settled};
 

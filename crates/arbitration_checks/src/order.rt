@@ -2,7 +2,7 @@
 ghost use mathlib.Core.Path.{_≡_};
 ghost use mathlib.Core.List.{[]};
 ghost use Prim.Native.Nat.{_<_};
-ghost use Rattle.arbitration_messages.specs.Gathered.{asked};
+ghost use Rattle.arbitration_rules.specs.Reply.{asked};
 ghost use Rattle.arbitration_checks.specs.Order.{comparedOf, LeastAt, leastOf};
 use arbitration_messages::NO_RESTART;
 

@@ -19,7 +19,8 @@ use Rattle.arbitration_rules.specs.Reply.{badLengths, sentOf, lengthsOf, marksA
 use Rattle.arbitration_rules.proofs.Cut.{cut-count, lengths-count}
 use Rattle.arbitration_messages.specs.Lengths.{limited, badLength, badLengthsOf}
 use Rattle.arbitration_messages.specs.Marks.{maxSent, started, joinedOf}
-use Rattle.arbitration_messages.specs.Gathered.{asked, without, sending, gathered}
+use Rattle.arbitration_rules.specs.Reply.{asked}
+use Rattle.arbitration_messages.specs.Gathered.{without, sending, gathered}
 use Rattle.arbitration_messages.proofs.Sums.{total-append, total-none}
 use Rattle.arbitration_messages.proofs.Limited.{limited-bad}
 use Rattle.arbitration_messages.proofs.Sound.{Sound, sound, sound-lengths, sound-total, sound-bound, sound-short}

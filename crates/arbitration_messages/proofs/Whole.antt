@@ -15,7 +15,8 @@ use Rattle.arbitration_rules.specs.Limits.{maxMasters}
 use Rattle.arbitration_rules.specs.Reply.{Request, cut, sentOf, lengthsOf, messagesOf, shapeChecks}
 use Rattle.arbitration_messages.specs.declared.Messages.{Messages}
 use Rattle.arbitration_messages.specs.Marks.{maxSent}
-use Rattle.arbitration_messages.specs.Gathered.{asked, sending, without, gathered, passing}
+use Rattle.arbitration_rules.specs.Reply.{asked}
+use Rattle.arbitration_messages.specs.Gathered.{sending, without, gathered, passing}
 
 pub shape-numbered : (request : Request) → Numbered (shapeChecks request)
 shape-numbered request = ((λ e. omega arith), ((λ e. omega arith), tt))

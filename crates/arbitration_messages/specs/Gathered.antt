@@ -10,11 +10,6 @@ use Rattle.arbitration_rules.specs.Reply.{Request, lengthsOf, sentOf, messagesO
 use Rattle.arbitration_messages.specs.Marks.{maxSent}
 use Rattle.arbitration_messages.specs.declared.Messages.{Messages}
 
--- what four lent slices ask
-abbrev pub asked : List ℕ → List ℕ → List ℕ → List ℕ → Request
-asked bytes parts counts acknowledges =
-    record { bytes = bytes; parts = parts; counts = counts; acknowledges = acknowledges }
-
 -- what is sent, and past it 256; the lengths, and past them 0
 abbrev pub sending : Refusal → List ℕ → List ℕ → Messages
 sending found sent lengths =

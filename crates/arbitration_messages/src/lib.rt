@@ -2,7 +2,8 @@
 ghost use mathlib.Core.Path.{_≡_};
 ghost use mathlib.Core.List.{[]};
 ghost use Rattle.laws.specs.Refusals.{refusedAt};
-ghost use Rattle.arbitration_messages.specs.Gathered.{asked, without, gathered};
+ghost use Rattle.arbitration_rules.specs.Reply.{asked};
+ghost use Rattle.arbitration_messages.specs.Gathered.{without, gathered};
 
 mod lengths; // lengths.rt: how many bytes each message has, and the first that is out of the limits
 mod marks; // marks.rt: where a restart stands, and the bytes with that

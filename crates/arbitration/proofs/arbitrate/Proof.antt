@@ -44,11 +44,12 @@ use Rattle.arbitration_rules.specs.declared.Arbitrated.{Arbitrated}
 use Rattle.arbitration_rules.specs.Limits.{maxMasters}
 use Rattle.arbitration_rules.specs.Reply.{Request, asked}
 use Rattle.arbitration_run.specs.declared.sequencer.Sequencer.{Sequencer}
+use Rattle.arbitration_messages.specs.Gathered.{passing}
 use Rattle.arbitration_run.specs.Rows.{rowsOf}
 use Rattle.arbitration_turns.specs.Turns.{Turn, Reached}
 use Rattle.arbitration.specs.declared.prepare.Prepared.{Prepared}
 use Rattle.arbitration.specs.Shown.{Lent, Arbitrates}
-use Rattle.arbitration.specs.Prepared.{Prepares, soundMessages, repliedTo}
+use Rattle.arbitration.specs.Prepared.{Prepares, repliedTo}
 use Rattle.arbitration.proofs.prepare.prepare as prepare′
 use Rattle.arbitration.proofs.prepare.prepare.Symbol as prepare-def
 use Rattle.arbitration.proofs.prepare.prepare.Met as prepare-met
@@ -61,7 +62,7 @@ use Rattle.arbitration.proofs.table.run.Met as run-met
 use Rattle.arbitration.proofs.reply.replied as replied′
 use Rattle.arbitration.proofs.reply.replied.Symbol as replied-def
 use Rattle.arbitration.proofs.reply.replied.Met as replied-met
-use Rattle.arbitration.proofs.Contract.{same-sound, promised}
+use Rattle.arbitration.proofs.Contract.{same-passing, promised}
 use Rattle.arbitration.proofs.Walk.{uint, have, typed, unpack, unpack-told, Local, empty, holds, locals}
 use Rattle.arbitration.proofs.Walk.{free-locals, local-at, field-at, sets, puts, Meant, Last, Back, calls-on}
 use Rattle.arbitration.proofs.Walk.{by-value}
@@ -200,7 +201,7 @@ module _ {X : Type 1} (𝓤 : URA X) (H : Heap 𝓤) (A : Atoms 𝓤) (mem : Mem
 
     abbrev Cuts : List (List ℕ) → Last 𝓤 H A cut′.ended (cut′.clauses 𝓤 H A mem run) to-cut → Type 0
     Cuts r fs =
-        r ≡ rowsOf (soundMessages (asked (bytes .slice .now) (parts .slice .now) (counts .slice .now) []))
+        r ≡ rowsOf (passing (asked (bytes .slice .now) (parts .slice .now) (counts .slice .now) []))
 
     gets-cut : (fs : Last 𝓤 H A cut′.ended (cut′.clauses 𝓤 H A mem run) to-cut)
         → ent 𝓤 (mean 𝓤 H A (Back 𝓤 H A cut′.ended (cut′.clauses 𝓤 H A mem run) to-cut fs))
@@ -596,7 +597,7 @@ module _
 
             lends : (p : Prepared) → Is prepared-row p (prepared .val p ∷ []) → Prepared-so p → (rows : List (List ℕ))
                 → Is rows-row rows (rows-type .val rows ∷ [])
-                → rows ≡ rowsOf (soundMessages request)
+                → rows ≡ rowsOf (passing request)
                 → Sq W (Ready ++ locals (Unlent (Measured (Got p rows (empty sequencer-mir ended-at) (empty reply-mir result-at)))) [])
                 (runs C Λ En body.t-6 (atRet En Post))
             lends p p-is prepares rows rows-are same =
@@ -679,7 +680,7 @@ module _
                 (gets-cut 𝓤 H A mem run W bytes parts counts acks fs) $
                 puts ! (init ! 34 refl (typed W rows-type r r-are .0)) $
                 lends p p-is prepares r r-are
-                (same ∙ ap rowsOf (same-sound (bytes .slice .now) (parts .slice .now) (counts .slice .now) (acks .slice .now))))
+                (same ∙ ap rowsOf (same-passing (bytes .slice .now) (parts .slice .now) (counts .slice .now) (acks .slice .now))))
 
             starts : Sq W (locals (Unlent (empty (tyInt w64) levels-long-at ∷ empty (tyInt w64) carried-long-at
                 ∷ empty (tyInt w64) table-long-at ∷ empty sequencer-mir ended-at ∷ empty rows-mir rows-at

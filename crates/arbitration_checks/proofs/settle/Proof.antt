@@ -3,7 +3,7 @@ use mathlib.Core.Path.{_≡_, sym, _∙_}
 use native.Mathlib.Omega.{arith}
 use lib.ListN.{length, length-take}
 use lib.Seq.{length-take-le}
-use Rattle.arbitration_messages.specs.Gathered.{asked}
+use Rattle.arbitration_rules.specs.Reply.{asked}
 use Rattle.arbitration_messages.proofs.Whole.{size-within, count-within, apart}
 use Rattle.arbitration_checks.proofs.Decided.{settled-refused, settled-decided}
 use borrow.Author.Needs.{needs}
