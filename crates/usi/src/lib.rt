@@ -538,6 +538,17 @@ impl Usi {
         self.edged(scl, sda).recorded(scl, sda).finished(ticks)
     }
 
+    // A sample and then, where asked, a tick, each with its own tests.
+    fn two_steps(self, level: u8, ticks: bool) -> Usi
+        ensures { λ r. ⌜ r ≡ sampleThen level ticks self ⌝ }
+    {
+        let seen = self.next_sample(level);
+        if ticks {
+            return seen.next_tick();
+        }
+        seen
+    }
+
     // The module after a sample and then, where asked, a tick; a refused step leaves it as it was.
     pub fn sample_tick(self, level: u8, ticks: bool) -> Usi
         ensures { λ r. ⌜ r ≡ sampleThen level ticks self ⌝ }
@@ -545,11 +556,7 @@ impl Usi {
         if self.fits() & (level <= levels::MAX_LEVEL) {
             return self.stepped(levels::scl(level), levels::sda(level), ticks);
         }
-        let seen = self.next_sample(level);
-        if ticks {
-            return seen.next_tick();
-        }
-        seen
+        self.two_steps(level, ticks)
     }
 
     // I2C's two lines.

@@ -31,17 +31,11 @@ returns c =
     rw (c .stepped .ensures, c .before .sda .ensures, c .before .before .scl .ensures)
     (sym (stepped-is _ _ _ low (call-yes _ _ (tested .before .fits2 .ensures) (fitting .0))))
 
-next-sample-requires : tie.Need-next-sample-requires
-next-sample-requires c κs = search needs
-
-next-tick-requires : tie.Need-next-tick-requires
-next-tick-requires c κs = search needs
+two-steps-requires : tie.Need-two-steps-requires
+two-steps-requires c κs = search needs
 
 returns-2 : tie.Need-returns-2
-returns-2 c = rw (c .before .if2 .taken, c .next-tick .ensures, c .before .before .next-sample .ensures)
-
-returns-3 : tie.Need-returns-3
-returns-3 c = rw (c .if2 .left, c .before .next-sample .ensures)
+returns-2 c = c .two-steps .ensures
 
 pub sample-tick-spec : {M : Type 1} → statement M
 sample-tick-spec =
@@ -52,7 +46,5 @@ sample-tick-spec =
     sda-requires
     stepped-requires
     returns
-    next-sample-requires
-    next-tick-requires
-    returns-2
-    returns-3)
+    two-steps-requires
+    returns-2)
