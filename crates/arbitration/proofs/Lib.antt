@@ -3,6 +3,7 @@ pub mod Lent
 pub mod Module
 pub mod Inputs
 pub mod PassLaws
+pub mod PassLoop
 pub mod Weight
 pub mod Given
 pub mod Preparing
