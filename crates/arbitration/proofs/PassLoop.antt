@@ -119,7 +119,7 @@ module _
     (is-pass : (i : ℕ) (u : Usi) → i < maxMasters → stepped i u ≡ applied passing i u)
     (Post : Val → SProp 𝓤)
     (ends : (i : ℕ) → i ≡ count → Is seen-row (shown table passing i) (seen .val (shown table passing i) ∷ [])
-        → ent 𝓤 (⋆ 𝓤 H A (Left table passing i)) (Post (seen .val (shown table passing i))))
+    → ent 𝓤 (⋆ 𝓤 H A (Left table passing i)) (Post (seen .val (shown table passing i))))
   where
     -- what a turn has: i modules made the pass
     record State : Type 0 where

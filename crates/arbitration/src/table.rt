@@ -56,9 +56,10 @@ fn step_all(table: &mut [Usi], count: usize, pass: Pass) -> Seen
         × (r ≡ seenBy count (passed count pass (now (table .entry)))) ⌝ }
 {
     if pass.samples() {
-        return sample_all(table, count, pass.sampling());
+        sample_all(table, count, pass.sampling())
+    } else {
+        write_all(table, count, pass)
     }
-    write_all(table, count, pass)
 }
 
 // Passes over the first count modules, and what the sequencer makes of each, until it runs no more; the bytes to send
