@@ -2,7 +2,7 @@
 -- followed after the sample too.
 use mathlib.Core.Path.{_≡_, refl, sym, ap, subst, _∙_}
 use Prim.Native.Nat.{ℕ}
-use mathlib.Core.Bool.{Bool, cond, true, false, not, _&&_, _||_}
+use mathlib.Core.Bool.{Bool, cond, true, false, _&&_, _||_}
 use lib.Dec.{ltb}
 use Rattle.levels.specs.Levels as levels
 use Rattle.usi_registers.specs.Rules as setUp
@@ -103,7 +103,7 @@ followed-overruns u = by-case (setUp.transparent (u .usictl0))
     by-case true = refl
     by-case false = refl
 
-module-of : (late : Bool) (v w : Usi) → moduleOf (cond late (Refused 17 v) (Next w)) ≡ cond (not late) w v
+module-of : (late : Bool) (v w : Usi) → moduleOf (cond late (Refused 17 v) (Next w)) ≡ cond late v w
 module-of true v w = refl
 module-of false v w = refl
 

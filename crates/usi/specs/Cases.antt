@@ -1,6 +1,6 @@
 -- A sample by the cases of SCL, and with a tick after it, for contracts inside the crate: proofs/Cases.antt shows that
 -- they make up Step's `edged` and `sampleThen`.
-use mathlib.Core.Bool.{Bool, cond, true, false, not, _&&_}
+use mathlib.Core.Bool.{Bool, cond, true, false, not, _||_}
 use Rattle.levels.specs.Levels as levels
 use Rattle.usi_i2c.specs.Rules as rules
 use Rattle.usi.specs.declared.Usi.{Usi}
@@ -29,7 +29,7 @@ fallSeen u = stretchedBy true false (cond (rules.movesLatch (u .usictl0) (u .usi
 
 -- a sample's end: the tick where it is asked and not refused, and the latch follows once
 unfoldable pub finished : Bool → Usi → Usi
-finished ticks u = cond (ticks && not (overruns u)) (ticked u) (followed u)
+finished ticks u = cond (not ticks || overruns u) (followed u) (ticked u)
 
 abbrev pub stepped : Bool → Bool → Bool → Usi → Usi
 stepped scl sda ticks u = finished ticks (recorded scl sda (edged scl sda u))

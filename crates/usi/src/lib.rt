@@ -525,10 +525,10 @@ impl Usi {
     fn finished(self, ticks: bool) -> Usi
         ensures { λ r. ⌜ r ≡ finishedRule ticks self ⌝ }
     {
-        if ticks & !self.overruns() {
-            return self.ticked();
+        if !ticks | self.overruns() {
+            return self.followed();
         }
-        self.followed()
+        self.ticked()
     }
 
     // A sample in I2C and then, where asked, a tick.
