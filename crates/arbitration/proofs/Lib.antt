@@ -3,6 +3,7 @@ pub mod Lent
 pub mod Module
 pub mod Inputs
 pub mod PassLaws
+pub mod PassLoop
 pub mod Given
 pub mod Preparing
 pub mod Contract

@@ -22,6 +22,8 @@ use Rattle.usi.proofs.Usi as usi-type
 use Rattle.usi.proofs.Usi.Laws as usi-laws
 use Rattle.arbitration_run.proofs.pass.Pass as pass-type
 use Rattle.arbitration_run.proofs.pass.Pass.Laws as pass-laws
+use Rattle.arbitration_run.proofs.pass.Sampling as sampling-type
+use Rattle.arbitration_run.proofs.pass.Sampling.Laws as sampling-laws
 use Rattle.arbitration_run.proofs.pass.Seen as seen-type
 use Rattle.arbitration_run.proofs.pass.Seen.Laws as seen-laws
 use Rattle.arbitration_run.proofs.sequencer.Sequencer as sequencer-type
@@ -55,6 +57,15 @@ pass-mir = pass-laws.mir
 
 abbrev pub pass : ByValue pass-row
 pass = declared pass-type.the-type pass-laws.the-laws pass-laws.the-plain
+
+abbrev pub sampling-row : RattleType
+sampling-row = sampling-type.the-row
+
+abbrev pub sampling-mir : Ty
+sampling-mir = sampling-laws.mir
+
+abbrev pub sampling : ByValue sampling-row
+sampling = declared sampling-type.the-type sampling-laws.the-laws sampling-laws.the-plain
 
 abbrev pub seen-row : RattleType
 seen-row = seen-type.the-row

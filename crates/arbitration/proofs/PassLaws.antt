@@ -4,7 +4,7 @@ use Prim.Native.Nat.{ℕ, zero, suc, _+_, _-_, _<_, _≤_}
 use native.Mathlib.Nat.{le-refl, not-suc-le-zero, le-of-suc-le-suc}
 use native.Mathlib.Numerals.{add-one}
 use native.Mathlib.Omega.{arith}
-use mathlib.Core.Bool.{Bool, false, _||_}
+use mathlib.Core.Bool.{Bool, true, false, _||_}
 use mathlib.Core.List.{List, [], _∷_, _++_, map}
 use lib.ListN.{length, getD, set, take, drop, replicate, length-set, length-replicate}
 use lib.Seq.{getD-set-same, take-set-le}
@@ -15,9 +15,41 @@ use Rattle.usi.specs.declared.Usi.{Usi}
 use Rattle.usi.specs.Module.{pullsScl, pullsSda}
 use Rattle.arbitration_rules.specs.Limits.{maxMasters}
 use Rattle.arbitration_run.specs.declared.pass.Pass.{Pass}
+use Rattle.arbitration_run.specs.declared.pass.Sampling.{Sampling}
 use Rattle.arbitration_run.specs.declared.pass.Seen.{Seen}
 use Rattle.arbitration_turns.proofs.Kept.{length-passed}
-use Rattle.arbitration_run.specs.Pass.{applied, passedFrom, passed, lostBy, unseen, noted, seen}
+use Rattle.arbitration_run.specs.Instants.{samples}
+use Rattle.arbitration_run.specs.Pass.{sampledAt, wroteAt, applied, passedFrom, passed, sampling, sampled, samplingPass}
+use Rattle.arbitration_run.specs.Pass.{lostBy, unseen, noted, seen}
+
+-- in a pass that samples each module samples, in another each writes its registers
+pub sampled-applied : (sampling : Sampling) (i : ℕ) (usi : Usi) → i < maxMasters
+    → sampled sampling usi ≡ applied (samplingPass sampling) i usi
+unfolding applied sampledAt
+sampled-applied sampling i usi few = rw (lt-ltb i maxMasters few)
+
+pub wrote-applied : (pass : Pass) → samples (pass .operation) ≡ false → (i : ℕ) (usi : Usi) → i < maxMasters
+    → wroteAt pass i usi ≡ applied pass i usi
+unfolding applied
+wrote-applied pass writes i usi few = rw writes
+
+-- a pass that samples is known by what it samples
+module _ (pass : Pass) (sampled-in : samples (pass .operation) ≡ true) where
+  sampling-applied : (i : ℕ) (usi : Usi) → applied (samplingPass (sampling pass)) i usi ≡ applied pass i usi
+  unfolding applied sampledAt
+  sampling-applied i usi = rw sampled-in
+
+  sampling-from : (i count : ℕ) (table : List Usi)
+      → passedFrom (samplingPass (sampling pass)) i count table ≡ passedFrom pass i count table
+  sampling-from i zero table = refl
+  sampling-from i (suc count) [] = refl
+  sampling-from i (suc count) (usi ∷ table) =
+      rw (sampling-applied i usi, sampling-from (suc i) count table)
+
+  pub sampling-passed : (count : ℕ) (table : List Usi)
+      → passed count (samplingPass (sampling pass)) table ≡ passed count pass table
+  unfolding passed
+  sampling-passed count table = sampling-from 0 count table
 
 module _ (pass : Pass) where
   -- one module more, at an index past those before it

@@ -35,7 +35,7 @@ use denote.RattleType.{RattleType, Denots, Valss, flat, owns}
 use denote.Laws.{Typed, Is, Ises, Are, Tells, Makes, Makess, Lawful, owns-make, shows}
 use denote.Shadow.{shadow}
 use denote.Array.{each, arrayVal, Array, array-vals, array-tells, array-makes, array-lawful}
-use denote.Plain.{UInt, uint-tells, uint-makes, uint-lawful}
+use denote.Plain.{UInt, uint-tells, uint-makes, uint-lawful, Boolean, bool-tells, bool-makes, bool-lawful}
 use denote.Signature.{typeAt, typesAt}
 use denote.Steps.{only, heard, facts, owned}
 use denote.Struct.Struct.{Plains}
@@ -61,6 +61,15 @@ uint w =
       tells = uint-tells w;
       makes = λ 𝓤 H A W. uint-makes 𝓤 H A W w;
       lawful = λ 𝓤 H A W. uint-lawful 𝓤 H A W w;
+    }
+
+abbrev pub truth : ByValue Boolean
+truth =
+    record {
+      val = vbool;
+      tells = bool-tells;
+      makes = λ 𝓤 H A W. bool-makes 𝓤 H A W;
+      lawful = λ 𝓤 H A W. bool-lawful 𝓤 H A W;
     }
 
 abbrev pub declared : (T : Declared) (L : struct.Laws T) → Plains (fields T) → ByValue (row T)

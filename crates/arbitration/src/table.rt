@@ -1,32 +1,65 @@
 // A table of modules, one for each message: a pass over it, and a run.
 ghost use mathlib.Core.Path.{_≡_};
+ghost use mathlib.Core.Bool.{false};
 ghost use Prim.Native.Nat.{_≤_};
 ghost use lib.ListN.{length};
 ghost use Rattle.arbitration_rules.specs.Limits.{maxMasters};
-ghost use Rattle.arbitration_run.specs.Pass.{passed, seen as seenBy};
+ghost use Rattle.arbitration_run.specs.Instants.{samples};
+ghost use Rattle.arbitration_run.specs.Pass.{passed, samplingPass, seen as seenBy};
 ghost use Rattle.arbitration_turns.specs.Turns.{Reached};
 use arbitration_rules::MAX_LENGTH;
 use arbitration_rules::MAX_MASTERS;
 use arbitration_run::Pass;
+use arbitration_run::Sampling;
 use arbitration_run::Seen;
 use arbitration_run::Sequencer;
 use usi::Usi;
 
-// The first count modules make a pass, each in its turn; what they then show.
-fn step_all(table: &mut [Usi], count: usize, pass: Pass) -> Seen
+// The first count modules sample the wire, each in its turn, and perhaps tick; what they then show.
+fn sample_all(table: &mut [Usi], count: usize, sampling: Sampling) -> Seen
     requires { ⌜ (count ≤ maxMasters) × (count ≤ length (now table)) ⌝ }
+    ensures { λ r. ⌜ (now (table .exit) ≡ passed count (samplingPass sampling) (now (table .entry)))
+        × (r ≡ seenBy count (passed count (samplingPass sampling) (now (table .entry)))) ⌝ }
+{
+    let mut seen = arbitration_run::unseen();
+    let mut i = 0;
+    while i < count {
+        let usi = arbitration_run::sampled(table[i], sampling);
+        table[i] = usi;
+        seen = arbitration_run::noted(seen, usi, i);
+        i = i + 1;
+    }
+    seen
+}
+
+// The first count modules write their registers, each in its turn, and perhaps tick; what they then show.
+fn write_all(table: &mut [Usi], count: usize, pass: Pass) -> Seen
+    requires { ⌜ (count ≤ maxMasters) × (count ≤ length (now table)) × (samples (pass .operation) ≡ false) ⌝ }
     ensures { λ r. ⌜ (now (table .exit) ≡ passed count pass (now (table .entry)))
         × (r ≡ seenBy count (passed count pass (now (table .entry)))) ⌝ }
 {
     let mut seen = arbitration_run::unseen();
     let mut i = 0;
     while i < count {
-        let usi = arbitration_run::applied(table[i], pass, i);
+        let usi = arbitration_run::wrote_at(table[i], pass, i);
         table[i] = usi;
         seen = arbitration_run::noted(seen, usi, i);
         i = i + 1;
     }
     seen
+}
+
+// The first count modules make a pass; what they then show.
+fn step_all(table: &mut [Usi], count: usize, pass: Pass) -> Seen
+    requires { ⌜ (count ≤ maxMasters) × (count ≤ length (now table)) ⌝ }
+    ensures { λ r. ⌜ (now (table .exit) ≡ passed count pass (now (table .entry)))
+        × (r ≡ seenBy count (passed count pass (now (table .entry)))) ⌝ }
+{
+    if pass.samples() {
+        sample_all(table, count, pass.sampling())
+    } else {
+        write_all(table, count, pass)
+    }
 }
 
 // Passes over the first count modules, and what the sequencer makes of each, until it runs no more; the bytes to send

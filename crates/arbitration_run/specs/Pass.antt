@@ -16,6 +16,7 @@ use Rattle.arbitration_run.specs.declared.instants.Operation.the-variant
 use Rattle.arbitration_run.specs.declared.instants.Operation.the-variants.{LetGo, Lower, Raise, Rest, Rise}
 use Rattle.arbitration_run.specs.declared.instants.Operation.the-variants.{Heed}
 use Rattle.arbitration_run.specs.declared.pass.Pass.{Pass}
+use Rattle.arbitration_run.specs.declared.pass.Sampling.{Sampling}
 use Rattle.arbitration_run.specs.declared.pass.Seen.{Seen}
 use Rattle.arbitration_run.specs.Instants.{samples, letsGo, heeds}
 
@@ -106,6 +107,24 @@ passedFrom pass i (suc count) (usi ∷ table) = applied pass i usi ∷ passedFro
 
 unfoldable pub passed : ℕ → Pass → List Usi → List Usi
 passed count pass table = passedFrom pass 0 count table
+
+-- of a pass that samples: what it samples, a module after that, and the pass as one in which nobody writes
+abbrev pub sampling : Pass → Sampling
+sampling pass = record { level = pass .level; ticks = pass .ticks }
+
+abbrev pub sampled : Sampling → Usi → Usi
+sampled sampling usi = ticked (sampling .ticks) (moduleOf (sample usi (sampling .level)))
+
+abbrev pub samplingPass : Sampling → Pass
+samplingPass sampling =
+    record {
+      operation = Sample;
+      ticks = sampling .ticks;
+      level = sampling .level;
+      contending = [];
+      lost = [];
+      bytes = [];
+    }
 
 -- what modules show: whether any pulls SCL, and SDA, and who has AL set
 abbrev pub lostBy : Usi → Bool

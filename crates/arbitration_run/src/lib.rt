@@ -11,8 +11,10 @@ mod wire; // wire.rt: the lines, and what is taken from them
 pub use members::Members;
 pub use messages::rows;
 pub use pass::Pass;
+pub use pass::Sampling;
 pub use pass::Seen;
-pub use pass::applied;
 pub use pass::noted;
+pub use pass::sampled;
 pub use pass::unseen;
+pub use pass::wrote_at;
 pub use sequencer::Sequencer;

@@ -17,6 +17,12 @@ pub struct Pass {
     pub bytes: [u8; MAX_MASTERS],
 }
 
+// A pass that samples: the level of the wire, and whether a tick follows.
+pub struct Sampling {
+    pub level: u8,
+    pub ticks: bool,
+}
+
 // What the modules show after a pass: whether any pulls SCL, and SDA, and who has AL set.
 pub struct Seen {
     pub scl: bool,
@@ -123,7 +129,7 @@ fn ticked(usi: Usi, ticks: bool) -> Usi
 }
 
 // The module at an index after the registers are written, and perhaps a tick.
-fn wrote_at(usi: Usi, pass: Pass, i: usize) -> Usi
+pub fn wrote_at(usi: Usi, pass: Pass, i: usize) -> Usi
     ensures { λ r. ⌜ r ≡ rule.wroteAt pass i usi ⌝ }
 {
     let operation = pass.operation;
@@ -140,19 +146,16 @@ fn wrote_at(usi: Usi, pass: Pass, i: usize) -> Usi
     usi
 }
 
-// The module at an index after a sample, and perhaps a tick.
-fn sampled_at(usi: Usi, pass: Pass, i: usize) -> Usi
-    ensures { λ r. ⌜ r ≡ rule.sampledAt pass i usi ⌝ }
+// A module after a sample, and perhaps a tick.
+pub fn sampled(usi: Usi, sampling: Sampling) -> Usi
+    ensures { λ r. ⌜ r ≡ rule.sampled sampling usi ⌝ }
 {
-    if i < MAX_MASTERS {
-        return usi.sample_tick(pass.level, pass.ticks);
-    }
-    usi
+    usi.sample_tick(sampling.level, sampling.ticks)
 }
 
 impl Pass {
     // Whether the modules sample the wire.
-    fn samples(self) -> bool
+    pub fn samples(self) -> bool
         ensures { λ r. ⌜ r ≡ samples (self .operation) ⌝ }
     {
         let operation = self.operation;
@@ -161,16 +164,16 @@ impl Pass {
             _ => false,
         }
     }
-}
 
-// The module at an index after a pass.
-pub fn applied(usi: Usi, pass: Pass, i: usize) -> Usi
-    ensures { λ r. ⌜ r ≡ rule.applied pass i usi ⌝ }
-{
-    if pass.samples() {
-        return sampled_at(usi, pass, i);
+    // What it samples.
+    pub fn sampling(self) -> Sampling
+        ensures { λ r. ⌜ r ≡ rule.sampling self ⌝ }
+    {
+        Sampling {
+            level: self.level,
+            ticks: self.ticks,
+        }
     }
-    wrote_at(usi, pass, i)
 }
 
 // What the module at an index shows joins what those before it show.

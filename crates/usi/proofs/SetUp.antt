@@ -151,7 +151,7 @@ fallen-fits scl u =
     chosen (levels.falls (u .scl) scl) u (cond (rules.movesLatch (u .usictl0) (u .usicnt)) (latched u) u) u
     (chosen (rules.movesLatch (u .usictl0) (u .usicnt)) u (latched u) u refl refl) refl
 
-edged-fits : (scl sda : Bool) (u : Usi) → fits (edged scl sda u) ≡ fits u
+pub edged-fits : (scl sda : Bool) (u : Usi) → fits (edged scl sda u) ≡ fits u
 unfolding edged
 edged-fits scl sda u =
     let first = conditioned scl sda u in

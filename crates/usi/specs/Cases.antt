@@ -1,11 +1,11 @@
--- A sample by the cases of SCL, for contracts inside the crate: proofs/Cases.antt shows that they make up Step's
--- `edged`.
-use mathlib.Core.Bool.{Bool, cond, true, false}
+-- A sample by the cases of SCL, and with a tick after it, for contracts inside the crate: proofs/Cases.antt shows that
+-- they make up Step's `edged` and `sampleThen`.
+use mathlib.Core.Bool.{Bool, cond, true, false, not, _||_}
 use Rattle.levels.specs.Levels as levels
 use Rattle.usi_i2c.specs.Rules as rules
 use Rattle.usi.specs.declared.Usi.{Usi}
 use Rattle.usi.specs.Module.{withUSICTL1, withUSICNT, withStretch}
-use Rattle.usi.specs.Step.{latched, bitTaken}
+use Rattle.usi.specs.Step.{latched, bitTaken, followed, recorded, edged, ticked, overruns}
 
 -- the stretch, told whether SCL fell and whether it is high
 abbrev pub stretchedBy : Bool → Bool → Usi → Usi
@@ -26,3 +26,10 @@ riseSeen sda u = stretchedBy false true (cond (rules.takesBit false true (u .usi
 -- SCL falls
 unfoldable pub fallSeen : Usi → Usi
 fallSeen u = stretchedBy true false (cond (rules.movesLatch (u .usictl0) (u .usicnt)) (latched u) u)
+
+-- a sample's end: the tick where it is asked and not refused, and the latch follows once
+unfoldable pub finished : Bool → Usi → Usi
+finished ticks u = cond (not ticks || overruns u) (followed u) (ticked u)
+
+abbrev pub stepped : Bool → Bool → Bool → Usi → Usi
+stepped scl sda ticks u = finished ticks (recorded scl sda (edged scl sda u))

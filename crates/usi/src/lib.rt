@@ -5,6 +5,7 @@ ghost use Prim.Native.Nat.{_+_, _*_};
 ghost use Rattle.usi.specs.Module.{powerUp, atRest, fits as fitsRule, fitsSpi, pullsSda, pullsScl};
 ghost use Rattle.usi.specs.Module.{lines as linesRule, spiLines};
 ghost use Rattle.usi.specs.Cases.{stretchedBy, conditionSeen, riseSeen, fallSeen};
+ghost use Rattle.usi.specs.Cases.{finished as finishedRule, stepped as steppedRule};
 ghost use Rattle.usi.specs.Step.{refusal as refusalOf, moduleOf, latched as latchedRule};
 ghost use Rattle.usi.specs.Step.{followed as followedRule, kept as keptRule, settled as settledRule};
 ghost use Rattle.usi.specs.Step.{readByte, writeByte};
@@ -520,8 +521,25 @@ impl Usi {
         self
     }
 
-    // The module after a sample and then, where asked, a tick; a refused step leaves it as it was.
-    pub fn sample_tick(self, level: u8, ticks: bool) -> Usi
+    // The end of a sample in I2C: the tick where it is asked and not refused, and the latch follows once.
+    fn finished(self, ticks: bool) -> Usi
+        ensures { λ r. ⌜ r ≡ finishedRule ticks self ⌝ }
+    {
+        if !ticks | self.overruns() {
+            return self.followed();
+        }
+        self.ticked()
+    }
+
+    // A sample in I2C and then, where asked, a tick.
+    fn stepped(self, scl: bool, sda: bool, ticks: bool) -> Usi
+        ensures { λ r. ⌜ r ≡ steppedRule scl sda ticks self ⌝ }
+    {
+        self.edged(scl, sda).recorded(scl, sda).finished(ticks)
+    }
+
+    // A sample and then, where asked, a tick, each with its own tests.
+    fn two_steps(self, level: u8, ticks: bool) -> Usi
         ensures { λ r. ⌜ r ≡ sampleThen level ticks self ⌝ }
     {
         let seen = self.next_sample(level);
@@ -529,6 +547,16 @@ impl Usi {
             return seen.next_tick();
         }
         seen
+    }
+
+    // The module after a sample and then, where asked, a tick; a refused step leaves it as it was.
+    pub fn sample_tick(self, level: u8, ticks: bool) -> Usi
+        ensures { λ r. ⌜ r ≡ sampleThen level ticks self ⌝ }
+    {
+        if self.fits() & (level <= levels::MAX_LEVEL) {
+            return self.stepped(levels::scl(level), levels::sda(level), ticks);
+        }
+        self.two_steps(level, ticks)
     }
 
     // I2C's two lines.

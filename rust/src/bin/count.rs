@@ -1,13 +1,14 @@
-//! `count library|model arbitrate|decode N`: so many equal calls and nothing else, for a count of instructions under
-//! callgrind: the difference between N and 2N calls is N calls'.
+//! `count library|model arbitrate|halves|decode N`: so many equal calls and nothing else, for a count of instructions
+//! under callgrind: the difference between N and 2N calls is N calls'. `halves` arbitrates half as many masters with
+//! messages half as long.
 
-use rehearsal_model::arbitration::{Message, LEVELS, MASTERS, MESSAGE_BYTES};
+use rehearsal_model::arbitration::{levels_for, Message, MASTERS, MESSAGE_BYTES};
 use rehearsal_model::bus::{drawing, START, STOP};
 use rehearsal_model::ffi::Archive;
 use rehearsal_model::packed::{Asked, Buffers, Interface, Model};
 use std::hint::black_box;
 
-const USAGE: &str = "usage: count library|model arbitrate|decode N";
+const USAGE: &str = "usage: count library|model arbitrate|halves|decode N";
 
 fn main() {
     let words: Vec<String> = std::env::args().skip(1).collect();
@@ -19,32 +20,33 @@ fn main() {
     };
     let count = count.parse().expect(USAGE);
     match call.as_str() {
-        "arbitrate" => arbitrate(side, count),
+        "arbitrate" => arbitrate(side, MASTERS, MESSAGE_BYTES, count),
+        "halves" => arbitrate(side, MASTERS / 2, MESSAGE_BYTES / 2, count),
         "decode" => decode(side, count),
         _ => panic!("{USAGE}"),
     }
 }
 
-/// The most masters with the longest messages, which differ in their last four bytes.
-fn arbitrate(side: &dyn Interface, count: usize) {
-    let bytes = |master: usize| (0..MESSAGE_BYTES).map(move |at| message_byte(at, master));
+/// So many masters with messages so long, which differ in their last four bytes.
+fn arbitrate(side: &dyn Interface, masters: usize, length: usize, count: usize) {
+    let bytes = |master: usize| (0..length).map(move |at| message_byte(at, master, length));
     let message = |master: usize| Message::of_one_part(&bytes(master).collect::<Vec<_>>());
-    let messages: Vec<Message> = (0..MASTERS).map(message).collect();
-    let asked = Asked::new(&messages, vec![0; MESSAGE_BYTES]);
+    let messages: Vec<Message> = (0..masters).map(message).collect();
+    let asked = Asked::new(&messages, vec![0; length]);
     let mut lent = Buffers {
-        carried: vec![0; MESSAGE_BYTES],
-        levels: vec![0; LEVELS],
-        modules: vec![0; MASTERS],
-        seats: vec![0; MASTERS],
+        carried: vec![0; length],
+        levels: vec![0; levels_for(length, 0)],
+        modules: vec![0; masters],
+        seats: vec![0; masters],
     };
     for _ in 0..count {
         assert_eq!(black_box(side.arbitrate(black_box(&asked), lent.lend())) & 0xFF, 0);
     }
 }
 
-fn message_byte(at: usize, master: usize) -> u8 {
+fn message_byte(at: usize, master: usize, length: usize) -> u8 {
     let shared = (at * 37 % 256) as u8 & 0xFE;
-    let differs = at + 1 == MESSAGE_BYTES - master % 4;
+    let differs = at + 1 == length - master % 4;
     shared ^ if differs { 0x10 << (master / 4) } else { 0 }
 }
 
