@@ -214,7 +214,8 @@ module _ (count : ℕ) (table₀ : List Usi) (few : count ≤ maxMasters) (enoug
   pub kept-turned : (pass : Pass) (effect : Effect) (operation : Operation) (index : ℕ) (acknowledge : Bool)
       (stood : Members) (wire : Wire) (sent : ℕ) (table : List Usi) (carried levels : List ℕ) (byte : ℕ)
       → length table ≡ length table₀ → drop count table ≡ drop count table₀
-      → Sized stood → Counted count sizes₀ stood → Written carried carried₀ sent → Written levels levels₀ (wire .recorded)
+      → Sized stood → Counted count sizes₀ stood → Written carried carried₀ sent
+      → Written levels levels₀ (wire .recorded)
       → let after = passed count pass table in
       let saw = wires.saw operation (seen count after) wire in
       Kept count table₀ sizes₀ carried₀ levels₀ (members.affected effect (seen count after .al) index stood)
