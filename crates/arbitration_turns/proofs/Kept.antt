@@ -135,6 +135,17 @@ sized-after Settle al index stood size sized =
       of-bytes = sized .of-bytes;
     }
 
+pub bytes-stay : (effect : Effect) (al : List Bool) (index : ℕ) (stood : Members)
+    → members.affected effect al index stood .bytes ≡ stood .bytes
+unfolding members.judged members.settled
+bytes-stay Nothing al index stood = refl
+bytes-stay Begin al index stood = refl
+bytes-stay Release al index stood = refl
+bytes-stay Acknowledge al index stood = refl
+bytes-stay Record al index stood = refl
+bytes-stay (Bit bit) al index stood = refl
+bytes-stay Settle al index stood = refl
+
 -- what an effect does to the wire
 fresh-after : (effect : Effect) (room : ℕ) (acknowledge : Bool) (count : ℕ) (table : List Usi) (wire : Wire)
     → Fresh count table wire → Fresh count table (wires.affected room effect acknowledge wire)

@@ -37,8 +37,8 @@ use Rattle.arbitration_turns.proofs.Turned.{same-bus}
 use Rattle.arbitration_turns.proofs.Kept.{written-none, kept-turned}
 use Rattle.arbitration_turns.proofs.Standing.{restAt}
 use Rattle.arbitration_turns.proofs.Counted.{Counted, quiet-start}
-use Rattle.arbitration_turns.proofs.Steps.{Finished, step}
-use Rattle.arbitration_turns.proofs.Taking.{Given, busOf, On}
+use Rattle.arbitration_turns.proofs.Steps.{step}
+use Rattle.arbitration_turns.proofs.Taking.{Given, busOf, On, Finished}
 
 -- a module after set-up, and the master whose it is
 abbrev setUpModule : Usi

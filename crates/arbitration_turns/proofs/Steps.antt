@@ -33,14 +33,14 @@ use Rattle.arbitration_turns.proofs.Scripts.{spelled, spells-byte, spel
 use Rattle.arbitration_turns.proofs.Allowed.{Inside, Allowed, writing, releasing, acknowledging, recording}
 use Rattle.arbitration_turns.proofs.Allowed.{taking, loading, heeding, lettingGo, allowed, Ready, turned-is}
 use Rattle.arbitration_turns.proofs.Growth.{Grows, record-grows, bit-grows, byte-grows}
-use Rattle.arbitration_turns.proofs.Kept.{kept-turned}
+use Rattle.arbitration_turns.proofs.Kept.{bytes-stay, kept-turned}
 use Rattle.arbitration_turns.proofs.Bits.{bound, bits, bitsOf, steps, bits-fit, byte-after}
 use Rattle.arbitration_turns.proofs.Bits.{byte-fits}
 use Rattle.arbitration_turns.proofs.Standing.{bytesFrom, ends, finished, restAt, rest-next, rest-last}
 use Rattle.arbitration_turns.proofs.Standing.{instant-grows}
 use Rattle.arbitration_turns.proofs.Columns.{column}
 use Rattle.arbitration_turns.proofs.Taking.{Given, messagesOf, many, busOf, KeptOf, Early, Loaded, Standing}
-use Rattle.arbitration_turns.proofs.Taking.{On, asked, prepared, prepare}
+use Rattle.arbitration_turns.proofs.Taking.{On, Finished, asked, prepared, prepare}
 use Rattle.arbitration_turns.proofs.Asks.{Extra, extra}
 
 module _ (given : Given) where
@@ -55,12 +55,6 @@ module _ (given : Given) where
 
   abbrev rows : List (List ℕ)
   rows = rowsOf messages
-
-  -- the run is over
-  pub record Finished (t : Turn) : Type 0 where
-    pub stopped : t .sequencer .running ≡ false
-    pub kept : KeptOf given t
-    pub same : busOf given t ≡ run messages acknowledges
 
   module _ (room : length (run messages acknowledges .carried) ≤ length (given .carried₀))
       (level-room : length (run messages acknowledges .levels) ≤ length (given .levels₀)) (t : Turn)
@@ -173,7 +167,7 @@ module _ (given : Given) where
 
       -- where the sequencer goes from here
       abbrev Outcome : Turn → Type 0
-      Outcome turn = On given turn ⊎ Finished turn
+      Outcome turn = On given turn ⊎ Finished given turn
 
       acted-fits : sequence.affected (length (t .carried)) (length (t .levels)) acknowledges (seen count after)
           s .wire .byte
@@ -206,20 +200,9 @@ module _ (given : Given) where
       small-on Closing at less is small = acted-fits
 
       -- what is taken from the rows stays
-      bytes-stay : (effect : Effect) (al : List Bool)
-          → members.affected effect al (s .index) (s .members) .bytes ≡ s .members .bytes
-      unfolding members.judged members.settled
-      bytes-stay Nothing al = refl
-      bytes-stay Begin al = refl
-      bytes-stay Release al = refl
-      bytes-stay Acknowledge al = refl
-      bytes-stay Record al = refl
-      bytes-stay (Bit bit) al = refl
-      bytes-stay Settle al = refl
-
       acted-bytes : acted .members .bytes ≡ s .members .bytes
       unfolding sequence.affected
-      acted-bytes = bytes-stay (here .effect) (seen count after .al)
+      acted-bytes = bytes-stay (here .effect) (seen count after .al) (s .index) (s .members)
 
       loaded-on : (part : Part) → Loaded given part (s .index) (s .members)
           → Loaded given part (s .index) (acted .members)
@@ -409,6 +392,6 @@ module _ (given : Given) where
   pub step : length (run messages acknowledges .carried) ≤ length (given .carried₀)
       → length (run messages acknowledges .levels) ≤ length (given .levels₀) → (t : Turn) → On given t
       → let after = turnAfter count rows acknowledges t in
-      On given after ⊎ Finished after
+      On given after ⊎ Finished given after
   unfolding turnAfter
   step room level-room t on = go-on room level-room (prepared given t) (prepare given t on)

@@ -121,6 +121,12 @@ module _ (given : Given) where
   abbrev pub On : Turn → Type 0
   On t = Standing t ⊎ Waiting t
 
+  -- the run is over
+  pub record Finished (t : Turn) : Type 0 where
+    pub stopped : t .sequencer .running ≡ false
+    pub kept : KeptOf t
+    pub same : busOf t ≡ run messages acknowledges
+
   -- someone still in passes a test of its message, by what the masters know
   module _ (t : Turn) (kept : KeptOf t) where
     abbrev knows : Members
