@@ -23,7 +23,8 @@ use Rattle.arbitration_run.proofs.instants.Operation as operations
 use Rattle.arbitration_run.proofs.instants.Effect as effects
 
 pub no-sample : (operation : Operation)
-    → OneOf (0 ∷ 2 ∷ 3 ∷ 4 ∷ 5 ∷ 6 ∷ 7 ∷ 8 ∷ 9 ∷ 10 ∷ []) (tagOf operations.the-type operation) → samples operation ≡ false
+    → OneOf (0 ∷ 2 ∷ 3 ∷ 4 ∷ 5 ∷ 6 ∷ 7 ∷ 8 ∷ 9 ∷ 10 ∷ []) (tagOf operations.the-type operation)
+    → samples operation ≡ false
 no-sample does.Enter keys = refl
 no-sample does.Sample keys = absurd (miss (0 ∷ 2 ∷ 3 ∷ 4 ∷ 5 ∷ 6 ∷ 7 ∷ 8 ∷ 9 ∷ 10 ∷ []) 1 tt keys)
 no-sample does.Pull keys = refl
@@ -37,7 +38,8 @@ no-sample does.Rise keys = refl
 no-sample does.Heed keys = refl
 
 pub keeps-on : (operation : Operation)
-    → OneOf (0 ∷ 1 ∷ 2 ∷ 3 ∷ 4 ∷ 6 ∷ 7 ∷ 8 ∷ 9 ∷ 10 ∷ []) (tagOf operations.the-type operation) → letsGo operation ≡ false
+    → OneOf (0 ∷ 1 ∷ 2 ∷ 3 ∷ 4 ∷ 6 ∷ 7 ∷ 8 ∷ 9 ∷ 10 ∷ []) (tagOf operations.the-type operation)
+    → letsGo operation ≡ false
 keeps-on does.Enter keys = refl
 keeps-on does.Sample keys = refl
 keeps-on does.Pull keys = refl

@@ -74,8 +74,8 @@ byte at =
     (cond (eqb at 25) (record { operation = does.LetGo; ticks = true; effect = then.Settle })
     (turn (at - 26) then.Acknowledge then.Record false)))
 
--- a repeated START, or step 4's STOP: 0, SDA is set for it; 1 to 3, a bit turn; 4, SDA changes; 5, that is seen; 6, past
--- it
+-- a repeated START, or step 4's STOP: 0, SDA is set for it; 1 to 3, a bit turn; 4, SDA changes; 5, that is seen;
+-- 6, what follows
 abbrev pub condition : Operation → Operation → Operation → ℕ → Instant
 condition set change past at =
     cond (eqb at 0) (write set true)

@@ -81,11 +81,8 @@ module _ (room : ℕ) (acknowledge : Bool) (wire : Wire) (at : ℕ) where
   byte-fits (Bit bit) small = omega (arith, bool-byte (sda (wire .level)))
   byte-fits Settle small = small
 
--- before a bit is taken there is room for it, and a byte is loaded first of all
+-- before a bit is taken there is room for it
 pub bit-small : (bit at value : ℕ) → stepTest (Bit bit) at ≡ true → value < bound (bits at) → value < 128
 bit-small bit at value test small =
     let two = both (eqb (bits (suc at)) (suc (bits at))) (leb (bound (bits at)) 128) test in
     omega (arith, leb-true (bound (bits at)) 128 (two .1))
-
-pub begins-first : (at : ℕ) → stepTest Begin at ≡ true → at ≡ 0
-begins-first at test = eqb-true at 0 test

@@ -135,6 +135,17 @@ sized-after Settle al index stood size sized =
       of-bytes = sized .of-bytes;
     }
 
+pub bytes-stay : (effect : Effect) (al : List Bool) (index : ℕ) (stood : Members)
+    → members.affected effect al index stood .bytes ≡ stood .bytes
+unfolding members.judged members.settled
+bytes-stay Nothing al index stood = refl
+bytes-stay Begin al index stood = refl
+bytes-stay Release al index stood = refl
+bytes-stay Acknowledge al index stood = refl
+bytes-stay Record al index stood = refl
+bytes-stay (Bit bit) al index stood = refl
+bytes-stay Settle al index stood = refl
+
 -- what an effect does to the wire
 fresh-after : (effect : Effect) (room : ℕ) (acknowledge : Bool) (count : ℕ) (table : List Usi) (wire : Wire)
     → Fresh count table wire → Fresh count table (wires.affected room effect acknowledge wire)
@@ -214,7 +225,8 @@ module _ (count : ℕ) (table₀ : List Usi) (few : count ≤ maxMasters) (enoug
   pub kept-turned : (pass : Pass) (effect : Effect) (operation : Operation) (index : ℕ) (acknowledge : Bool)
       (stood : Members) (wire : Wire) (sent : ℕ) (table : List Usi) (carried levels : List ℕ) (byte : ℕ)
       → length table ≡ length table₀ → drop count table ≡ drop count table₀
-      → Sized stood → Counted count sizes₀ stood → Written carried carried₀ sent → Written levels levels₀ (wire .recorded)
+      → Sized stood → Counted count sizes₀ stood → Written carried carried₀ sent
+      → Written levels levels₀ (wire .recorded)
       → let after = passed count pass table in
       let saw = wires.saw operation (seen count after) wire in
       Kept count table₀ sizes₀ carried₀ levels₀ (members.affected effect (seen count after .al) index stood)

@@ -11,6 +11,8 @@ pub mod Counted
 pub mod Kept
 pub mod Bits
 pub mod Standing
+pub mod Taking
+pub mod Asks
 pub mod Steps
 pub mod Ran
 pub mod Weight

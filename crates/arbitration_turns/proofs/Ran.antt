@@ -37,7 +37,8 @@ use Rattle.arbitration_turns.proofs.Turned.{same-bus}
 use Rattle.arbitration_turns.proofs.Kept.{written-none, kept-turned}
 use Rattle.arbitration_turns.proofs.Standing.{restAt}
 use Rattle.arbitration_turns.proofs.Counted.{Counted, quiet-start}
-use Rattle.arbitration_turns.proofs.Steps.{busOf, On, Finished, step}
+use Rattle.arbitration_turns.proofs.Steps.{step}
+use Rattle.arbitration_turns.proofs.Taking.{Given, busOf, On, Finished}
 
 -- a module after set-up, and the master whose it is
 abbrev setUpModule : Usi
@@ -108,6 +109,21 @@ module _ (sent lengths acknowledges : List ℕ) (few : length lengths ≤ maxMas
   abbrev count : ℕ
   count = length lengths
 
+  abbrev given : Given
+  given =
+      record {
+        sent = sent;
+        lengths = lengths;
+        acknowledges = acknowledges;
+        few = few;
+        short = short;
+        whole = whole;
+        table₀ = table₀;
+        enough = enough;
+        carried₀ = carried₀;
+        levels₀ = levels₀;
+      }
+
   abbrev pub rows : List (List ℕ)
   rows = rowsOf messages
 
@@ -116,10 +132,10 @@ module _ (sent lengths acknowledges : List ℕ) (few : length lengths ≤ maxMas
       record { sequencer = sequence.first lengths; table = table₀; carried = carried₀; levels = levels₀ }
 
   abbrev Stands : Turn → Type 0
-  Stands t = On sent lengths acknowledges few short whole table₀ enough carried₀ levels₀ t
+  Stands t = On given t
 
   abbrev Ends : Turn → Type 0
-  Ends t = Finished sent lengths acknowledges few short whole table₀ enough carried₀ levels₀ t
+  Ends t = Finished given t
 
   sized : Sized (members.entered lengths)
   unfolding members.entered
@@ -154,7 +170,7 @@ module _ (sent lengths acknowledges : List ℕ) (few : length lengths ≤ maxMas
         levels = levels₀;
       }
 
-  entered-bus : busOf sent lengths acknowledges few short whole table₀ enough carried₀ levels₀ opening
+  entered-bus : busOf given opening
       ≡ perform messages setUp (powered messages)
   unfolding sequence.affected sequence.passOf sequence.first members.entered
   entered-bus =
@@ -221,7 +237,7 @@ module _ (sent lengths acknowledges : List ℕ) (few : length lengths ≤ maxMas
       runs (inl standing) = standing .running
       runs (inr waiting) = waiting .running
   ends t final (more turn last is rest) stands =
-      go (step sent lengths acknowledges few short whole table₀ enough carried₀ levels₀ room level-room turn stands)
+      go (step given room level-room turn stands)
       (ends (turnAfter count rows acknowledges turn) last rest)
       (stays (turnAfter count rows acknowledges turn) last rest)
     where
@@ -304,7 +320,9 @@ module _ (sent lengths acknowledges : List ℕ) (few : length lengths ≤ maxMas
         ≡ map (seatOf members.writesClear) (bus .masters) ++ replicate (maxMasters - count) absent
     seats-are =
         ap (λ (list : List Seat). list ++ replicate (maxMasters - count) absent)
-        (ap (λ (n : ℕ). zipWith (members.seatOf members.writesClear) (take n (stood .contending)) (take n (stood .positions))) (sym size)
+        (ap (λ (n : ℕ).
+        zipWith (members.seatOf members.writesClear) (take n (stood .contending)) (take n (stood .positions)))
+        (sym size)
         ∙ seats-of (take count (final .table)) (stood .contending) (stood .lost) (stood .positions) c-room l-room
         p-room
         ∙ ap (λ (b : Bus). map (seatOf members.writesClear) (b .masters)) (over .same))

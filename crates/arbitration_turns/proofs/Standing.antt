@@ -1,14 +1,12 @@
 -- At every turn of a run: from where it stands the steps that are left give the whole run.
 use Prim.Native.Nat.{ℕ, suc, _+_, _<_, _≤_}
 use mathlib.Core.Path.{_≡_, refl, ap, _∙_}
-use mathlib.Core.Bool.{Bool, true, false, cond, _&&_, _||_}
-use mathlib.Core.List.{List, [], _∷_, map, zipWith, append-nil}
-use native.Mathlib.Nat.{not-suc-le-zero, le-of-suc-le-suc}
+use mathlib.Core.Bool.{Bool, true, false, cond, _||_}
+use mathlib.Core.List.{List, append-nil}
 use native.Mathlib.Omega.{arith}
 use borrow.Author.Tests.{ltb-true, ltb-false}
-use lib.Dec.{eqb, ltb, leb}
-use lib.ListN.{length, drop}
-use Rattle.usi.specs.declared.Usi.{Usi}
+use lib.Dec.{eqb, ltb}
+use lib.ListN.{drop}
 use Rattle.arbitration_rules.specs.Masters.{Master}
 use Rattle.arbitration_rules.specs.Run as script
 use Rattle.arbitration_rules.specs.Run.{Bus, perform, byteTurn, stop, through}
@@ -17,9 +15,7 @@ use Rattle.arbitration_run.specs.declared.instants.Instant.{Instant}
 use Rattle.arbitration_run.specs.declared.instants.Part.{Part}
 use Rattle.arbitration_run.specs.declared.instants.Part.the-variants.{Entry, Opening, Restart, Byte, Closing}
 use Rattle.arbitration_run.specs.Instants.{instant, last}
-use Rattle.arbitration_run.specs.Members as members
 use Rattle.arbitration_run.specs.Sequence.{acknowledgeAt}
-use Rattle.arbitration_turns.proofs.View.{mastersFrom}
 use Rattle.arbitration_turns.proofs.Scripts.{spelled, remaining, remaining-next, remaining-last}
 use Rattle.arbitration_turns.proofs.Growth.{Grows, grows-not, grows-on, perform-grows, bytes-grow}
 

@@ -6,7 +6,7 @@ use mathlib.Core.Bool.{Bool, cond, true, false, _||_}
 use mathlib.Core.List.{List}
 use lib.Dec.{eqb, ltb}
 use lib.ListN.{length}
-use borrow.Author.Tests.{ltb-true, ltb-false}
+use borrow.Author.Tests.{ltb-true}
 use Rattle.arbitration_run.specs.declared.instants.Part.{Part}
 use Rattle.arbitration_run.specs.declared.instants.Part.the-variants.{Entry, Opening, Restart, Byte, Closing}
 use Rattle.arbitration_run.specs.declared.pass.Seen.{Seen}
@@ -80,7 +80,8 @@ module _ (acknowledges : List ℕ) where
       → left (decided acknowledges sequencer) ≤ 36 * (length acknowledges - sequencer .index) + 7
   unfolding decided
   decided-left sequencer running =
-      let next : Sequencer = placed (sequencer .part) (sequencer .at) (sequencer .loading) (sequencer .index + 1) sequencer in
+      let next : Sequencer =
+      placed (sequencer .part) (sequencer .at) (sequencer .loading) (sequencer .index + 1) sequencer in
       let bound : ℕ = 36 * (length acknowledges - sequencer .index) + 7 in
       either (λ s. left s ≤ bound) (ltb (sequencer .index) (length acknowledges)) _ _
       (λ more.
@@ -107,7 +108,8 @@ module _ (acknowledges : List ℕ) where
       → left (advanced acknowledges sequencer) < left sequencer
   unfolding advanced parted
   advanced-falls sequencer running ready =
-      let next : Sequencer = placed (sequencer .part) (sequencer .at + 1) (sequencer .loading) (sequencer .index) sequencer in
+      let next : Sequencer =
+      placed (sequencer .part) (sequencer .at + 1) (sequencer .loading) (sequencer .index) sequencer in
       let now-left = left-is sequencer running ready in
       either (λ s. left s < left sequencer) (ltb (sequencer .at) (last (sequencer .part))) _ _
       (λ within.

@@ -12,7 +12,8 @@ use Rattle.arbitration_run.proofs.messages.column.Statement.{statement}
 use Rattle.arbitration_run.proofs.messages.column.Tie as tie
 
 abbrev Inv-loop : tie.InvT-loop
-Inv-loop index rows out₀ i₀ out i = (i ≤ maxMasters) × (out ≡ map (sentAt index) (take i rows) ++ drop i (replicate maxMasters 0))
+Inv-loop index rows out₀ i₀ out i =
+    (i ≤ maxMasters) × (out ≡ map (sentAt index) (take i rows) ++ drop i (replicate maxMasters 0))
 
 abbrev μ-loop : tie.MeasureT-loop
 μ-loop index rows out₀ i₀ out i = maxMasters - i

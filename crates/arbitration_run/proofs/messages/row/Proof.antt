@@ -13,7 +13,8 @@ use Rattle.arbitration_run.proofs.messages.row.Statement.{statement}
 use Rattle.arbitration_run.proofs.messages.row.Tie as tie
 
 abbrev Inv-loop : tie.InvT-loop
-Inv-loop sent from to out₀ i₀ out i = (i ≤ min (to - from) maxLength) × (out ≡ take i (drop from sent) ++ drop i (replicate maxLength 256))
+Inv-loop sent from to out₀ i₀ out i =
+    (i ≤ min (to - from) maxLength) × (out ≡ take i (drop from sent) ++ drop i (replicate maxLength 256))
 
 abbrev μ-loop : tie.MeasureT-loop
 μ-loop sent from to out₀ i₀ out i = maxLength - i
@@ -70,8 +71,11 @@ loop-again c =
     let at = c .before .before .before in
     let less = below-both (head .i) (at .args .to - at .args .from) maxLength (c .before .loop-test .taken) in
     let list = drop (at .args .from) (at .args .sent .now) in
-    let here : head .i < length list = omega (arith, less, at .pre, length-drop (at .args .from) (at .args .sent .now)) in
-    (omega (arith, less), rw (← getD-drop) (copied-more 256 maxLength list _ (head .i) 0 (head .inv .1) here (omega (arith, less))))
+    let here : head .i < length list =
+    omega (arith, less, at .pre, length-drop (at .args .from) (at .args .sent .now)) in (
+      omega (arith, less),
+      rw (← getD-drop) (copied-more 256 maxLength list _ (head .i) 0 (head .inv .1) here (omega (arith, less))),
+    )
 
 returns : tie.Need-returns Inv-loop μ-loop
 returns c =

@@ -19,7 +19,8 @@ returns : tie.Need-returns
 returns c =
     let a = c .before .args in
     let less : a .index < length (a .t1) = omega (arith, c .if1 .taken) in
-    ap (λ (rest : List ℕ). getD rest 0 0) (sym (drop-cons (a .t1) (a .index) 0 less) ∙ drop-cons (a .t1) (a .index) 256 less)
+    ap (λ (rest : List ℕ). getD rest 0 0)
+    (sym (drop-cons (a .t1) (a .index) 0 less) ∙ drop-cons (a .t1) (a .index) 256 less)
 
 returns-2 : tie.Need-returns-2
 returns-2 c =

@@ -41,7 +41,8 @@ returns-2 : tie.Need-returns-2
 unfolding parted
 returns-2 c =
     let a = c .before .before .before .before .args in
-    c .opened .ensures ∙ ap (λ (part : Part). partedFrom part (a .acks .now) (a .self)) (sym (c .before .enum-told2 .given .1))
+    c .opened .ensures
+    ∙ ap (λ (part : Part). partedFrom part (a .acks .now) (a .self)) (sym (c .before .enum-told2 .given .1))
 
 returns-3 : tie.Need-returns-3
 unfolding parted
@@ -51,7 +52,8 @@ returns-4 : tie.Need-returns-4
 unfolding parted
 returns-4 c =
     let a = c .before .before .before .before .args in
-    c .decided .ensures ∙ ap (λ (part : Part). partedFrom part (a .acks .now) (a .self)) (sym (c .before .enum-told4 .given .1))
+    c .decided .ensures
+    ∙ ap (λ (part : Part). partedFrom part (a .acks .now) (a .self)) (sym (c .before .enum-told4 .given .1))
 
 returns-5 : tie.Need-returns-5
 unfolding parted
