@@ -1,10 +1,10 @@
 -- The refusals 12 and 13 as the code finds them, and what is gathered where neither applies.
 use Prim.Native.Nat.{ℕ, _≤_, _-_}
 use mathlib.Core.Path.{_≡_, refl, sym, ap, ap₂, _∙_}
-use mathlib.Core.Bool.{true, false, not, _||_}
+use mathlib.Core.Bool.{Bool, true, false, not, _||_}
 use mathlib.Core.List.{List, [], _++_, map, zipWith}
 use native.Mathlib.Omega.{arith}
-use borrow.Author.Tests.{ltb-false, eq-eqb, ne-eqb, eqb-true, not-false}
+use borrow.Author.Tests.{ltb-false, eqb-true, not-false}
 use lib.Dec.{eqb, ltb}
 use lib.ListN.{length, getD, take, replicate, length-map}
 use lib.Seq.{take-at}
@@ -81,11 +81,6 @@ module _ (bytes parts counts : List ℕ) where
           ≡ any itself (badMessages request) || not (eqb (total counts) (length parts))
       test-is = rw (place, summed, some-bad) refl
 
-      pub refused-13 : ltb bad (length counts) || not (eqb sum (length parts)) ≡ true
-          → without (refusedAt 13 bad) ≡ gathered request
-      refused-13 fails =
-          ap (λ (k : ℕ). without (refusedAt 13 k)) place ∙ gathered-13 (rw (sym test-is ∙ fails) refl)
-
       module _ (passes : ltb bad (length counts) || not (eqb sum (length parts)) ≡ false) where
         shape : any itself (badMessages request) || not (eqb (total counts) (length parts)) ≡ false
         shape = sym test-is ∙ passes
@@ -109,13 +104,6 @@ module _ (bytes parts counts : List ℕ) where
               zeros,
               sound-total all-sound,
             )
-
-        pub refused-bytes : (size : ℕ) → size ≡ total lengths → (size ≡ length bytes → ⊥)
-            → without (refusedAt 13 bad) ≡ gathered request
-        refused-bytes size sums unequal =
-            let fails : eqb (total parts) (length bytes) ≡ false =
-            ne-eqb (total parts) (length bytes) (λ same. unequal (sums ∙ lengths-total ∙ same)) in
-            ap (λ (k : ℕ). without (refusedAt 13 k)) place ∙ gathered-13 (rw (shape, fails) refl)
 
         pub parts-within : total parts ≤ maxSent
         parts-within = omega (arith, sound-bound all-sound, few-counts count)
@@ -148,13 +136,53 @@ module _ (bytes parts counts : List ℕ) where
               (everyone-append (marks-small (cut counts parts))
               (everyone-same Small 256 (maxSent - total parts) most)) i)
 
-          pub gathered-all : (size : ℕ) (sent : List ℕ) → size ≡ total lengths → size ≡ length bytes
-              → sent ≡ joinedOf bytes marks
+      -- the code's test of 13, over the sum of the limited lengths
+      module _ (size : ℕ) (sized : size ≡ total lengths) where
+        abbrev fails : Bool
+        fails = ltb bad (length counts) || not (eqb sum (length parts)) || not (eqb size (length bytes))
+
+        same-test : fails ≡ badLengths request
+        same-test = go (ltb bad (length counts) || not (eqb sum (length parts))) refl
+          where
+            go : (shape : Bool) → ltb bad (length counts) || not (eqb sum (length parts)) ≡ shape
+                → fails ≡ badLengths request
+            go true is =
+                ap (λ (some : Bool). some || not (eqb size (length bytes))) is
+                ∙ sym (ap (λ (some : Bool). some || not (eqb (total parts) (length bytes))) (sym test-is ∙ is))
+            go false is =
+                ap₂ (λ (some : Bool) (k : ℕ). some || not (eqb k (length bytes))) test-is (sized ∙ lengths-total is)
+
+        pub refused-13 : fails ≡ true → without (refusedAt 13 bad) ≡ gathered request
+        refused-13 applies =
+            ap (λ (k : ℕ). without (refusedAt 13 k)) place ∙ gathered-13 (sym same-test ∙ applies)
+
+        module _ (good : fails ≡ false) where
+          two : (ltb bad (length counts) || not (eqb sum (length parts)) ≡ false)
+              × (not (eqb size (length bytes)) ≡ false)
+          two = neither (ltb bad (length counts) || not (eqb sum (length parts))) (not (eqb size (length bytes))) good
+
+          pub shape-passes : ltb bad (length counts) || not (eqb sum (length parts)) ≡ false
+          shape-passes = two .0
+
+          pub size-is : size ≡ length bytes
+          size-is = eqb-true size (length bytes) (not-false (eqb size (length bytes)) (two .1))
+
+          pub bytes-within : length bytes ≤ maxSent
+          bytes-within =
+              omega (arith, size-is, sized, lengths-total shape-passes, parts-within shape-passes)
+
+          pub gathered-all : (restarts marks sent : List ℕ)
+              → restarts ≡ marksAfter parts ++ replicate (maxSent - total parts) 256
+              → marks ≡ started (take (length counts) lengths) restarts → sent ≡ joinedOf bytes marks
               → record { refusal = none; sent = sent; size = size; lengths = lengths; count = length counts }
               ≡ gathered request
-          gathered-all size sent sums same joined =
-              let fits : total parts ≡ length bytes = sym (sums ∙ lengths-total) ∙ same in
-              let is-sent = joined ∙ ap (joinedOf bytes) marks-are ∙ sent-joined bytes counts parts all-sound fits in
-              let is-size = same ∙ sym (sent-length bytes counts parts all-sound fits) in
-              let good : badLengths request ≡ false = rw (shape, eq-eqb (total parts) (length bytes) fits) refl in
-              rw (is-sent, is-size, lengths-are, ← lengths-count request) (gathered-sound good)
+          gathered-all restarts marks sent parted marked joined =
+              let all = all-sound shape-passes in
+              let fits : total parts ≡ length bytes = sym (sized ∙ lengths-total shape-passes) ∙ size-is in
+              let is-sent =
+              joined
+              ∙ ap (joinedOf bytes) (marks-are shape-passes restarts marks parted marked)
+              ∙ sent-joined bytes counts parts all fits in
+              let is-size = size-is ∙ sym (sent-length bytes counts parts all fits) in
+              rw (is-sent, is-size, lengths-are shape-passes, ← lengths-count request)
+              (gathered-sound (sym same-test ∙ good))

@@ -54,11 +54,8 @@ pub fn gather(bytes: &[u8], parts: &[u32], counts: &[u32]) -> Messages
     }
     let lengths = lengths::lengths_of(parts, counts);
     let bad = lengths::first_bad(counts, &lengths);
-    if (bad < count) | (lengths::total(counts) != parts.len()) {
-        return refused(13, bad);
-    }
     let size = lengths::total(&lengths);
-    if size != bytes.len() {
+    if (bad < count) | (lengths::total(counts) != parts.len()) | (size != bytes.len()) {
         return refused(13, bad);
     }
     let restarts = marks::part_marks(parts);

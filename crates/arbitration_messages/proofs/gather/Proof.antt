@@ -32,11 +32,17 @@ first-bad-requires c κs =
     let size : length (c .before .lengths-of .result) ≡ 16 = search needs in
     omega (arith, few)
 
+slice-aggregate-total : tie.Need-slice-aggregate-total
+slice-aggregate-total c = search needs
+
 total-requires : tie.Need-total-requires
-total-requires c κs =
-    let at3 = c .before .before .before in
-    let a = at3 .before .before .before .before .args in
-    laws.few-counts (a .bytes .now) (a .parts .now) (a .counts .now) (at3 .if1 .left)
+total-requires c κs = search needs
+
+total-requires-2 : tie.Need-total-requires-2
+total-requires-2 c κs =
+    let at5 = c .before .before .before .before .before in
+    let a = at5 .before .before .before .before .args in
+    laws.few-counts (a .bytes .now) (a .parts .now) (a .counts .now) (at5 .if1 .left)
 
 refused-requires-2 : tie.Need-refused-requires-2
 refused-requires-2 c κs = search needs
@@ -44,92 +50,84 @@ refused-requires-2 c κs = search needs
 returns-2 : tie.Need-returns-2
 returns-2 c =
     let summed = c .before .before in
-    let searched = summed .before in
+    let sized = summed .before in
+    let searched = sized .before .before in
     let measured = searched .before .before in
     let passed = measured .before in
     let a = passed .before .before .before .before .args in
     c .refused2 .ensures
     ∙ laws.refused-13 (a .bytes .now) (a .parts .now) (a .counts .now) (passed .if1 .left) _ _ _
-    (measured .lengths-of .ensures) (searched .first-bad .ensures) (summed .total .ensures) (c .before .if2 .taken)
-
-slice-aggregate-total : tie.Need-slice-aggregate-total
-slice-aggregate-total c = search needs
-
-total-requires-2 : tie.Need-total-requires-2
-total-requires-2 c κs = search needs
-
-refused-requires-3 : tie.Need-refused-requires-3
-refused-requires-3 c κs = search needs
-
-returns-3 : tie.Need-returns-3
-returns-3 c =
-    let summed = c .before .before .before .before .before in
-    let searched = summed .before in
-    let measured = searched .before .before in
-    let passed = measured .before in
-    let a = passed .before .before .before .before .args in
-    c .refused3 .ensures
-    ∙ laws.refused-bytes (a .bytes .now) (a .parts .now) (a .counts .now) (passed .if1 .left) _ _ _
-    (measured .lengths-of .ensures) (searched .first-bad .ensures) (summed .total .ensures)
-    (c .before .before .before .before .if2 .left) _ (c .before .before .total2 .ensures) (c .before .if3 .taken)
+    (measured .lengths-of .ensures) (searched .first-bad .ensures) (summed .total2 .ensures) _ (sized .total .ensures)
+    (c .before .if2 .taken)
 
 part-marks-requires : tie.Need-part-marks-requires
 part-marks-requires c κs =
-    let summed = c .before .before .before .before in
-    let searched = summed .before in
+    let summed = c .before in
+    let sized = summed .before in
+    let searched = sized .before .before in
     let measured = searched .before .before in
     let passed = measured .before in
     let a = passed .before .before .before .before .args in
-    let passes = c .before .before .before .if2 .left in (
-      sound-full (laws.all-sound (a .bytes .now) (a .parts .now) (a .counts .now) (passed .if1 .left) _ _ _
-          (measured .lengths-of .ensures) (searched .first-bad .ensures) (summed .total .ensures) passes),
+    let passes =
+    laws.shape-passes (a .bytes .now) (a .parts .now) (a .counts .now) (passed .if1 .left) _ _ _
+    (measured .lengths-of .ensures) (searched .first-bad .ensures) (summed .total2 .ensures) _ (sized .total .ensures)
+    (c .if2 .left) in (
+      sound-full
+          (laws.all-sound (a .bytes .now) (a .parts .now) (a .counts .now) (passed .if1 .left) _ _ _
+          (measured .lengths-of .ensures) (searched .first-bad .ensures) (summed .total2 .ensures) passes),
       laws.parts-within (a .bytes .now) (a .parts .now) (a .counts .now) (passed .if1 .left) _ _ _
-          (measured .lengths-of .ensures) (searched .first-bad .ensures) (summed .total .ensures) passes,
+          (measured .lengths-of .ensures) (searched .first-bad .ensures) (summed .total2 .ensures) passes,
     )
 
 message-marks-requires : tie.Need-message-marks-requires
 message-marks-requires c κs =
-    let summed = c .before .before .before .before .before in
-    let searched = summed .before in
+    let summed = c .before .before in
+    let sized = summed .before in
+    let searched = sized .before .before in
     let measured = searched .before .before in
     let passed = measured .before in
-    let a = passed .before .before .before .before .args in (
+    let a = passed .before .before .before .before .args in
+    let passes =
+    laws.shape-passes (a .bytes .now) (a .parts .now) (a .counts .now) (passed .if1 .left) _ _ _
+    (measured .lengths-of .ensures) (searched .first-bad .ensures) (summed .total2 .ensures) _ (sized .total .ensures)
+    (c .before .if2 .left) in (
       laws.few-counts (a .bytes .now) (a .parts .now) (a .counts .now) (passed .if1 .left),
       laws.lengths-short (a .bytes .now) (a .parts .now) (a .counts .now) (passed .if1 .left) _ _ _
-          (measured .lengths-of .ensures) (searched .first-bad .ensures) (summed .total .ensures)
-          (c .before .before .before .before .if2 .left),
+          (measured .lengths-of .ensures) (searched .first-bad .ensures) (summed .total2 .ensures) passes,
     )
 
 joined-requires : tie.Need-joined-requires
 joined-requires c κs =
-    let summed = c .before .before .before .before .before .before in
-    let searched = summed .before in
+    let summed = c .before .before .before in
+    let sized = summed .before in
+    let searched = sized .before .before in
     let measured = searched .before .before in
     let passed = measured .before in
     let a = passed .before .before .before .before .args in
-    let passes = c .before .before .before .before .before .if2 .left in
-    let within = laws.parts-within (a .bytes .now) (a .parts .now) (a .counts .now) (passed .if1 .left) _ _ _
-    (measured .lengths-of .ensures) (searched .first-bad .ensures) (summed .total .ensures) passes in
-    let size = laws.lengths-total (a .bytes .now) (a .parts .now) (a .counts .now) (passed .if1 .left) _ _ _
-    (measured .lengths-of .ensures) (searched .first-bad .ensures) (summed .total .ensures) passes in (
-      omega (arith, within, size, c .before .before .before .total2 .ensures, c .before .before .if3 .left),
+    let passes =
+    laws.shape-passes (a .bytes .now) (a .parts .now) (a .counts .now) (passed .if1 .left) _ _ _
+    (measured .lengths-of .ensures) (searched .first-bad .ensures) (summed .total2 .ensures) _ (sized .total .ensures)
+    (c .before .before .if2 .left) in (
+      laws.bytes-within (a .bytes .now) (a .parts .now) (a .counts .now) (passed .if1 .left) _ _ _
+          (measured .lengths-of .ensures) (searched .first-bad .ensures) (summed .total2 .ensures) _ (sized .total .ensures)
+          (c .before .before .if2 .left),
       laws.marks-within (a .bytes .now) (a .parts .now) (a .counts .now) (passed .if1 .left) _ _ _
-          (measured .lengths-of .ensures) (searched .first-bad .ensures) (summed .total .ensures) passes _ _
+          (measured .lengths-of .ensures) (searched .first-bad .ensures) (summed .total2 .ensures) passes _ _
           (c .before .part-marks .ensures) (c .message-marks .ensures),
     )
 
-returns-4 : tie.Need-returns-4
-returns-4 c =
-    let summed = c .before .before .before .before .before .before .before in
-    let searched = summed .before in
+returns-3 : tie.Need-returns-3
+returns-3 c =
+    let summed = c .before .before .before .before in
+    let sized = summed .before in
+    let searched = sized .before .before in
     let measured = searched .before .before in
     let passed = measured .before in
     let a = passed .before .before .before .before .args in
     laws.gathered-all (a .bytes .now) (a .parts .now) (a .counts .now) (passed .if1 .left) _ _ _
-    (measured .lengths-of .ensures) (searched .first-bad .ensures) (summed .total .ensures)
-    (c .before .before .before .before .before .before .if2 .left) _ _
-    (c .before .before .part-marks .ensures) (c .before .message-marks .ensures) _ _
-    (c .before .before .before .before .total2 .ensures) (c .before .before .before .if3 .left) (c .joined .ensures)
+    (measured .lengths-of .ensures) (searched .first-bad .ensures) (summed .total2 .ensures) _ (sized .total .ensures)
+    (c .before .before .before .if2 .left) _ _ _ (c .before .before .part-marks .ensures)
+    (c .before .message-marks .ensures) (c .joined .ensures)
 
 pub gather-spec : {M : Type 1} → statement M
 gather-spec =
@@ -140,14 +138,12 @@ gather-spec =
     lengths-of-requires
     slice-aggregate-first-bad
     first-bad-requires
+    slice-aggregate-total
     total-requires
+    total-requires-2
     refused-requires-2
     returns-2
-    slice-aggregate-total
-    total-requires-2
-    refused-requires-3
-    returns-3
     part-marks-requires
     message-marks-requires
     joined-requires
-    returns-4)
+    returns-3)
