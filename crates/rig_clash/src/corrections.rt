@@ -25,7 +25,6 @@ use rig_lines::files;
 use rig_lines::files::Opened;
 use rig_lines::input;
 use rig_lines::input::Line;
-use rig_lines::input::Taken;
 use rig_lines::numbers::least_number;
 use rig_lines::numbers::more;
 use rig_lines::numbers::value;
@@ -318,20 +317,11 @@ fn unread(page: &mut [u8; PAGE], state: State, reads: bool, argument: usize, err
 }
 
 // Follows what taking a line found.
-fn followed(
-    page: &mut [u8; PAGE],
-    kept: &mut [u8; ROOM],
-    state: State,
-    taken: Taken,
-    line: &[u8],
-) -> State {
-    let found = taken.line;
+fn followed(kept: &mut [u8; ROOM], state: State, found: Line, line: &[u8]) -> State {
     match found {
         Line::Text(n) => with_text(kept, state, input::content(line, n)),
-        Line::TooLong => without_text(state, forms::LONG_LINE),
-        Line::NoText => without_text(state, forms::NO_TEXT),
         Line::End => ended(kept, state),
-        Line::Failed => unread(page, state, true, taken.source.argument, taken.source.errno),
+        _ => without_text(state, reading::form_of(found)),
     }
 }
 
@@ -340,10 +330,13 @@ pub(crate) fn with_line(
     page: &mut [u8; PAGE],
     kept: &mut [u8; ROOM],
     state: State,
-    taken: Taken,
+    found: Line,
     line: &[u8],
 ) -> State {
-    let next = followed(page, kept, state, taken, line);
+    if let Line::Failed = found {
+        return unread(page, state, true, state.source.argument, state.source.errno);
+    }
+    let next = followed(kept, state, found, line);
     said(page, next)
 }
 

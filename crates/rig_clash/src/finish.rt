@@ -49,11 +49,6 @@ pub(crate) fn missing(page: &mut [u8; PAGE], kept: &[u8], state: State) -> State
     missing_boards(page, kept, state, state.load.boards)
 }
 
-fn closed(mut state: State) -> State {
-    state.load.open = false;
-    state
-}
-
 // A load to see is kept for the last line but one.
 fn noted(kept: &mut [u8; ROOM], state: State, marked: bool) -> State {
     if !marked {
@@ -184,13 +179,19 @@ fn finished(page: &mut [u8; PAGE], kept: &mut [u8; ROOM], state: State) -> State
     }
 }
 
+// The load that ends, with its corrections, and whatever is asked for of it.
+fn completed(page: &mut [u8; PAGE], kept: &mut [u8; ROOM], state: State) -> State {
+    let laid = corrected::laid(page, kept, state);
+    let mut done = finished(page, kept, laid);
+    done.load.open = false;
+    progress(page, done)
+}
+
 // Finishes the load that is being read, where there is one.
 pub(crate) fn finish(page: &mut [u8; PAGE], kept: &mut [u8; ROOM], state: State) -> State {
     if !state.load.open {
         return state;
     }
     let checked = missing(page, kept, state);
-    let laid = corrected::laid(page, kept, checked);
-    let done = finished(page, kept, laid);
-    progress(page, closed(done))
+    completed(page, kept, checked)
 }

@@ -13,23 +13,28 @@ use rig_lines::console::flush;
 use rig_lines::input;
 use rig_lines::input::Line;
 use rig_lines::input::Source;
-use rig_lines::input::Taken;
+
+// Why a line is none of text.
+pub(crate) fn form_of(found: Line) -> usize {
+    match found {
+        Line::TooLong => forms::LONG_LINE,
+        _ => forms::NO_TEXT,
+    }
+}
 
 // Follows what taking a line of a file of loads found.
 fn followed(
     page: &mut [u8; PAGE],
     kept: &mut [u8; ROOM],
     state: State,
-    taken: Taken,
+    found: Line,
     line: &[u8],
 ) -> State {
-    let found = taken.line;
     match found {
         Line::Text(n) => statements::with_line(page, kept, state, input::content(line, n)),
-        Line::TooLong => statements::without_text(state, forms::LONG_LINE),
-        Line::NoText => statements::without_text(state, forms::NO_TEXT),
         Line::End => ending::input_ended(page, kept, state),
         Line::Failed => ending::input_failed(page, kept, state),
+        _ => statements::without_text(state, form_of(found)),
     }
 }
 
@@ -38,13 +43,10 @@ fn written(
     page: &mut [u8; PAGE],
     kept: &mut [u8; ROOM],
     state: State,
-    taken: Taken,
+    found: Line,
     line: &[u8],
 ) -> State {
-    if state.file.corrects {
-        return corrections::with_line(page, kept, state, taken, line);
-    }
-    let followed = followed(page, kept, state, taken, line);
+    let followed = followed(page, kept, state, found, line);
     let next = complaints::said(page, kept, followed);
     next.moved(flush(page, next.at))
 }
@@ -58,7 +60,12 @@ fn with_line(
     line: &mut [u8; input::ROOM],
 ) -> State {
     let taken = input::next_line(piece, line, state.source);
-    written(page, kept, state.with_source(taken.source), taken, line)
+    let found = taken.line;
+    let next = state.with_source(taken.source);
+    if state.file.corrects {
+        return corrections::with_line(page, kept, next, found, line);
+    }
+    written(page, kept, next, found, line)
 }
 
 // The lines of a file, one after another.

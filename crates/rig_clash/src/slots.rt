@@ -110,6 +110,14 @@ pub(crate) fn find(kept: &[u8], count: usize, board_name: &[u8]) -> usize {
     count
 }
 
+// A board's name and line, and its message, in a slot.
+fn put_board(slot: &mut [u8; SLOT], name: &[u8], line: u64, row: &[u8; MAX_LENGTH], length: u8) {
+    put_bytes(slot, BOARD_AT, name);
+    put_decimal(slot, LINE_AT, line);
+    put_byte(slot, LENGTH_AT, length);
+    put_bytes(slot, BYTES_AT, row);
+}
+
 // Keeps the correction of a board of the load whose name is kept; row: its bytes, so many.
 pub(crate) fn keep(
     kept: &mut [u8; ROOM],
@@ -123,9 +131,6 @@ pub(crate) fn keep(
     let mut slot = [0u8; SLOT];
     put_bytes(&mut slot, LOAD_AT, kept::name(kept));
     put_decimal(&mut slot, LOAD_LINE_AT, load_line);
-    put_bytes(&mut slot, BOARD_AT, board_name);
-    put_decimal(&mut slot, LINE_AT, line);
-    put_byte(&mut slot, LENGTH_AT, length);
-    put_bytes(&mut slot, BYTES_AT, row);
+    put_board(&mut slot, board_name, line, row, length);
     put_bytes(kept, slot_of(correction), &slot);
 }

@@ -49,10 +49,16 @@ fn put_numbered(page: &mut [u8; PAGE], at: usize, argument: usize) -> usize {
     note(page, start, said)
 }
 
-fn without_boards(page: &mut [u8; PAGE], mut state: State) -> State {
+// The first `load` of a file in the old form.
+fn with_first_load(
+    page: &mut [u8; PAGE],
+    kept: &mut [u8; ROOM],
+    mut state: State,
+    rest: &[u8],
+) -> State {
     state.file.numbered = true;
     let at = put_numbered(page, state.at, state.source.argument);
-    state.moved(at)
+    opening::with_load(kept, state.moved(at), rest)
 }
 
 // `load`: the load before it is finished first.
@@ -148,6 +154,30 @@ fn deed_of(state: State, word: &[u8]) -> Deed {
     stated(state.file, state.load.open, word)
 }
 
+// A line that only says something of the file, or is wrong.
+fn told(state: State, deed: Deed, word: &[u8]) -> State {
+    match deed {
+        Deed::Ended => ending::after_end(state),
+        Deed::SecondBoards => state.wrong_by(forms::SECOND_BOARDS, state.file.boards_line),
+        Deed::LateBoards => state.plainly_wrong(forms::LATE_BOARDS),
+        Deed::First => state.unread(forms::FIRST, word),
+        Deed::Wrong(form) => state.wrong(form, word, 0),
+        _ => state,
+    }
+}
+
+// A line of which something is kept.
+fn recorded(kept: &mut [u8; ROOM], state: State, deed: Deed, word: &[u8], rest: &[u8]) -> State {
+    match deed {
+        Deed::Boards => boards::with_boards(kept, state, rest),
+        Deed::Board => lines::with_board(kept, state, rest),
+        Deed::NumberedBoard => lines::with_numbered(kept, state, rest),
+        Deed::Ack => lines::with_ack(kept, state, rest),
+        Deed::Expect => lines::with_expect(kept, state, rest),
+        _ => told(state, deed, word),
+    }
+}
+
 // A line of text, without its comment.
 pub(crate) fn with_line(
     page: &mut [u8; PAGE],
@@ -159,23 +189,10 @@ pub(crate) fn with_line(
     let rest = after_word(line);
     let deed = deed_of(state, word);
     match deed {
-        Deed::Nothing => state,
-        Deed::Ended => ending::after_end(state),
-        Deed::Boards => boards::with_boards(kept, state, rest),
         Deed::Load => with_load(page, kept, state, rest),
-        Deed::FirstLoad => {
-            let next = without_boards(page, state);
-            opening::with_load(kept, next, rest)
-        }
+        Deed::FirstLoad => with_first_load(page, kept, state, rest),
         Deed::End => ending::with_end(page, kept, state, rest),
-        Deed::Board => lines::with_board(kept, state, rest),
-        Deed::NumberedBoard => lines::with_numbered(kept, state, rest),
-        Deed::Ack => lines::with_ack(kept, state, rest),
-        Deed::Expect => lines::with_expect(kept, state, rest),
-        Deed::SecondBoards => state.wrong_by(forms::SECOND_BOARDS, state.file.boards_line),
-        Deed::LateBoards => state.plainly_wrong(forms::LATE_BOARDS),
-        Deed::First => state.unread(forms::FIRST, word),
-        Deed::Wrong(form) => state.wrong(form, word, 0),
+        _ => recorded(kept, state, deed, word, rest),
     }
 }
 
