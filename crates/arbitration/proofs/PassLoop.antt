@@ -32,7 +32,6 @@ use denote.RattleType.{RattleType, owns}
 use denote.Laws.{Is, shows}
 use denote.Memory.{pointee}
 use denote.Builtin.{usize}
-use denote.Ref.{RefT}
 use denote.Slice.{sliceTy, MutSlice}
 use denote.Index.{place-is, elem-out, elem-put}
 use denote.Triple.Statement.{Contract, Triple}
