@@ -1,0 +1,1 @@
+-- the order and the different messages; one round; the night
