@@ -173,6 +173,11 @@ everyone-at nobody k inside = absurd (omega arith)
 everyone-at (also p more) zero inside = p
 everyone-at (also p more) (suc k) inside = everyone-at more k (omega arith)
 
+pub among-at : (l : List (List ℕ)) (k : ℕ) → k < length l → Among (getD l k []) l
+among-at [] k inside = absurd (omega arith)
+among-at (message ∷ l) zero inside = this refl
+among-at (message ∷ l) (suc k) inside = another (among-at l k (omega arith))
+
 pub count-at : {l : List (List ℕ)} → Rising l → (k : ℕ) → k < length l → smallerCount (getD l k []) l ≡ k
 count-at nothing k inside = absurd (omega arith)
 count-at (before {message} smallest rest) zero inside = rw (smaller-self message) (omega (arith, count-none message smallest))

@@ -2,3 +2,5 @@
 pub mod Order
 pub mod Different
 pub mod Round
+pub mod Waiting
+pub mod Rounds

@@ -1,0 +1,212 @@
+-- The night round by round: after k rounds the k least of the different messages are carried.
+use Prim.Native.Nat.{ℕ, zero, suc, _+_, _≤_, _<_}
+use native.Mathlib.Omega.{arith}
+use mathlib.Core.Path.{_≡_, refl, ap, ap₂, sym, subst, _∙_}
+use mathlib.Core.Bool.{Bool, cond, true, false, false≢true}
+use mathlib.Core.List.{List, [], _∷_, map}
+use mathlib.Core.Option.{Option, none, some}
+use lib.Dec.{eqb, leb}
+use lib.ListN.{length, getD}
+use borrow.Author.Tests.{eq-eqb, ne-eqb, eqb-true, eqb-false, leb-true, leb-false, le-leb, lt-leb}
+use Rattle.usi.specs.declared.Usi.{Usi}
+use Rattle.laws.specs.Everyone.{Everyone, nobody, also, Someone, this, another}
+use Rattle.laws.specs.Search.{any}
+use Rattle.laws.proofs.Lists.{everyone, everyone-so, everyone-both, everyone-map, someone-so, someone-map, map-alike}
+use Rattle.laws.proofs.Lists.{any-one, any-none}
+use Rattle.arbitration_rules.specs.Outcome.{least, lossFrom}
+use Rattle.arbitration_rules.specs.Run.{Bus, run}
+use Rattle.arbitration_rules.specs.Reply.{longest}
+use Rattle.arbitration_rules.specs.Final.{finalMaster}
+use Rattle.arbitration_rules.proofs.LeastMessage.{AtMost}
+use Rattle.arbitration_rules.proofs.Pieces.{taken}
+use Rattle.arbitration_rules.proofs.Demand.{Arbitration}
+use Rattle.night_rules.specs.Different.{smaller, different, smallerCount, roundOf}
+use Rattle.night_rules.specs.Night.{Night, waiting, needed, arbitration, leftBy, carriedBy, roundBy, entered}
+use Rattle.night_rules.specs.Night.{afterRound, waits, nightAfter}
+use Rattle.night_rules.proofs.Order.{not-smaller, neither-smaller}
+use Rattle.night_rules.proofs.Different.{Among, different-rising, different-among, different-all, count-smaller}
+use Rattle.night_rules.proofs.Different.{count-within, everyone-at, among-at, count-at}
+use Rattle.night_rules.proofs.Round.{Admitted, waiting-so, waiting-admitted, round-arbitration, carriedUsi}
+use Rattle.night_rules.proofs.Round.{left-itself, left-other, Carries, round-carries}
+use Rattle.night_rules.proofs.Waiting.{among-so, least-is, waiting-none, waiting-among, carried-is, rounds-by}
+use Rattle.night_rules.proofs.Waiting.{latest, entered-none, entered-twice}
+
+-- after k rounds: the round of a message, 0 while it waits; what those rounds left of it
+abbrev pub reached : List (List ℕ) → ℕ → List ℕ → ℕ
+reached messages k message = cond (leb (roundOf messages message) k) (roundOf messages message) 0
+
+abbrev pub left : List (List ℕ) → ℕ → List ℕ → Option Usi
+left messages k message = cond (leb (roundOf messages message) k) (some carriedUsi) none
+
+abbrev pub nightAt : List (List ℕ) → List Usi → ℕ → Night
+nightAt messages table k =
+    record {
+      rounds = map (reached messages k) messages;
+      table = entered (map (left messages k) messages) table;
+      count = k;
+    }
+
+-- what the round after them leaves
+abbrev now : List (List ℕ) → ℕ → List ℕ → Option Usi
+now messages k message = cond (eqb (roundOf messages message) (suc k)) (some carriedUsi) none
+
+-- a message waits as long as its round has not come
+reached-none : (messages : List (List ℕ)) (k : ℕ) (message : List ℕ) → reached messages k message ≡ 0
+    → k < roundOf messages message
+reached-none messages k message is = go (leb (roundOf messages message) k) refl is
+  where
+    go : (past : Bool) → leb (roundOf messages message) k ≡ past → cond past (roundOf messages message) 0 ≡ 0
+        → k < roundOf messages message
+    go true past is = absurd (omega arith)
+    go false past is = leb-false (roundOf messages message) k past
+
+not-reached : (messages : List (List ℕ)) (k : ℕ) (message : List ℕ) → k < roundOf messages message
+    → reached messages k message ≡ 0
+not-reached messages k message later = rw (lt-leb (roundOf messages message) k later)
+
+-- and once carried it takes part no more
+past-none : (messages : List (List ℕ)) (k : ℕ) (message : List ℕ) → (reached messages k message ≡ 0 → ⊥)
+    → now messages k message ≡ none
+past-none messages k message past = go (leb (roundOf messages message) k) refl
+  where
+    go : (before : Bool) → leb (roundOf messages message) k ≡ before → now messages k message ≡ none
+    go true before =
+        let earlier : roundOf messages message ≤ k = leb-true (roundOf messages message) k before in
+        rw (ne-eqb (roundOf messages message) (suc k) (λ e. omega arith))
+    go false later =
+        absurd (past (not-reached messages k message (leb-false (roundOf messages message) k later)))
+
+-- one round on
+reached-next : (messages : List (List ℕ)) (k : ℕ) (message : List ℕ)
+    → roundBy (suc k) (reached messages k message) (now messages k message) ≡ reached messages (suc k) message
+reached-next messages k message = go (leb round k) refl (eqb round (suc k)) refl
+  where
+    round : ℕ
+    round = roundOf messages message
+
+    go : (past : Bool) → leb round k ≡ past → (this-one : Bool) → eqb round (suc k) ≡ this-one
+        → roundBy (suc k) (cond (leb round k) round 0) (cond (eqb round (suc k)) (some carriedUsi) none)
+        ≡ cond (leb round (suc k)) round 0
+    go true past this-one is =
+        let before : round ≤ k = leb-true round k past in
+        rw (past, ne-eqb round (suc k) (λ e. omega arith), le-leb round (suc k) (omega arith))
+    go false past true is =
+        let same : round ≡ suc k = eqb-true round (suc k) is in
+        rw (past, is, le-leb round (suc k) (omega arith)) (sym same)
+    go false past false is =
+        let later : k < round = leb-false round k past in
+        let other : round ≡ suc k → ⊥ = eqb-false round (suc k) is in
+        rw (past, is, lt-leb round (suc k) (omega arith))
+
+left-next : (messages : List (List ℕ)) (k : ℕ) (message : List ℕ)
+    → latest (now messages k message) (left messages k message) ≡ left messages (suc k) message
+left-next messages k message = go (leb round k) refl (eqb round (suc k)) refl
+  where
+    round : ℕ
+    round = roundOf messages message
+
+    go : (past : Bool) → leb round k ≡ past → (this-one : Bool) → eqb round (suc k) ≡ this-one
+        → latest (cond (eqb round (suc k)) (some carriedUsi) none) (cond (leb round k) (some carriedUsi) none)
+        ≡ cond (leb round (suc k)) (some carriedUsi) none
+    go true past this-one is =
+        let before : round ≤ k = leb-true round k past in
+        rw (past, ne-eqb round (suc k) (λ e. omega arith), le-leb round (suc k) (omega arith))
+    go false past true is =
+        let same : round ≡ suc k = eqb-true round (suc k) is in
+        rw (past, is, le-leb round (suc k) (omega arith))
+    go false past false is =
+        let later : k < round = leb-false round k past in
+        let other : round ≡ suc k → ⊥ = eqb-false round (suc k) is in
+        rw (past, is, lt-leb round (suc k) (omega arith))
+
+module _ (messages : List (List ℕ)) (acknowledges : List ℕ) (given : Admitted messages acknowledges) where
+  -- the round to come, where k messages of the different ones are carried and one more is left
+  module _ (k : ℕ) (inside : k < length (different messages)) where
+    abbrev winner : List ℕ
+    winner = getD (different messages) k []
+
+    abbrev contenders : List (List ℕ)
+    contenders = waiting (map (reached messages k) messages) messages
+
+    -- its round is this one
+    winner-round : smallerCount winner (different messages) ≡ k
+    winner-round = count-at (different-rising messages) k inside
+
+    winner-waits : Among winner contenders
+    winner-waits =
+        waiting-among (reached messages k) winner (everyone-at (different-among messages) k inside)
+        (not-reached messages k winner (omega (arith, winner-round)))
+
+    -- everyone who waits: its round is to come, and it is one of the different messages
+    contenders-later : Everyone
+        (λ message. (k < roundOf messages message) × Among message (different messages)) contenders
+    contenders-later =
+        everyone-both
+        (everyone-so (λ message. reached-none messages k message) (waiting-none (reached messages k) messages))
+        (waiting-so (map (reached messages k) messages) (different-all messages))
+
+    -- so the winner is the least of them
+    winner-least : least contenders ≡ winner
+    winner-least =
+        least-is contenders winner winner-waits
+        (everyone-so (λ message both. at-least message (both .0) (both .1)) contenders-later)
+      where
+        at-least : (message : List ℕ) → k < roundOf messages message → Among message (different messages)
+            → AtMost winner message
+        at-least message later among = go (smaller message winner) refl
+          where
+            go : (less : Bool) → smaller message winner ≡ less → AtMost winner message
+            go true less = absurd (omega (arith, count-smaller message winner among less, winner-round))
+            go false less = not-smaller message winner less
+
+    -- no round is refused
+    pub contenders-arbitration : Arbitration contenders (needed contenders acknowledges)
+    contenders-arbitration =
+        round-arbitration contenders acknowledges (waiting-admitted (map (reached messages k) messages) given)
+        (some-there winner-waits)
+      where
+        some-there : {P : List ℕ → Type 0} {l : List (List ℕ)} → Someone P l → 0 < length l
+        some-there (this p) = omega arith
+        some-there (another more) = omega arith
+
+    -- it carries the winner, whole
+    pub contenders-carry : Carries contenders (needed contenders acknowledges) winner
+    contenders-carry =
+        subst (Carries contenders (needed contenders acknowledges)) winner-least
+        (round-carries contenders (needed contenders acknowledges) contenders-arbitration
+        (taken (given .acknowledged) (longest (map length contenders))))
+
+    -- whose round this is has the winner's message, and the others have not
+    same-round : (message : List ℕ) → Among message (different messages) → roundOf messages message ≡ suc k
+        → message ≡ winner
+    same-round message among round =
+        go (smaller message winner) refl (smaller winner message) refl
+      where
+        go : (less : Bool) → smaller message winner ≡ less → (more : Bool) → smaller winner message ≡ more
+            → message ≡ winner
+        go true less more more? = absurd (omega (arith, count-smaller message winner among less, winner-round))
+        go false less true more =
+            absurd (omega (arith, count-smaller winner message (among-at (different messages) k inside) more, winner-round))
+        go false less false more = neither-smaller message winner less more
+
+    contender-left : (message : List ℕ) → Among message (different messages)
+        → (lossFrom 0 winner message ≡ none → message ≡ winner)
+        → leftBy (finalMaster winner message) ≡ now messages k message
+    contender-left message among still = go (eqb (roundOf messages message) (suc k)) refl
+      where
+        go : (this-one : Bool) → eqb (roundOf messages message) (suc k) ≡ this-one
+            → leftBy (finalMaster winner message) ≡ cond this-one (some carriedUsi) none
+        go true is =
+            ap (λ own. leftBy (finalMaster winner own))
+            (same-round message among (eqb-true (roundOf messages message) (suc k) is))
+            ∙ left-itself winner
+        go false is =
+            left-other winner message
+            (λ none-lost. eqb-false (roundOf messages message) (suc k) is
+            (ap (roundOf messages) (still none-lost) ∙ ap suc winner-round))
+
+    -- so the night goes on by one
+    night-next : (table : List Usi)
+        → afterRound messages acknowledges (nightAt messages table k) ≡ nightAt messages table (suc k)
+    unfolding afterRound arbitration
+    night-next table = ?
