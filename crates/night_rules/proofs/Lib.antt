@@ -4,3 +4,4 @@ pub mod Different
 pub mod Round
 pub mod Waiting
 pub mod Rounds
+pub mod Night

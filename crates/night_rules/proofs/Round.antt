@@ -114,7 +114,7 @@ abbrev pub carriedUsi : Usi
 carriedUsi = afterStop 0xc8 0x45 0x00 0xff true true
 
 -- what a round leaves of a message: nothing, unless it is the one carried
-loss-itself : (index : ℕ) (message : List ℕ) → lossFrom index message message ≡ none
+pub loss-itself : (index : ℕ) (message : List ℕ) → lossFrom index message message ≡ none
 loss-itself index [] = refl
 loss-itself index (sent ∷ message) = rw (eq-eqb (byteOf sent) (byteOf sent) refl) (loss-itself (suc index) message)
 

@@ -3,7 +3,7 @@ use Prim.Native.Nat.{ℕ, zero, suc, _+_, _≤_, _<_}
 use native.Mathlib.Omega.{arith}
 use mathlib.Core.Path.{_≡_, refl, ap, ap₂, sym, subst, _∙_}
 use mathlib.Core.Bool.{Bool, cond, true, false, false≢true}
-use mathlib.Core.List.{List, [], _∷_, map}
+use mathlib.Core.List.{List, [], _∷_, map, zipWith}
 use mathlib.Core.Option.{Option, none, some}
 use lib.Dec.{eqb, leb}
 use lib.ListN.{length, getD}
@@ -122,10 +122,10 @@ left-next messages k message = go (leb round k) refl (eqb round (suc k)) refl
 module _ (messages : List (List ℕ)) (acknowledges : List ℕ) (given : Admitted messages acknowledges) where
   -- the round to come, where k messages of the different ones are carried and one more is left
   module _ (k : ℕ) (inside : k < length (different messages)) where
-    abbrev winner : List ℕ
+    abbrev pub winner : List ℕ
     winner = getD (different messages) k []
 
-    abbrev contenders : List (List ℕ)
+    abbrev pub contenders : List (List ℕ)
     contenders = waiting (map (reached messages k) messages) messages
 
     -- its round is this one
@@ -138,7 +138,7 @@ module _ (messages : List (List ℕ)) (acknowledges : List ℕ) (given : Admitte
         (not-reached messages k winner (omega (arith, winner-round)))
 
     -- everyone who waits: its round is to come, and it is one of the different messages
-    contenders-later : Everyone
+    pub contenders-later : Everyone
         (λ message. (k < roundOf messages message) × Among message (different messages)) contenders
     contenders-later =
         everyone-both
@@ -146,7 +146,7 @@ module _ (messages : List (List ℕ)) (acknowledges : List ℕ) (given : Admitte
         (waiting-so (map (reached messages k) messages) (different-all messages))
 
     -- so the winner is the least of them
-    winner-least : least contenders ≡ winner
+    pub winner-least : least contenders ≡ winner
     winner-least =
         least-is contenders winner winner-waits
         (everyone-so (λ message both. at-least message (both .0) (both .1)) contenders-later)
@@ -209,4 +209,89 @@ module _ (messages : List (List ℕ)) (acknowledges : List ℕ) (given : Admitte
     night-next : (table : List Usi)
         → afterRound messages acknowledges (nightAt messages table k) ≡ nightAt messages table (suc k)
     unfolding afterRound arbitration
-    night-next table = ?
+    night-next table =
+        ap (λ carried. made (zipWith (roundBy (suc k)) (map (reached messages k) messages) carried)
+        (entered carried (entered (map (left messages k) messages) table))) leaves
+        ∙ ap₂ made
+        (rounds-by (suc k) (reached messages k) (now messages k) messages
+        ∙ map-alike (everyone (reached-next messages k) messages))
+        (entered-twice (now messages k) (left messages k) messages table
+        ∙ ap (λ l. entered l table) (map-alike (everyone (left-next messages k) messages)))
+      where
+        made : List ℕ → List Usi → Night
+        made rounds entries = record { rounds = rounds; table = entries; count = suc k }
+
+        leaves : carriedBy (map (reached messages k) messages)
+            (run contenders (needed contenders acknowledges) .masters) ≡ map (now messages k) messages
+        leaves =
+            ap (carriedBy (map (reached messages k) messages)) (contenders-carry .masters)
+            ∙ carried-is (reached messages k) (finalMaster winner) (now messages k) messages
+            (everyone-so (λ message both. contender-left message (both .0 .1) (both .1))
+            (everyone-both contenders-later (contenders-carry .together)))
+            (past-none messages k)
+
+    -- someone waits for it
+    someone-waits : any waits (map (reached messages k) messages) ≡ true
+    someone-waits =
+        any-one
+        (someone-map (reached messages k)
+        (someone-so
+        (λ message same. ap (λ own. waits (reached messages k own)) same
+        ∙ eq-eqb (reached messages k winner) 0 (not-reached messages k winner (omega (arith, winner-round))))
+        (everyone-at (different-among messages) k inside)))
+
+  -- every message's round comes
+  pub round-within : Everyone (λ message. roundOf messages message ≤ length (different messages)) messages
+  round-within =
+      everyone-so (λ message among. count-within message among) (different-all messages)
+
+  nobody-waits : any waits (map (reached messages (length (different messages))) messages) ≡ false
+  nobody-waits =
+      any-none {f = waits}
+      (everyone-map (reached messages (length (different messages)))
+      (everyone-so
+      (λ message within. rw (le-leb (roundOf messages message) (length (different messages)) within)
+      (ne-eqb (roundOf messages message) 0 (λ e. omega arith)))
+      round-within))
+
+  -- the night after k rounds
+  pub night-at : (table : List Usi) (k : ℕ) → k ≤ length (different messages)
+      → nightAfter k messages acknowledges table ≡ nightAt messages table k
+  night-at table zero inside =
+      ap₂ made (map-alike (everyone (λ message. sym (not-reached messages 0 message (omega arith))) messages))
+      (sym (entered-none messages table)
+      ∙ ap (λ l. entered l table)
+      (map-alike (everyone (λ message. sym (not-left message)) messages)))
+    where
+      made : List ℕ → List Usi → Night
+      made rounds entries = record { rounds = rounds; table = entries; count = 0 }
+
+      not-left : (message : List ℕ) → left messages 0 message ≡ none
+      not-left message = rw (lt-leb (roundOf messages message) 0 (omega arith))
+  night-at table (suc k) inside =
+      ap (λ (night : Night). cond (any waits (night .rounds)) (afterRound messages acknowledges night) night)
+      (night-at table k (omega arith))
+      ∙ rw (someone-waits k inside) (night-next k inside table)
+
+  -- and no round is left after the last of them
+  pub night-over : (table : List Usi) (most : ℕ) → length (different messages) ≤ most
+      → nightAfter most messages acknowledges table ≡ nightAt messages table (length (different messages))
+  night-over table zero enough =
+      night-at table zero (omega arith)
+      ∙ ap (nightAt messages table) (omega arith)
+  night-over table (suc most) enough =
+      go (leb (length (different messages)) most) refl (night-over table most)
+    where
+      go : (within : Bool) → leb (length (different messages)) most ≡ within
+          → (length (different messages) ≤ most
+          → nightAfter most messages acknowledges table ≡ nightAt messages table (length (different messages)))
+          → nightAfter (suc most) messages acknowledges table
+          ≡ nightAt messages table (length (different messages))
+      go true within earlier =
+          ap (λ (night : Night). cond (any waits (night .rounds)) (afterRound messages acknowledges night) night)
+          (earlier (leb-true (length (different messages)) most within))
+          ∙ rw nobody-waits
+      go false within earlier =
+          let last : suc most ≡ length (different messages) =
+          omega (arith, leb-false (length (different messages)) most within) in
+          night-at table (suc most) (omega arith) ∙ ap (nightAt messages table) last
