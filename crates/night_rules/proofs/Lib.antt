@@ -5,3 +5,4 @@ pub mod Round
 pub mod Waiting
 pub mod Rounds
 pub mod Night
+pub mod Accepted

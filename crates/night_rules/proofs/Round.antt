@@ -77,14 +77,22 @@ ending-heard acknowledges (sent ∷ message) (other ∷ others) apart =
         heard (eqb (getD acknowledges 0 0) 0) (endingDiffers (drop 1 acknowledges) message others) (rest ends)
     go false ends rest = ends
 
+-- so 16 applies to no arbitration of them
+pub none-apart : (messages : List (List ℕ)) (acknowledges : List ℕ)
+    → Everyone (λ message. Everyone (λ other. endingDiffers [] message other ≡ false) messages) messages
+    → undecided messages acknowledges ≡ false
+unfolding undecided
+none-apart [] acknowledges decided = refl
+none-apart (message ∷ messages) acknowledges decided =
+    any-none
+    (everyone-so (λ own. ending-heard acknowledges (least (message ∷ messages)) own)
+    (least-too message messages decided))
+
 -- no round is refused
 pub round-arbitration : (messages : List (List ℕ)) (acknowledges : List ℕ) → Admitted messages acknowledges
     → 0 < length messages → Arbitration messages (needed messages acknowledges)
-unfolding undecided
-round-arbitration [] acknowledges given someone = absurd (omega arith)
-round-arbitration (message ∷ messages) acknowledges given someone =
-    let all = message ∷ messages in
-    let most : ℕ = longest (map length all) in
+round-arbitration messages acknowledges given someone =
+    let most : ℕ = longest (map length messages) in
     record {
       someone = someone;
       sendable =
@@ -95,12 +103,9 @@ round-arbitration (message ∷ messages) acknowledges given someone =
             first = both .0 .first;
             answered = omega (arith, both .0 .answered, both .1, length-take most acknowledges);
           })
-          (everyone-both (given .sendable) (longest-all all));
+          (everyone-both (given .sendable) (longest-all messages));
       bits = everyone-so (λ acknowledge is. omega arith) (taken (given .acknowledged) most);
-      decided =
-          any-none
-          (everyone-so (λ own. ending-heard (take most acknowledges) (least all) own)
-          (least-too message messages (given .decided)));
+      decided = none-apart messages (take most acknowledges) (given .decided);
     }
 
 heard-at : {acknowledges : List ℕ} → Everyone (λ acknowledge. acknowledge ≡ 0) acknowledges → (i : ℕ)
