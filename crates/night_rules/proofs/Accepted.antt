@@ -1,18 +1,17 @@
 -- A request for a night that no refusal turns down: what the reply counts, and what the lent slice and the table hold
 -- after it.
-use Prim.Native.Nat.{ℕ, _≤_, _<_}
+use Prim.Native.Nat.{ℕ, _≤_}
 use native.Mathlib.Omega.{arith}
-use mathlib.Core.Path.{_≡_, refl, ap, ap₂, sym, subst, _∙_}
-use mathlib.Core.Bool.{Bool, cond, true, false}
-use mathlib.Core.List.{List, [], _∷_, map}
-use lib.Dec.{eqb, ltb}
+use mathlib.Core.Path.{_≡_, ap}
+use mathlib.Core.Bool.{true, false}
+use mathlib.Core.List.{List, [], map}
+use lib.Dec.{ltb}
 use lib.ListN.{length, replicate}
 use borrow.Author.Tests.{eqb-false, ltb-false, eq-eqb}
 use Rattle.usi.specs.declared.Usi.{Usi}
 use Rattle.laws.specs.declared.Refusal.{Refusal}
 use Rattle.laws.specs.Buffer.{filled}
-use Rattle.laws.specs.Everyone.{Everyone, nobody, also, Someone}
-use Rattle.laws.specs.Refusals.{Check, given}
+use Rattle.laws.specs.Everyone.{Everyone, Someone}
 use Rattle.laws.specs.Search.{any}
 use Rattle.laws.proofs.Bools.{neither}
 use Rattle.laws.proofs.Lists.{everyone-so, everyone-both, someone-so, any-false, any-true, any-one}
@@ -21,11 +20,10 @@ use Rattle.arbitration_rules.specs.Outcome.{endingDiffers}
 use Rattle.arbitration_rules.specs.Reply.{Request, messagesOf}
 use Rattle.arbitration_rules.proofs.Cut.{messages-count}
 use Rattle.arbitration_rules.proofs.Pieces.{Bytes}
-use Rattle.arbitration_rules.proofs.Demand.{Arbitration}
 use Rattle.arbitration_rules.proofs.Accepted.{arbitration}
 use Rattle.arbitration_rules.proofs.Undecided.{Apart, differs-apart, apart-differs}
 use Rattle.night_rules.specs.Different.{different, roundOf}
-use Rattle.night_rules.specs.Night.{Night, isOne, endApart, nightChecks, nightRefusal, nightFor, roundsCounted}
+use Rattle.night_rules.specs.Night.{isOne, endApart, nightChecks, nightRefusal, roundsCounted}
 use Rattle.night_rules.specs.Night.{roundsAfter, tableAfter}
 use Rattle.night_rules.proofs.Round.{Admitted, none-apart, carriedUsi}
 use Rattle.night_rules.proofs.Night.{night-rounds, night-count, night-table}
@@ -59,9 +57,22 @@ none-end-apart messages fails =
     (any-false (λ message. any (endingDiffers [] message) messages) messages fails)
 
 pub night-numbered : (request : Request) (roundsRoom tableRoom : ℕ) → Numbered (nightChecks request roundsRoom tableRoom)
-night-numbered request roundsRoom tableRoom =
-    ((λ e. omega arith), ((λ e. omega arith), ((λ e. omega arith), ((λ e. omega arith), ((λ e. omega arith),
-    ((λ e. omega arith), ((λ e. omega arith), tt)))))))
+night-numbered request roundsRoom tableRoom = (
+  (λ e. omega arith),
+  (
+    (λ e. omega arith),
+    (
+      (λ e. omega arith),
+      (
+        (λ e. omega arith),
+        (
+          (λ e. omega arith),
+          ((λ e. omega arith), ((λ e. omega arith), tt)),
+        ),
+      ),
+    ),
+  ),
+)
 
 module _ (request : Request) (roundsRoom tableRoom : ℕ) (small : Bytes (request .bytes))
     (unrefused : nightRefusal request roundsRoom tableRoom .number ≡ 0) where

@@ -1,16 +1,16 @@
 -- The different messages: rising, each a message and each message among them; how many of them are smaller than one.
-use Prim.Native.Nat.{ℕ, zero, suc, _+_, _≤_, _<_}
+use Prim.Native.Nat.{ℕ, zero, suc, _≤_, _<_}
 use native.Mathlib.Omega.{arith}
-use mathlib.Core.Path.{_≡_, refl, ap, ap₂, sym, subst, _∙_}
-use mathlib.Core.Bool.{Bool, cond, true, false, not, false≢true}
+use mathlib.Core.Path.{_≡_, refl, ap, _∙_}
+use mathlib.Core.Bool.{Bool, cond, true, false}
 use mathlib.Core.List.{List, [], _∷_}
 use lib.ListN.{length, getD}
 use Rattle.laws.specs.Everyone.{Everyone, nobody, also, Someone, this, another}
-use Rattle.laws.proofs.Lists.{everyone, everyone-so, someone-so}
-use Rattle.arbitration_rules.proofs.LeastMessage.{AtMost, at-most-refl}
+use Rattle.laws.proofs.Lists.{everyone-so}
+use Rattle.arbitration_rules.proofs.LeastMessage.{AtMost}
 use Rattle.night_rules.specs.Different.{smaller, placed, different, smallerCount, roundOf}
 use Rattle.night_rules.proofs.Order.{smaller-at-most, at-most-not-smaller, smaller-self, neither-smaller}
-use Rattle.night_rules.proofs.Order.{smaller-then, then-smaller}
+use Rattle.night_rules.proofs.Order.{smaller-then}
 
 -- a message is one of some messages
 abbrev pub Among : List ℕ → List (List ℕ) → Type 0
@@ -142,8 +142,11 @@ count-smaller message other (this {a = own} {l} same) less =
     let counted : smaller own other ≡ true = ap (λ m. smaller m other) same ∙ less in
     rw (itself, counted) (omega (arith, count-at-most message other l (smaller-at-most message other less)))
 count-smaller message other (another {a = own} {l} some) less =
-    omega (arith, smaller-than-more own message other (smaller-at-most message other less),
-    count-smaller message other some less)
+    omega (
+      arith,
+      smaller-than-more own message other (smaller-at-most message other less),
+      count-smaller message other some less,
+    )
 
 -- fewer than there are, of one that is there
 some-or-none : (less : Bool) → cond less 1 0 ≤ 1
@@ -184,3 +187,15 @@ count-at (before {message} smallest rest) zero inside = rw (smaller-self message
 count-at (before {message} {messages} smallest rest) (suc k) inside =
     let later : k < length messages = omega arith in
     rw (everyone-at smallest k later) (omega (arith, count-at rest k later))
+
+-- so there is a different message for each round, and a smaller message has an earlier one
+pub round-at : (messages : List (List ℕ)) (k : ℕ) → k < length (different messages)
+    → roundOf messages (getD (different messages) k []) ≡ suc k
+round-at messages k inside = ap suc (count-at (different-rising messages) k inside)
+
+pub earlier-round : (messages : List (List ℕ))
+    → Everyone
+    (λ message. (other : List ℕ) → smaller message other ≡ true
+    → roundOf messages message < roundOf messages other) messages
+earlier-round messages =
+    everyone-so (λ message among other less. omega (arith, count-smaller message other among less)) (different-all messages)

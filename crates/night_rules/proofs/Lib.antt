@@ -6,3 +6,4 @@ pub mod Waiting
 pub mod Rounds
 pub mod Night
 pub mod Accepted
+pub mod Worked

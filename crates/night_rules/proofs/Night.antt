@@ -1,32 +1,30 @@
 -- The night run (02: Ask 14), of messages that none of its refusals turns down: each round carries the next larger of the
 -- different messages, equal ones finish together, and nobody is left.
-use Prim.Native.Nat.{ℕ, suc, _≤_, _<_}
+use Prim.Native.Nat.{ℕ, _≤_, _<_}
 use native.Mathlib.Omega.{arith}
-use mathlib.Core.Path.{_≡_, refl, ap, ap₂, sym, subst, _∙_}
+use mathlib.Core.Path.{_≡_, refl, ap, sym, subst, _∙_}
 use mathlib.Core.Bool.{Bool, cond, true, false}
-use mathlib.Core.List.{List, [], _∷_, _++_, map}
+use mathlib.Core.List.{List, [], _++_, map}
 use mathlib.Core.Option.{Option, none, some}
-use lib.Dec.{leb}
-use lib.ListN.{length, getD, drop, replicate, length-map, length-replicate}
+use lib.ListN.{length, getD, drop, replicate, length-replicate}
 use borrow.Author.Tests.{le-leb, ne-eqb}
 use Rattle.usi.specs.declared.Usi.{Usi}
 use Rattle.laws.specs.Buffer.{filled}
-use Rattle.laws.specs.Everyone.{Everyone, nobody, also}
 use Rattle.laws.specs.Same.{same}
 use Rattle.laws.specs.Search.{any}
 use Rattle.laws.proofs.Lists.{everyone, everyone-so, everyone-map, map-alike, map-map, any-none}
 use Rattle.laws.proofs.Same.{same-self, same-equal}
 use Rattle.arbitration_rules.specs.Masters.{Master}
 use Rattle.arbitration_rules.specs.Outcome.{byteOf, least, lossFrom, outcome}
-use Rattle.arbitration_rules.specs.Run.{Bus, run, observed}
+use Rattle.arbitration_rules.specs.Run.{observed}
 use Rattle.arbitration_rules.specs.Final.{finalAs, finalMaster}
 use Rattle.arbitration_rules.proofs.Demand.{Arbitration, run-shows-outcome}
-use Rattle.night_rules.specs.Different.{different, smallerCount, roundOf}
+use Rattle.night_rules.specs.Different.{different, roundOf}
 use Rattle.night_rules.specs.Night.{Night, waiting, needed, arbitration, entered, waits, nightAfter, nightOf}
 use Rattle.night_rules.proofs.Different.{different-length}
 use Rattle.night_rules.proofs.Round.{Admitted, carriedUsi, Carries, loss-itself}
 use Rattle.night_rules.proofs.Waiting.{entered-all}
-use Rattle.night_rules.proofs.Rounds.{reached, left, nightAt, winner-least, contenders-arbitration}
+use Rattle.night_rules.proofs.Rounds.{reached, nightAt, winner-least, contenders-arbitration}
 use Rattle.night_rules.proofs.Rounds.{contenders-carry, round-within, night-at, night-over}
 
 -- who takes part in the round to come
@@ -119,9 +117,9 @@ module _ (messages : List (List ℕ)) (acknowledges : List ℕ) (given : Admitte
   pub night-count : (table : List Usi) → nightOf messages acknowledges table .count ≡ length (different messages)
   night-count table = ap (λ (night : Night). night .count) (night-is table)
 
-  -- nobody is left
-  pub night-for-all : (table : List Usi) → any waits (nightOf messages acknowledges table .rounds) ≡ false
-  night-for-all table =
+  -- none is left
+  pub night-none-left : (table : List Usi) → any waits (nightOf messages acknowledges table .rounds) ≡ false
+  night-none-left table =
       ap (any waits) (night-rounds table)
       ∙ any-none {f = waits}
       (everyone-map (roundOf messages)

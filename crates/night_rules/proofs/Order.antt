@@ -3,7 +3,7 @@ use Prim.Native.Nat.{ℕ}
 use native.Mathlib.Omega.{arith}
 use mathlib.Core.Path.{_≡_, refl, ap, ap₂, sym, _∙_}
 use mathlib.Core.Bool.{Bool, true, false, not, false≢true}
-use mathlib.Core.List.{List, [], _∷_}
+use mathlib.Core.List.{List, _∷_}
 use borrow.Author.Tests.{not-true, not-false}
 use Rattle.arbitration_rules.specs.Outcome.{atMost}
 use Rattle.arbitration_rules.proofs.LeastMessage.{AtMost, both-end, ends, restarts-first, by-first, by-rest}
@@ -38,7 +38,7 @@ pub neither-smaller : (message other : List ℕ) → smaller message other ≡ f
     → message ≡ other
 neither-smaller message other one two = at-most-equal (not-smaller other message two) (not-smaller message other one)
 
--- smaller than what is at most another, and at most what is smaller than another
+-- smaller than a message that is at most another
 pub smaller-then : (message other third : List ℕ) → smaller message other ≡ true → AtMost other third
     → smaller message third ≡ true
 smaller-then message other third less order = go (atMost third message) refl
@@ -46,13 +46,4 @@ smaller-then message other third less order = go (atMost third message) refl
     go : (test : Bool) → atMost third message ≡ test → not test ≡ true
     go true holds =
         absurd (false≢true (sym (at-most-not-smaller (at-most-trans order (at-most third message holds))) ∙ less))
-    go false fails = refl
-
-pub then-smaller : (message other third : List ℕ) → AtMost message other → smaller other third ≡ true
-    → smaller message third ≡ true
-then-smaller message other third order less = go (atMost third message) refl
-  where
-    go : (test : Bool) → atMost third message ≡ test → not test ≡ true
-    go true holds =
-        absurd (false≢true (sym (at-most-not-smaller (at-most-trans (at-most third message holds) order)) ∙ less))
     go false fails = refl

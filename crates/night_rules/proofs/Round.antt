@@ -1,8 +1,8 @@
 -- One round of messages that no refusal of a night turns down: it is an arbitration that 16 does not turn down, the least
 -- message is carried whole, and who is still in has that message.
-use Prim.Native.Nat.{ℕ, zero, suc, _≤_, _<_, min, max}
+use Prim.Native.Nat.{ℕ, zero, suc, _≤_, _<_}
 use native.Mathlib.Omega.{arith}
-use mathlib.Core.Path.{_≡_, refl, ap, ap₂, sym, subst, _∙_}
+use mathlib.Core.Path.{_≡_, refl, ap, _∙_}
 use mathlib.Core.Bool.{Bool, cond, true, false, not, _&&_, Bool·beq}
 use mathlib.Core.List.{List, [], _∷_, map}
 use mathlib.Core.Logic.{_⊎_, inl, inr}
@@ -11,10 +11,9 @@ use lib.Dec.{eqb}
 use lib.ListN.{length, getD, take, drop, length-take}
 use borrow.Author.Tests.{eq-eqb}
 use Rattle.usi.specs.declared.Usi.{Usi}
-use Rattle.laws.specs.Everyone.{Everyone, nobody, also, Someone, this, another}
+use Rattle.laws.specs.Everyone.{Everyone, nobody, also}
 use Rattle.laws.proofs.Lists.{everyone-so, everyone-both, any-none}
-use Rattle.arbitration_rules.specs.Masters.{Master}
-use Rattle.arbitration_rules.specs.Outcome.{byteOf, restarts, least, carriedOf, positionIn, lossFrom, endingDiffers}
+use Rattle.arbitration_rules.specs.Outcome.{byteOf, restarts, least, carriedOf, lossFrom, endingDiffers}
 use Rattle.arbitration_rules.specs.Outcome.{allAcknowledged, undecided}
 use Rattle.arbitration_rules.specs.Run.{run}
 use Rattle.arbitration_rules.specs.Reply.{longest}

@@ -1,20 +1,20 @@
 -- The night round by round: after k rounds the k least of the different messages are carried.
-use Prim.Native.Nat.{ℕ, zero, suc, _+_, _≤_, _<_}
+use Prim.Native.Nat.{ℕ, zero, suc, _≤_, _<_}
 use native.Mathlib.Omega.{arith}
 use mathlib.Core.Path.{_≡_, refl, ap, ap₂, sym, subst, _∙_}
-use mathlib.Core.Bool.{Bool, cond, true, false, false≢true}
-use mathlib.Core.List.{List, [], _∷_, map, zipWith}
+use mathlib.Core.Bool.{Bool, cond, true, false}
+use mathlib.Core.List.{List, [], map, zipWith}
 use mathlib.Core.Option.{Option, none, some}
 use lib.Dec.{eqb, leb}
 use lib.ListN.{length, getD}
 use borrow.Author.Tests.{eq-eqb, ne-eqb, eqb-true, eqb-false, leb-true, leb-false, le-leb, lt-leb}
 use Rattle.usi.specs.declared.Usi.{Usi}
-use Rattle.laws.specs.Everyone.{Everyone, nobody, also, Someone, this, another}
+use Rattle.laws.specs.Everyone.{Everyone, Someone, this, another}
 use Rattle.laws.specs.Search.{any}
 use Rattle.laws.proofs.Lists.{everyone, everyone-so, everyone-both, everyone-map, someone-so, someone-map, map-alike}
 use Rattle.laws.proofs.Lists.{any-one, any-none}
 use Rattle.arbitration_rules.specs.Outcome.{least, lossFrom}
-use Rattle.arbitration_rules.specs.Run.{Bus, run}
+use Rattle.arbitration_rules.specs.Run.{run}
 use Rattle.arbitration_rules.specs.Reply.{longest}
 use Rattle.arbitration_rules.specs.Final.{finalMaster}
 use Rattle.arbitration_rules.proofs.LeastMessage.{AtMost}
@@ -28,7 +28,7 @@ use Rattle.night_rules.proofs.Different.{Among, different-rising, diffe
 use Rattle.night_rules.proofs.Different.{count-within, everyone-at, among-at, count-at}
 use Rattle.night_rules.proofs.Round.{Admitted, waiting-so, waiting-admitted, round-arbitration, carriedUsi}
 use Rattle.night_rules.proofs.Round.{left-itself, left-other, Carries, round-carries}
-use Rattle.night_rules.proofs.Waiting.{among-so, least-is, waiting-none, waiting-among, carried-is, rounds-by}
+use Rattle.night_rules.proofs.Waiting.{least-is, waiting-none, waiting-among, carried-is, rounds-by}
 use Rattle.night_rules.proofs.Waiting.{latest, entered-none, entered-twice}
 
 -- after k rounds: the round of a message, 0 while it waits; what those rounds left of it
@@ -231,7 +231,7 @@ module _ (messages : List (List ℕ)) (acknowledges : List ℕ) (given : Admitte
             (past-none messages k)
 
     -- someone waits for it
-    someone-waits : any waits (map (reached messages k) messages) ≡ true
+    pub someone-waits : any waits (map (reached messages k) messages) ≡ true
     someone-waits =
         any-one
         (someone-map (reached messages k)
@@ -245,7 +245,7 @@ module _ (messages : List (List ℕ)) (acknowledges : List ℕ) (given : Admitte
   round-within =
       everyone-so (λ message among. count-within message among) (different-all messages)
 
-  nobody-waits : any waits (map (reached messages (length (different messages))) messages) ≡ false
+  pub nobody-waits : any waits (map (reached messages (length (different messages))) messages) ≡ false
   nobody-waits =
       any-none {f = waits}
       (everyone-map (reached messages (length (different messages)))

@@ -1,17 +1,14 @@
 -- The messages that wait, by a rule that gives each its round; what a round leaves of them, put back in its place.
-use Prim.Native.Nat.{ℕ, zero, suc, _≤_, _<_}
+use Prim.Native.Nat.{ℕ, zero, suc, _≤_}
 use native.Mathlib.Omega.{arith}
 use mathlib.Core.Path.{_≡_, refl, ap, ap₂, sym, subst, _∙_}
-use mathlib.Core.Bool.{Bool, cond, true, false, _||_}
 use mathlib.Core.List.{List, [], _∷_, _++_, map, zipWith}
 use mathlib.Core.Option.{Option, none, some}
 use lib.ListN.{length, drop, replicate}
 use Rattle.usi.specs.declared.Usi.{Usi}
-use Rattle.laws.specs.Buffer.{filled}
-use Rattle.laws.specs.Everyone.{Everyone, nobody, also, Someone, this, another}
-use Rattle.laws.proofs.Lists.{any-one, someone-map}
+use Rattle.laws.specs.Everyone.{Everyone, nobody, also, this, another}
 use Rattle.arbitration_rules.specs.Masters.{Master}
-use Rattle.arbitration_rules.specs.Outcome.{atMost, least}
+use Rattle.arbitration_rules.specs.Outcome.{least}
 use Rattle.arbitration_rules.proofs.LeastMessage.{AtMost, at-most, least-at-most, least-too}
 use Rattle.night_rules.specs.Night.{waiting, leftBy, carriedBy, roundBy, entered}
 use Rattle.night_rules.proofs.Order.{at-most-equal}

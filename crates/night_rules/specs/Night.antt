@@ -82,7 +82,7 @@ nightAfter (suc most) messages acknowledges table =
     let night = nightAfter most messages acknowledges table in
     cond (any waits (night .rounds)) (afterRound messages acknowledges night) night
 
--- As many rounds as there are messages are enough (proofs/Rounds.antt: nobody waits after them).
+-- As many rounds as there are messages are enough (proofs/Night.antt: none is left after them).
 unfoldable pub nightOf : List (List ℕ) → List ℕ → List Usi → Night
 nightOf messages acknowledges table = nightAfter (length messages) messages acknowledges table
 
