@@ -56,7 +56,8 @@ none-end-apart messages fails =
     everyone-so (λ message. any-false (endingDiffers [] message) messages)
     (any-false (λ message. any (endingDiffers [] message) messages) messages fails)
 
-pub night-numbered : (request : Request) (roundsRoom tableRoom : ℕ) → Numbered (nightChecks request roundsRoom tableRoom)
+pub night-numbered : (request : Request) (roundsRoom tableRoom : ℕ)
+    → Numbered (nightChecks request roundsRoom tableRoom)
 night-numbered request roundsRoom tableRoom = (
   (λ e. omega arith),
   (

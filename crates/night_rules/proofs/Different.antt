@@ -22,7 +22,12 @@ pub data Rising : List (List ℕ) → Type 0 where
   before : {message : List ℕ} {messages : List (List ℕ)} → Everyone (λ other. smaller message other ≡ true) messages
       → Rising messages → Rising (message ∷ messages)
 
--- a message put in its order: what holds of all, who is there, how many
+-- a message put before another, after it or not again, by two tests
+abbrev putBy : (less more : Bool) → List ℕ → List ℕ → List (List ℕ) → List (List ℕ)
+putBy less more message other others =
+    cond less (message ∷ other ∷ others) (cond more (other ∷ placed message others) (other ∷ others))
+
+-- what holds of all, who is there, how many they are
 pub placed-all : {P : List ℕ → Type 0} {l : List (List ℕ)} (message : List ℕ) → P message → Everyone P l
     → Everyone P (placed message l)
 placed-all message p nobody = also p nobody
@@ -30,7 +35,7 @@ placed-all {P} message p (also {a = other} {l = others} q rest) =
     go (smaller message other) (smaller other message) (placed-all message p rest)
   where
     go : (less more : Bool) → Everyone P (placed message others)
-        → Everyone P (cond less (message ∷ other ∷ others) (cond more (other ∷ placed message others) (other ∷ others)))
+        → Everyone P (putBy less more message other others)
     go true more later = also p (also q rest)
     go false true later = also q later
     go false false later = also q rest
@@ -42,7 +47,7 @@ placed-rising message (before {message = other} {messages = others} smallest res
   where
     go : (less : Bool) → smaller message other ≡ less → (more : Bool) → smaller other message ≡ more
         → Rising (placed message others)
-        → Rising (cond less (message ∷ other ∷ others) (cond more (other ∷ placed message others) (other ∷ others)))
+        → Rising (putBy less more message other others)
     go true less more more? later =
         before
         (also less
@@ -57,7 +62,7 @@ placed-there : {P : List ℕ → Type 0} {l : List (List ℕ)} (message : List �
 placed-there {P} message (this {a = other} {l = others} p) = go (smaller message other) (smaller other message)
   where
     go : (less more : Bool)
-        → Someone P (cond less (message ∷ other ∷ others) (cond more (other ∷ placed message others) (other ∷ others)))
+        → Someone P (putBy less more message other others)
     go true more = another (this p)
     go false true = this p
     go false false = this p
@@ -65,7 +70,7 @@ placed-there {P} message (another {a = other} {l = others} some) =
     go (smaller message other) (smaller other message) (placed-there message some)
   where
     go : (less more : Bool) → Someone P (placed message others)
-        → Someone P (cond less (message ∷ other ∷ others) (cond more (other ∷ placed message others) (other ∷ others)))
+        → Someone P (putBy less more message other others)
     go true more later = another (another some)
     go false true later = another later
     go false false later = another some
@@ -78,7 +83,7 @@ placed-itself message (other ∷ others) =
     go : (less : Bool) → smaller message other ≡ less → (more : Bool) → smaller other message ≡ more
         → Among message (placed message others)
         → Among message
-        (cond less (message ∷ other ∷ others) (cond more (other ∷ placed message others) (other ∷ others)))
+        (putBy less more message other others)
     go true less more more? later = this refl
     go false less true more later = another later
     go false less false more later = this (neither-smaller other message more less)
@@ -89,7 +94,7 @@ placed-length message (other ∷ others) =
     go (smaller message other) (smaller other message) (placed-length message others)
   where
     go : (less more : Bool) → length (placed message others) ≤ suc (length others)
-        → length (cond less (message ∷ other ∷ others) (cond more (other ∷ placed message others) (other ∷ others)))
+        → length (putBy less more message other others)
         ≤ suc (suc (length others))
     go true more later = omega arith
     go false true later = omega arith
@@ -183,7 +188,8 @@ among-at (message ∷ l) (suc k) inside = another (among-at l k (omega arith))
 
 pub count-at : {l : List (List ℕ)} → Rising l → (k : ℕ) → k < length l → smallerCount (getD l k []) l ≡ k
 count-at nothing k inside = absurd (omega arith)
-count-at (before {message} smallest rest) zero inside = rw (smaller-self message) (omega (arith, count-none message smallest))
+count-at (before {message} smallest rest) zero inside =
+    rw (smaller-self message) (omega (arith, count-none message smallest))
 count-at (before {message} {messages} smallest rest) (suc k) inside =
     let later : k < length messages = omega arith in
     rw (everyone-at smallest k later) (omega (arith, count-at rest k later))
@@ -198,4 +204,5 @@ pub earlier-round : (messages : List (List ℕ))
     (λ message. (other : List ℕ) → smaller message other ≡ true
     → roundOf messages message < roundOf messages other) messages
 earlier-round messages =
-    everyone-so (λ message among other less. omega (arith, count-smaller message other among less)) (different-all messages)
+    everyone-so (λ message among other less. omega (arith, count-smaller message other among less))
+    (different-all messages)

@@ -1,5 +1,5 @@
--- The night run (02: Ask 14), of messages that none of its refusals turns down: each round carries the next larger of the
--- different messages, equal ones finish together, and nobody is left.
+-- The night run (02: Ask 14) of messages that none of its refusals turns down: each round carries the next larger of
+-- the different messages, equal ones finish together, and none is left.
 use Prim.Native.Nat.{ℕ, _≤_, _<_}
 use native.Mathlib.Omega.{arith}
 use mathlib.Core.Path.{_≡_, refl, ap, sym, subst, _∙_}
@@ -52,7 +52,8 @@ module _ (messages : List (List ℕ)) (acknowledges : List ℕ) (given : Admitte
       → finalMaster next message .contending ≡ same next message
   finishes next message still = go (lossFrom 0 next message) refl
     where
-      go : (loss : Option ℕ) → lossFrom 0 next message ≡ loss → finalAs next message loss .contending ≡ same next message
+      go : (loss : Option ℕ) → lossFrom 0 next message ≡ loss
+          → finalAs next message loss .contending ≡ same next message
       go none is = sym (ap (same next) (still is) ∙ same-self next)
       go (some position) is = differs (same next message) refl
         where

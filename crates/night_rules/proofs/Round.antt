@@ -1,5 +1,5 @@
--- One round of messages that no refusal of a night turns down: it is an arbitration that 16 does not turn down, the least
--- message is carried whole, and who is still in has that message.
+-- One round of messages that no refusal of a night turns down: it is an arbitration that 16 does not turn down either,
+-- the least message is carried whole, and who is still in has that message.
 use Prim.Native.Nat.{ℕ, zero, suc, _≤_, _<_}
 use native.Mathlib.Omega.{arith}
 use mathlib.Core.Path.{_≡_, refl, ap, _∙_}
@@ -49,7 +49,8 @@ waiting-admitted rounds given =
     }
 
 -- each is within the longest
-longest-all : (messages : List (List ℕ)) → Everyone (λ message. length message ≤ longest (map length messages)) messages
+longest-all : (messages : List (List ℕ))
+    → Everyone (λ message. length message ≤ longest (map length messages)) messages
 longest-all [] = nobody
 longest-all (message ∷ messages) =
     also {a = message} (omega arith) (everyone-so (λ own within. omega arith) (longest-all messages))

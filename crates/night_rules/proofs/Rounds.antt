@@ -76,48 +76,43 @@ past-none messages k message past = go (leb (roundOf messages message) k) refl
     go false later =
         absurd (past (not-reached messages k message (leb-false (roundOf messages message) k later)))
 
--- one round on
-reached-next : (messages : List (List ℕ)) (k : ℕ) (message : List ℕ)
-    → roundBy (suc k) (reached messages k message) (now messages k message) ≡ reached messages (suc k) message
-reached-next messages k message = go (leb round k) refl (eqb round (suc k)) refl
+-- one round on: a message's round is over, is this one, or is to come
+by-round : (P : Bool → Bool → Bool → Type 0) (round k : ℕ) → (round ≤ k → P true false true)
+    → (round ≡ suc k → P false true true) → (suc k < round → P false false false)
+    → P (leb round k) (eqb round (suc k)) (leb round (suc k))
+by-round P round k over this-one to-come = go (leb round k) refl (eqb round (suc k)) refl
   where
-    round : ℕ
-    round = roundOf messages message
-
-    go : (past : Bool) → leb round k ≡ past → (this-one : Bool) → eqb round (suc k) ≡ this-one
-        → roundBy (suc k) (cond (leb round k) round 0) (cond (eqb round (suc k)) (some carriedUsi) none)
-        ≡ cond (leb round (suc k)) round 0
-    go true past this-one is =
+    go : (past : Bool) → leb round k ≡ past → (comes : Bool) → eqb round (suc k) ≡ comes
+        → P (leb round k) (eqb round (suc k)) (leb round (suc k))
+    go true past comes is =
         let before : round ≤ k = leb-true round k past in
-        rw (past, ne-eqb round (suc k) (λ e. omega arith), le-leb round (suc k) (omega arith))
+        rw (past, ne-eqb round (suc k) (λ e. omega arith), le-leb round (suc k) (omega arith)) (over before)
     go false past true is =
         let same : round ≡ suc k = eqb-true round (suc k) is in
-        rw (past, is, le-leb round (suc k) (omega arith)) (sym same)
+        rw (past, is, le-leb round (suc k) (omega arith)) (this-one same)
     go false past false is =
         let later : k < round = leb-false round k past in
         let other : round ≡ suc k → ⊥ = eqb-false round (suc k) is in
-        rw (past, is, lt-leb round (suc k) (omega arith))
+        let after : suc k < round = omega arith in
+        rw (past, is, lt-leb round (suc k) after) (to-come after)
+
+reached-next : (messages : List (List ℕ)) (k : ℕ) (message : List ℕ)
+    → roundBy (suc k) (reached messages k message) (now messages k message) ≡ reached messages (suc k) message
+reached-next messages k message =
+    by-round
+    (λ past comes next. roundBy (suc k) (cond past round 0) (cond comes (some carriedUsi) none) ≡ cond next round 0)
+    round k (λ over. refl) (λ this-one. sym this-one) (λ to-come. refl)
+  where
+    round : ℕ
+    round = roundOf messages message
 
 left-next : (messages : List (List ℕ)) (k : ℕ) (message : List ℕ)
     → latest (now messages k message) (left messages k message) ≡ left messages (suc k) message
-left-next messages k message = go (leb round k) refl (eqb round (suc k)) refl
-  where
-    round : ℕ
-    round = roundOf messages message
-
-    go : (past : Bool) → leb round k ≡ past → (this-one : Bool) → eqb round (suc k) ≡ this-one
-        → latest (cond (eqb round (suc k)) (some carriedUsi) none) (cond (leb round k) (some carriedUsi) none)
-        ≡ cond (leb round (suc k)) (some carriedUsi) none
-    go true past this-one is =
-        let before : round ≤ k = leb-true round k past in
-        rw (past, ne-eqb round (suc k) (λ e. omega arith), le-leb round (suc k) (omega arith))
-    go false past true is =
-        let same : round ≡ suc k = eqb-true round (suc k) is in
-        rw (past, is, le-leb round (suc k) (omega arith))
-    go false past false is =
-        let later : k < round = leb-false round k past in
-        let other : round ≡ suc k → ⊥ = eqb-false round (suc k) is in
-        rw (past, is, lt-leb round (suc k) (omega arith))
+left-next messages k message =
+    by-round
+    (λ past comes next. latest (cond comes (some carriedUsi) none) (cond past (some carriedUsi) none)
+    ≡ cond next (some carriedUsi) none)
+    (roundOf messages message) k (λ over. refl) (λ this-one. refl) (λ to-come. refl)
 
 module _ (messages : List (List ℕ)) (acknowledges : List ℕ) (given : Admitted messages acknowledges) where
   -- the round to come, where k messages of the different ones are carried and one more is left
@@ -186,7 +181,8 @@ module _ (messages : List (List ℕ)) (acknowledges : List ℕ) (given : Admitte
             → message ≡ winner
         go true less more more? = absurd (omega (arith, count-smaller message winner among less, winner-round))
         go false less true more =
-            absurd (omega (arith, count-smaller winner message (among-at (different messages) k inside) more, winner-round))
+            let there : Among winner (different messages) = among-at (different messages) k inside in
+            absurd (omega (arith, count-smaller winner message there more, winner-round))
         go false less false more = neither-smaller message winner less more
 
     contender-left : (message : List ℕ) → Among message (different messages)

@@ -59,23 +59,28 @@ module _ (roundOf : List ℕ → ℕ) where
       go (suc round) rest = rest
 
   -- what a round leaves of each message, from what it leaves of those that wait
-  pub carried-is : (master : List ℕ → Master) (left : List ℕ → Option Usi) (messages : List (List ℕ))
-      → Everyone (λ message. leftBy (master message) ≡ left message) (waiting (map roundOf messages) messages)
-      → ((message : List ℕ) → (roundOf message ≡ 0 → ⊥) → left message ≡ none)
-      → carriedBy (map roundOf messages) (map master (waiting (map roundOf messages) messages)) ≡ map left messages
-  carried-is master left [] leaves past = refl
-  carried-is master left (message ∷ messages) leaves past =
-      go (roundOf message) refl leaves (λ rest. carried-is master left messages rest past)
-    where
-      go : (round : ℕ) → roundOf message ≡ round
-          → Everyone (λ own. leftBy (master own) ≡ left own) (waiting (round ∷ map roundOf messages) (message ∷ messages))
-          → (Everyone (λ own. leftBy (master own) ≡ left own) (waiting (map roundOf messages) messages)
-          → carriedBy (map roundOf messages) (map master (waiting (map roundOf messages) messages)) ≡ map left messages)
-          → carriedBy (round ∷ map roundOf messages)
-          (map master (waiting (round ∷ map roundOf messages) (message ∷ messages)))
-          ≡ left message ∷ map left messages
-      go zero is (also first more) rest = ap₂ _∷_ first (rest more)
-      go (suc round) is leaves rest = ap₂ _∷_ (sym (past message (λ none-yet. omega arith))) (rest leaves)
+  module _ (master : List ℕ → Master) (left : List ℕ → Option Usi) where
+    abbrev Leaves : List ℕ → Type 0
+    Leaves message = leftBy (master message) ≡ left message
+
+    pub carried-is : (messages : List (List ℕ)) → Everyone Leaves (waiting (map roundOf messages) messages)
+        → ((message : List ℕ) → (roundOf message ≡ 0 → ⊥) → left message ≡ none)
+        → carriedBy (map roundOf messages) (map master (waiting (map roundOf messages) messages)) ≡ map left messages
+    carried-is [] leaves past = refl
+    carried-is (message ∷ messages) leaves past =
+        go (roundOf message) refl leaves (λ rest. carried-is messages rest past)
+      where
+        others : List (List ℕ)
+        others = waiting (map roundOf messages) messages
+
+        go : (round : ℕ) → roundOf message ≡ round
+            → Everyone Leaves (waiting (round ∷ map roundOf messages) (message ∷ messages))
+            → (Everyone Leaves others → carriedBy (map roundOf messages) (map master others) ≡ map left messages)
+            → carriedBy (round ∷ map roundOf messages)
+            (map master (waiting (round ∷ map roundOf messages) (message ∷ messages)))
+            ≡ left message ∷ map left messages
+        go zero is (also first more) rest = ap₂ _∷_ first (rest more)
+        go (suc round) is leaves rest = ap₂ _∷_ (sym (past message (λ none-yet. omega arith))) (rest leaves)
 
 -- the rounds after it
 pub rounds-by : (round : ℕ) (earlier : List ℕ → ℕ) (left : List ℕ → Option Usi) (messages : List (List ℕ))
@@ -91,7 +96,8 @@ abbrev pub latest : Option Usi → Option Usi → Option Usi
 latest none before = before
 latest (some usi) before = some usi
 
-pub entered-none : (messages : List (List ℕ)) (table : List Usi) → entered (map (λ message. none) messages) table ≡ table
+pub entered-none : (messages : List (List ℕ)) (table : List Usi)
+    → entered (map (λ message. none) messages) table ≡ table
 entered-none [] table = refl
 entered-none (message ∷ messages) [] = refl
 entered-none (message ∷ messages) (usi ∷ table) = ap (λ l. usi ∷ l) (entered-none messages table)
@@ -116,7 +122,8 @@ entered-twice left before (message ∷ messages) (usi ∷ table) =
 
 -- one module in the entry of each message, the entries past them as they were
 pub entered-all : (left : Usi) (messages : List (List ℕ)) (table : List Usi) → length messages ≤ length table
-    → entered (map (λ message. some left) messages) table ≡ replicate (length messages) left ++ drop (length messages) table
+    → entered (map (λ message. some left) messages) table
+    ≡ replicate (length messages) left ++ drop (length messages) table
 entered-all left [] table enough = refl
 entered-all left (message ∷ messages) [] enough = absurd (omega arith)
 entered-all left (message ∷ messages) (usi ∷ table) enough =

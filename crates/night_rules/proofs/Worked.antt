@@ -77,8 +77,8 @@ longer-unacknowledged : nightRefusal (longer (0 ∷ 0 ∷ 1 ∷ [])) 2 2 ≡ ref
 unfolding nightRefusal mathlib.Core.List.zipWith
 longer-unacknowledged = refl
 
--- [90 | 92 34] and [90 12 34]: one restarts where the other sends a byte. [90 | 92 34] and [90 | 90 34] both restart, and
--- the second is carried first
+-- [90 | 92 34] and [90 12 34]: one restarts where the other sends a byte. [90 | 92 34] and [90 | 90 34] both restart,
+-- and the second is carried first
 abbrev restarting : ℕ → List ℕ → Request
 restarting second parts =
     record {

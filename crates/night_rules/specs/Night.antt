@@ -39,8 +39,8 @@ arbitration messages acknowledges night =
     let contenders = waiting (night .rounds) messages in
     run contenders (needed contenders acknowledges)
 
--- A round carries who is still in at its end. What it leaves of each message: the module of one that it carried, nothing
--- of the others.
+-- A round carries who is still in at its end. What it leaves of each message: the module of one that it carried,
+-- nothing of the others.
 abbrev pub leftBy : Master → Option Usi
 leftBy master = cond (master .contending) (some (master .usi)) none
 
