@@ -40,7 +40,7 @@ arbitration messages acknowledges night =
     run contenders (needed contenders acknowledges)
 
 -- A round carries who is still in at its end. What it leaves of each message: the module of one that it carried,
--- nothing of the others.
+-- nothing of the others. (A round has a master for each message that waits, in their order.)
 abbrev pub leftBy : Master → Option Usi
 leftBy master = cond (master .contending) (some (master .usi)) none
 
@@ -90,7 +90,7 @@ nightOf messages acknowledges table = nightAfter (length messages) messages ackn
 abbrev pub formChecks : Request → List Check
 formChecks request = take 4 (requestChecks request)
 
--- 43: an acknowledge (01: answer) 1 anywhere.
+-- 43: an acknowledge (01: answer) 1 anywhere, before any round.
 abbrev pub isOne : ℕ → Bool
 isOne acknowledge = eqb acknowledge 1
 
