@@ -9,7 +9,7 @@ use Rattle.laws.proofs.Loops.{gathered-more, drop-replicate}
 use Rattle.arbitration_rules.specs.Limits.{maxMasters}
 use Rattle.arbitration_rules.specs.Reply.{cut}
 use Rattle.arbitration_rules.proofs.Cut.{cut-count}
-use Rattle.arbitration_run.proofs.Walk.{At, at-start, at-more, in-messages, message-is}
+use Rattle.arbitration_messages.proofs.Walk.{At, at-start, at-more, in-messages, message-is}
 
 module _ {A : Type 0} (of : List ℕ → A) (empty : A) (lengths sent : List ℕ) where
   abbrev messages : List (List ℕ)

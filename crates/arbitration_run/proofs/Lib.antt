@@ -1,4 +1,3 @@
-pub mod Walk
 pub mod Cases
 pub mod Judging
 pub mod Columns

@@ -1,7 +1,7 @@
 // Messages as rows by value, one for each master (01: plans; up to sixteen of up to 64 bytes each). A row is what its
 // message sends, one number a byte: 256 and the byte, or the byte alone where a restart stands before it.
 ghost use mathlib.Core.Path.{_≡_};
-ghost use Prim.Native.Nat.{_+_, _-_, _≤_, min};
+ghost use Prim.Native.Nat.{_-_, _≤_};
 ghost use lib.ListN.{length, take, drop};
 ghost use Rattle.arbitration_rules.specs.Outcome.{sentAt};
 ghost use Rattle.arbitration_rules.specs.Reply.{cut};
@@ -11,19 +11,6 @@ use arbitration_rules::MAX_MASTERS;
 
 // What is sent past a message's end: a byte of 0.
 const ZERO: u16 = 256;
-
-// Where a message of so many bytes ends that starts at an index, within the bytes there are.
-fn end_of(size: usize, from: usize, count: u32) -> usize
-    ensures { λ r. ⌜ r ≡ min (from + count) size ⌝ }
-{
-    if size < from {
-        return size;
-    }
-    if size - from < count as usize {
-        return size;
-    }
-    from + (count as usize)
-}
 
 // The row of the message that is sent from one index to another, filled up.
 fn row(sent: &[u16], from: usize, to: usize) -> [u16; MAX_LENGTH]
@@ -48,7 +35,7 @@ pub fn rows(sent: &[u16], lengths: &[u32]) -> [[u16; MAX_LENGTH]; MAX_MASTERS]
     let mut from: usize = 0;
     let mut i: usize = 0;
     while (i < lengths.len()) & (i < MAX_MASTERS) {
-        let to = end_of(sent.len(), from, lengths[i]);
+        let to = arbitration_messages::end_of(sent.len(), from, lengths[i]);
         out[i] = row(sent, from, to);
         from = to;
         i += 1;
