@@ -4,8 +4,6 @@ use native.Mathlib.Omega.{arith}
 use mathlib.Core.Path.{_≡_, refl, sym, ap, ap₂, subst, _∙_}
 use mathlib.Core.Bool.{Bool, true, false, cond, _||_, or-false, or-true}
 use mathlib.Core.List.{List, [], _∷_, _++_, map, zipWith}
-use mathlib.Core.Option.{Option, none, some}
-use mir.Val.{boolByte}
 use lib.Dec.{eqb, ltb}
 use lib.ListN.{length, take, drop, replicate, length-map}
 use lib.Seq.{take-append-seam, take-at}
@@ -15,19 +13,18 @@ use Rattle.laws.specs.Buffer.{filled}
 use Rattle.laws.specs.Refusals as refusals
 use Rattle.laws.specs.Refusals.{check, given, orElse}
 use Rattle.laws.specs.Search.{first}
-use Rattle.laws.specs.Everyone.{Everyone, nobody, also}
+use Rattle.laws.specs.Everyone.{Everyone}
 use Rattle.laws.proofs.Bools.{neither}
 use Rattle.laws.proofs.Refusals.{Placed, placed, Below, number-below, in-parts}
 use Rattle.laws.proofs.Lists.{everyone, everyone-map, zipWith-length}
 use Rattle.laws.proofs.Search.{first-within}
-use Rattle.bits.specs.Positions.{isSet}
 use Rattle.usi.specs.declared.Usi.{Usi}
 use Rattle.arbitration_rules.specs.declared.Arbitrated.{Arbitrated}
 use Rattle.arbitration_rules.specs.declared.Seat.{Seat}
 use Rattle.arbitration_rules.specs.Limits.{maxMasters}
-use Rattle.arbitration_rules.specs.Final.{finalUsi, finalMaster}
+use Rattle.arbitration_rules.specs.Final.{finalMaster}
 use Rattle.arbitration_rules.specs.Masters.{Master}
-use Rattle.arbitration_rules.specs.Outcome.{Fate, carriedOf, lossFrom, least, outcome}
+use Rattle.arbitration_rules.specs.Outcome.{carriedOf, lossFrom, least, outcome}
 use Rattle.arbitration_rules.specs.Reply.{Request, messagesOf, partsOf, badMessage, badMessages, itself, reads}
 use Rattle.arbitration_rules.specs.Reply.{requestChecks, runOf, shortBuffer, refusal, absent, seatOf, refused, answered}
 use Rattle.arbitration_rules.specs.Reply.{arbitrated, tableAfter, carriedAfter, levelsAfter}
@@ -41,11 +38,12 @@ use Rattle.arbitration_checks.proofs.Carried.{carried-within}
 use Rattle.arbitration.proofs.Given.{found, arbitration, carried-length, few, short as few-acknowledges}
 use Rattle.arbitration.proofs.Given.{applies-is as own-parts}
 use Rattle.usi.specs.Module.{powerUp}
-use Rattle.export.specs.Arbitration.{Lent, Returned, shortTables, clearedOf, refusalOf, packedReply, untouched, ran}
-use Rattle.export.specs.Arbitration.{returned, countIn, shownIn, fateIn, packedSeat}
-use Rattle.export.specs.Packed.{byteAt, packed}
+use Rattle.export.specs.Arbitration.{Lent, Returned, gave, shortTables, clearedOf, refusalOf, packedReply, ran}
+use Rattle.export.specs.Arbitration.{returned, countIn, shownIn, packedSeat}
+use Rattle.export.specs.Packed.{packed}
+use Rattle.export.proofs.TableEntries.{Small, Few, fates-are, final-small, few-seats}
 use Rattle.arbitration.specs.Shown as shows
-use Rattle.arbitration.specs.Shown.{shown, fateOf}
+use Rattle.arbitration.specs.Shown.{shown}
 
 -- the two clauses
 pub record Clauses (lent : Lent) (got : Returned) : Type 0 where
@@ -97,15 +95,11 @@ module _ (lent : Lent) where
       (omega arith, (omega arith, (omega arith, (omega arith, (omega arith, tt)))))
 
   -- a refused call
+  abbrev pub kept : ℕ → Returned
+  kept answer = gave answer (lent .carried) (lent .levels) (lent .modules) (lent .seats)
+
   refused-clauses : (stopped : Refusal) (answer : ℕ) → refusalOf lent ≡ stopped → (stopped .number ≡ 0 → ⊥)
-      → stopped .number < 256 → answer ≡ packedReply (refused stopped) → Clauses lent
-      (record {
-        answer = answer;
-        carried = lent .carried;
-        levels = lent .levels;
-        modules = lent .modules;
-        seats = lent .seats;
-      })
+      → stopped .number < 256 → answer ≡ packedReply (refused stopped) → Clauses lent (kept answer)
   unfolding returned refused
   refused-clauses stopped answer applies refuses small is =
       record {
@@ -114,84 +108,25 @@ module _ (lent : Lent) where
       }
 
   -- refused by one of 12 to 16, whatever the buffers and tables
-  pub refused-before : (answer : ℕ) → (found request .number ≡ 0 → ⊥) → answer ≡ packedReply (refused (found request)) → Clauses lent
-      (record {
-        answer = answer;
-        carried = lent .carried;
-        levels = lent .levels;
-        modules = lent .modules;
-        seats = lent .seats;
-      })
+  pub refused-before : (answer : ℕ) → (found request .number ≡ 0 → ⊥)
+      → answer ≡ packedReply (refused (found request)) → Clauses lent (kept answer)
   refused-before answer refuses is =
-      refused-clauses (found request) answer (applies-is ∙ rw (ne-eqb (found request .number) 0 refuses)) refuses found-below is
+      refused-clauses (found request) answer (applies-is ∙ rw (ne-eqb (found request .number) 0 refuses)) refuses
+      found-below is
 
   -- refused by 8, since a buffer or a table is too short
-  pub refused-short : (answer : ℕ) → found request .number ≡ 0 → short || shortTable ≡ true → answer ≡ 8 → Clauses lent
-      (record {
-        answer = answer;
-        carried = lent .carried;
-        levels = lent .levels;
-        modules = lent .modules;
-        seats = lent .seats;
-      })
+  pub refused-short : (answer : ℕ) → found request .number ≡ 0 → short || shortTable ≡ true → answer ≡ 8
+      → Clauses lent (kept answer)
   refused-short answer passes too-short is =
       refused-clauses (refusals.refusedAt 8 0) answer
-      (applies-is ∙ rw (eq-eqb (found request .number) 0 passes, too-short)) (λ e. omega arith) (omega arith) (is ∙ eight)
+      (applies-is ∙ rw (eq-eqb (found request .number) 0 passes, too-short)) (λ e. omega arith) (omega arith)
+      (is ∙ eight)
     where
       eight : _≡_ {A = ℕ} 8 (packedReply (refused (refusals.refusedAt 8 0)))
       eight = unfold refused in refl
 
--- the bits of an entry of the tables are those of its master
-abbrev Small : Usi → Type 0
-Small u = (u .usictl0 < 256) × (u .usictl1 < 256)
-
-second-byte : (u : Usi) → Small u → byteAt 1 (packed u) ≡ u .usictl1
-second-byte u small = omega (arith, small .0, small .1)
-
-abbrev Few : Seat → Type 0
-Few seat = seat .cleared < 16
-
-low-bit : (b : Bool) (cleared position : ℕ) → isSet 0 (boolByte b + 2 * cleared + 32 * position) ≡ b
-low-bit true cleared position = eq-eqb ((1 + 2 * cleared + 32 * position) / 1 % 2) 1 (omega arith)
-low-bit false cleared position = ne-eqb ((0 + 2 * cleared + 32 * position) / 1 % 2) 1 (λ e. omega arith)
-
-rest-of : (b : Bool) (cleared position : ℕ) → cleared < 16 → (boolByte b + 2 * cleared + 32 * position) / 32 ≡ position
-rest-of true cleared position few = omega arith
-rest-of false cleared position few = omega arith
-
-fate-is : (u : Usi) (seat : Seat) → Small u → Few seat → fateIn (packed u) (packedSeat seat) ≡ fateOf u seat
-fate-is u seat small few =
-    rw (
-      second-byte u small,
-      low-bit (seat .contending) (seat .cleared) (seat .position),
-      rest-of (seat .contending) (seat .cleared) (seat .position) few,
-    )
-
-fates-are : (modules : List Usi) (seats others : List Seat) (more most : List ℕ) → Everyone Small modules
-    → Everyone Few seats → length modules ≡ length seats
-    → take (length modules) (zipWith fateIn (map packed modules ++ more) (map packedSeat seats ++ most))
-    ≡ zipWith fateOf modules (seats ++ others)
-unfolding zipWith
-fates-are [] seats others more most small few same = refl
-fates-are (u ∷ modules) [] others more most small few same = absurd (omega (arith, same))
-fates-are (u ∷ modules) (seat ∷ seats) others more most (also first rest) (also few fews) same =
-    ap₂ (λ (one : Fate) (fates : List Fate). one ∷ fates) (fate-is u seat first few)
-    (fates-are modules seats others more most rest fews (omega (arith, same)))
-
--- the modules at the end of a run
-final-small : (carried message : List ℕ) (loss : Option ℕ) → Small (finalUsi carried message loss)
-final-small carried message none = (omega arith, omega arith)
-final-small carried message (some position) = (omega arith, omega arith)
-
-few-seats : (flags : List ℕ) (masters : List Master) → Everyone (λ (n : ℕ). n < 16) flags
-    → Everyone Few (zipWith seatOf flags masters)
-unfolding zipWith
-few-seats [] masters small = nobody
-few-seats (flag ∷ flags) [] small = nobody
-few-seats (flag ∷ flags) (master ∷ masters) (also here rest) = also here (few-seats flags masters rest)
-
-module _ (lent : Lent) (small : Bytes (lent .request .bytes)) (passes : found (lent .request) .number ≡ 0) (enough : short lent ≡ false)
-    (roomy : shortTable lent ≡ false) where
+module _ (lent : Lent) (small : Bytes (lent .request .bytes)) (passes : found (lent .request) .number ≡ 0)
+    (enough : short lent ≡ false) (roomy : shortTable lent ≡ false) where
   abbrev messages : List (List ℕ)
   messages = messagesOf (lent .request)
 
@@ -248,7 +183,12 @@ module _ (lent : Lent) (small : Bytes (lent .request .bytes)) (passes : found (l
 
   pub seats-many : length seats ≡ length (lent .request .counts)
   seats-many =
-      omega (arith, zipWith-length seatOf (clearedOf (lent .request)) (runOf (lent .request) .masters), flags-many, masters-many)
+      omega (
+        arith,
+        zipWith-length seatOf (clearedOf (lent .request)) (runOf (lent .request) .masters),
+        flags-many,
+        masters-many,
+      )
 
   count-small : reply .count < 65536
   unfolding answered
@@ -274,8 +214,7 @@ module _ (lent : Lent) (small : Bytes (lent .request .bytes)) (passes : found (l
   abbrev pub slices : List Usi → shows.Lent
   slices rest = record { table = modules ++ rest; carried = got .carried; levels = got .levels }
 
-  shown-is : (rest : List Usi) → shownIn messages got
-      ≡ shown messages reply (slices rest)
+  shown-is : (rest : List Usi) → shownIn messages got ≡ shown messages reply (slices rest)
   unfolding shownIn shown answered
   shown-is rest =
       rw (
@@ -287,44 +226,50 @@ module _ (lent : Lent) (small : Bytes (lent .request .bytes)) (passes : found (l
             (modules-many ∙ sym seats-many),
       )
 
-  pub ran-clauses : (rest : List Usi)
-      → shown messages reply (slices rest) ≡ outcome messages acks → Clauses lent got
+  pub ran-clauses : (rest : List Usi) → shown messages reply (slices rest) ≡ outcome messages acks
+      → Clauses lent got
   unfolding returned
   ran-clauses rest follows-so =
       record { returns = rw (unrefused); follows = λ zero-so. shown-is rest ∙ follows-so }
 
 -- what the library answers over a table of its own, where the caller's tables are long enough
 module _ (lent : Lent) (small : Bytes (lent .request .bytes)) (roomy : shortTable lent ≡ false) where
-  abbrev pub applies : Refusal
-  applies =
-      refusal (lent .request) maxMasters (length (lent .carried)) (length (lent .levels))
+  abbrev applies : Refusal
+  applies = refusal (lent .request) maxMasters (length (lent .carried)) (length (lent .levels))
 
   abbrev pub libraryReply : Arbitrated
-  libraryReply =
-      arbitrated (lent .request) maxMasters (length (lent .carried)) (length (lent .levels))
+  libraryReply = arbitrated (lent .request) maxMasters (length (lent .carried)) (length (lent .levels))
+
+  abbrev before : Refusal
+  before = found (lent .request)
+
+  abbrev masters : ℕ
+  masters = length (lent .request .counts)
+
+  abbrev reached : Arbitrated
+  reached = answered (clearedOf (lent .request)) (runOf (lent .request))
 
   -- its own table is long enough for as many masters as 12 lets pass
-  applies-in-parts : applies ≡ orElse (found (lent .request)) (given (check 8 (short lent) ∷ []))
-  applies-in-parts = parts ∙ go (eqb (found (lent .request) .number) 0) refl
+  applies-in-parts : applies ≡ orElse before (given (check 8 (short lent) ∷ []))
+  applies-in-parts = parts ∙ go (eqb (before .number) 0) refl
     where
-      parts : applies ≡ orElse (found (lent .request)) (given (check 8 (short lent || ltb maxMasters (length (lent .request .counts))) ∷ []))
-      parts =
-          own-parts (lent .request) maxMasters (length (lent .carried)) (length (lent .levels))
+      parts : applies ≡ orElse before (given (check 8 (short lent || ltb maxMasters masters) ∷ []))
+      parts = own-parts (lent .request) maxMasters (length (lent .carried)) (length (lent .levels))
 
-      go : (passes : Bool) → eqb (found (lent .request) .number) 0 ≡ passes
-          → cond passes (given (check 8 (short lent || ltb maxMasters (length (lent .request .counts))) ∷ [])) (found (lent .request))
-          ≡ cond passes (given (check 8 (short lent) ∷ [])) (found (lent .request))
+      go : (passes : Bool) → eqb (before .number) 0 ≡ passes
+          → cond passes (given (check 8 (short lent || ltb maxMasters masters) ∷ [])) before
+          ≡ cond passes (given (check 8 (short lent) ∷ [])) before
       go true is =
-          let passes = eqb-true (found (lent .request) .number) 0 is in
+          let passes = eqb-true (before .number) 0 is in
           let within = few (lent .request) small passes in
-          rw (le-ltb maxMasters (length (lent .request .counts)) within, or-false)
+          rw (le-ltb maxMasters masters within, or-false)
       go false is = refl
 
   applies-alike : refusalOf lent ≡ applies
   applies-alike = applies-is lent ∙ rw (roomy, or-false) (sym applies-in-parts)
 
   reply-by : (passing : Bool) → eqb (applies .number) 0 ≡ passing
-      → libraryReply ≡ cond passing (answered (clearedOf (lent .request)) (runOf (lent .request))) (refused applies)
+      → libraryReply ≡ cond passing reached (refused applies)
   unfolding arbitrated
   reply-by passing is = rw is
 
@@ -337,37 +282,37 @@ module _ (lent : Lent) (small : Bytes (lent .request .bytes)) (roomy : shortTabl
       go true is = absurd (refuses (ap (λ (r : Arbitrated). r .refusal .number) (reply-by true is)))
       go false is = (eqb-false (applies .number) 0 is, reply-by false is)
 
-  runs : libraryReply .refusal .number ≡ 0 → (applies .number ≡ 0) × (libraryReply ≡ answered (clearedOf (lent .request)) (runOf (lent .request)))
+  runs : libraryReply .refusal .number ≡ 0 → (applies .number ≡ 0) × (libraryReply ≡ reached)
   unfolding refused
   runs none-so = go (eqb (applies .number) 0) refl
     where
       go : (passing : Bool) → eqb (applies .number) 0 ≡ passing
-          → (applies .number ≡ 0) × (libraryReply ≡ answered (clearedOf (lent .request)) (runOf (lent .request)))
+          → (applies .number ≡ 0) × (libraryReply ≡ reached)
       go true is = (eqb-true (applies .number) 0 is, reply-by true is)
       go false is =
           absurd (eqb-false (applies .number) 0 is
           (sym (ap (λ (r : Arbitrated). r .refusal .number) (reply-by false is)) ∙ none-so))
 
   pub applies-small : (applies .place < 65536) × (applies .number < 256)
-  applies-small = go (eqb (found (lent .request) .number) 0) (short lent) applies-in-parts
+  applies-small = go (eqb (before .number) 0) (short lent) applies-in-parts
     where
       go : (passing tight : Bool)
-          → applies ≡ cond passing (given (check 8 tight ∷ [])) (found (lent .request))
+          → applies ≡ cond passing (given (check 8 tight ∷ [])) before
           → (applies .place < 65536) × (applies .number < 256)
       go true true is = rw is (omega arith, omega arith)
       go true false is = rw is (omega arith, omega arith)
       go false tight is = rw is (found-placed lent, found-below lent)
 
-  passing : applies .number ≡ 0 → (found (lent .request) .number ≡ 0) × (short lent ≡ false)
-  passing none-so = go (eqb (found (lent .request) .number) 0) refl (short lent) refl applies-in-parts
+  passing : applies .number ≡ 0 → (before .number ≡ 0) × (short lent ≡ false)
+  passing none-so = go (eqb (before .number) 0) refl (short lent) refl applies-in-parts
     where
-      go : (passes : Bool) → eqb (found (lent .request) .number) 0 ≡ passes → (tight : Bool) → short lent ≡ tight
-          → applies ≡ cond passes (given (check 8 tight ∷ [])) (found (lent .request))
-          → (found (lent .request) .number ≡ 0) × (short lent ≡ false)
+      go : (passes : Bool) → eqb (before .number) 0 ≡ passes → (tight : Bool) → short lent ≡ tight
+          → applies ≡ cond passes (given (check 8 tight ∷ [])) before
+          → (before .number ≡ 0) × (short lent ≡ false)
       go true zero-so true tight is = absurd (omega (arith, ap (λ (r : Refusal). r .number) is, none-so))
-      go true zero-so false roomy-so is = (eqb-true (found (lent .request) .number) 0 zero-so, roomy-so)
+      go true zero-so false roomy-so is = (eqb-true (before .number) 0 zero-so, roomy-so)
       go false other tight tight-so is =
-          absurd (eqb-false (found (lent .request) .number) 0 other (sym (ap (λ (r : Refusal). r .number) is) ∙ none-so))
+          absurd (eqb-false (before .number) 0 other (sym (ap (λ (r : Refusal). r .number) is) ∙ none-so))
 
   -- no place and no count of its reply is cut
   pub refused-place : (done : Arbitrated) → done ≡ libraryReply → (done .refusal .number ≡ 0 → ⊥)
@@ -378,7 +323,7 @@ module _ (lent : Lent) (small : Bytes (lent .request .bytes)) (roomy : shortTabl
       omega (arith, ap (λ (r : Arbitrated). r .refusal .place) (same ∙ stopped .1), applies-small .0)
 
   pub masters-few : (done : Arbitrated) → done ≡ libraryReply → done .refusal .number ≡ 0
-      → length (lent .request .counts) ≤ maxMasters
+      → masters ≤ maxMasters
   masters-few done same none-so =
       let ran-so = runs (rw same at none-so) in
       few (lent .request) small (passing (ran-so .0) .0)
@@ -388,7 +333,7 @@ module _ (lent : Lent) (small : Bytes (lent .request .bytes)) (roomy : shortTabl
   answered-small done same none-so =
       let ran-so = runs (rw same at none-so) in
       let two = passing (ran-so .0) in
-      let place : answered (clearedOf (lent .request)) (runOf (lent .request)) .refusal .place ≡ 0 = unfold answered in refl in (
+      let place : reached .refusal .place ≡ 0 = unfold answered in refl in (
         omega (arith, ap (λ (r : Arbitrated). r .refusal .place) (same ∙ ran-so .1), place),
         omega (
           arith,
@@ -401,59 +346,53 @@ module _ (lent : Lent) (small : Bytes (lent .request .bytes)) (roomy : shortTabl
       → (reply .refusal .number ≡ 0 → ⊥) → answer ≡ packedReply (refused (reply .refusal))
       → exit ≡ carriedAfter (lent .request) (reply .refusal) (lent .carried)
       → levelsExit ≡ levelsAfter (lent .request) (reply .refusal) (lent .levels)
-      → Clauses lent
-      (record {
-        answer = answer;
-        carried = exit;
-        levels = levelsExit;
-        modules = lent .modules;
-        seats = lent .seats;
-      })
+      → Clauses lent (gave answer exit levelsExit (lent .modules) (lent .seats))
   unfolding carriedAfter levelsAfter
   refused-by-library reply answer exit levelsExit same refuses is carried-is levels-are =
       let stopped = stops (rw same at refuses) in
       let its : reply .refusal ≡ applies = ap (λ (r : Arbitrated). r .refusal) (same ∙ stopped .1) ∙ of-refused in
       let zero-not = ne-eqb (applies .number) 0 (stopped .0) in
-      let kept : exit ≡ lent .carried = carried-is ∙ rw (its, zero-not) in
+      let kept-bytes : exit ≡ lent .carried = carried-is ∙ rw (its, zero-not) in
       let kept-levels : levelsExit ≡ lent .levels = levels-are ∙ rw (its, zero-not) in
-      rw (kept, kept-levels)
+      rw (kept-bytes, kept-levels)
       (refused-clauses lent applies answer applies-alike (stopped .0) (applies-small .1) (is ∙ rw its))
     where
       of-refused : refused applies .refusal ≡ applies
       of-refused = unfold refused in refl
 
   -- a run: what the library's table and buffers hold, and what of it is put into the tables
-  pub answered-by-library : (done : Arbitrated) (answer : ℕ) (table : List Usi) (exit levelsExit entries numbers : List ℕ)
+  pub answered-by-library : (done : Arbitrated) (answer : ℕ) (table : List Usi)
+      (exit levelsExit entries numbers : List ℕ)
       → done ≡ libraryReply → done .refusal .number ≡ 0 → answer ≡ packedReply done
       → table ≡ tableAfter (lent .request) (done .refusal) (replicate maxMasters (powerUp 0 0))
       → exit ≡ carriedAfter (lent .request) (done .refusal) (lent .carried)
       → levelsExit ≡ levelsAfter (lent .request) (done .refusal) (lent .levels)
-      → entries ≡ filled (map packed (take (length (lent .request .counts)) table)) (lent .modules)
-      → numbers ≡ filled (map packedSeat (take (length (lent .request .counts)) (done .seats))) (lent .seats)
+      → entries ≡ filled (map packed (take masters table)) (lent .modules)
+      → numbers ≡ filled (map packedSeat (take masters (done .seats))) (lent .seats)
       → (done .refusal .number ≡ 0
       → shown (messagesOf (lent .request)) done (record { table = table; carried = exit; levels = levelsExit })
       ≡ outcome (messagesOf (lent .request)) (lent .request .acknowledges))
-      → Clauses lent
-      (record { answer = answer; carried = exit; levels = levelsExit; modules = entries; seats = numbers })
+      → Clauses lent (gave answer exit levelsExit entries numbers)
   unfolding tableAfter carriedAfter levelsAfter answered
   answered-by-library done answer table exit levelsExit entries numbers same none-so is table-is carried-is levels-are
       entries-are numbers-are follows-so =
       let ran-so = runs (rw same at none-so) in
-      let its : done ≡ answered (clearedOf (lent .request)) (runOf (lent .request)) = same ∙ ran-so .1 in
+      let its : done ≡ reached = same ∙ ran-so .1 in
       let zero-so : eqb (done .refusal .number) 0 ≡ true = eq-eqb (done .refusal .number) 0 none-so in
       let bytes-are : exit ≡ filled (runOf (lent .request) .carried) (lent .carried) = carried-is ∙ rw zero-so in
-      let recorded-are : levelsExit ≡ filled (runOf (lent .request) .levels) (lent .levels) = levels-are ∙ rw zero-so in
+      let recorded-are : levelsExit ≡ filled (runOf (lent .request) .levels) (lent .levels) =
+      levels-are ∙ rw zero-so in
       let two = passing (ran-so .0) in
       let own = modules lent small (two .0) (two .1) roomy in
       let rest = drop (length own) (replicate maxMasters (powerUp 0 0)) in
       let whole : table ≡ own ++ rest = table-is ∙ rw zero-so in
-      let front : take (length (lent .request .counts)) table ≡ own =
-      ap (take (length (lent .request .counts))) whole
-      ∙ take-at own rest (length (lent .request .counts)) (modules-many lent small (two .0) (two .1) roomy) in
+      let front : take masters table ≡ own =
+      ap (take masters) whole
+      ∙ take-at own rest masters (modules-many lent small (two .0) (two .1) roomy) in
       let sitting = seats lent small (two .0) (two .1) roomy in
-      let seated : take (length (lent .request .counts)) (done .seats) ≡ sitting =
-      ap (λ (r : Arbitrated). take (length (lent .request .counts)) (r .seats)) its
-      ∙ take-at sitting (replicate (maxMasters - length sitting) absent) (length (lent .request .counts))
+      let seated : take masters (done .seats) ≡ sitting =
+      ap (λ (r : Arbitrated). take masters (r .seats)) its
+      ∙ take-at sitting (replicate (maxMasters - length sitting) absent) masters
       (seats-many lent small (two .0) (two .1) roomy) in
       rw (is, entries-are, numbers-are, front, seated, bytes-are, recorded-are, its)
       (ran-clauses lent small (two .0) (two .1) roomy rest
