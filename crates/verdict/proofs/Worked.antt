@@ -11,6 +11,7 @@ use Rattle.arbitration_rules.specs.Outcome.{undecided}
 use Rattle.arbitration_rules.specs.Reply.{Request, asked, refusal, refused, answered, arbitrated}
 use Rattle.arbitration_rules.specs.Run.{wire, performed, through, restarting, run}
 use Rattle.arbitration_rules.specs.Cleared.{clearedAt, clearedIn, clearedBy}
+use Rattle.arbitration_rules.proofs.OnePartRequest.{single}
 use Rattle.arbitration_messages.specs.Gathered.{passing}
 use Rattle.verdict.specs.declared.Verdict.{Verdict}
 use Rattle.verdict.specs.declared.Verdict.the-variants.{Refused, Undecided, Cut, Sent}
@@ -30,7 +31,7 @@ computed request = verdict request
 -- ---- messages of one part
 -- messages 90 12 and 90 0F
 abbrev eighth : List ℕ → Request
-eighth acknowledges = asked (0x90 ∷ 0x12 ∷ 0x90 ∷ 0x0f ∷ []) (2 ∷ 2 ∷ []) (1 ∷ 1 ∷ []) acknowledges
+eighth acknowledges = single (0x90 ∷ 0x12 ∷ 0x90 ∷ 0x0f ∷ []) (2 ∷ 2 ∷ []) acknowledges
 
 -- P8: acknowledges 0 0: the second is sent
 pub P8-sent : verdict (eighth (0 ∷ 0 ∷ [])) ≡ Sent 2
@@ -48,13 +49,13 @@ unfolding computed
 P9-undecided = refl
 
 -- the same message twice, acknowledges 1 0: cut at the first byte
-pub twice-cut : verdict (asked (0x90 ∷ 0x12 ∷ 0x90 ∷ 0x12 ∷ []) (2 ∷ 2 ∷ []) (1 ∷ 1 ∷ []) (1 ∷ 0 ∷ [])) ≡ Cut 1
+pub twice-cut : verdict (single (0x90 ∷ 0x12 ∷ 0x90 ∷ 0x12 ∷ []) (2 ∷ 2 ∷ []) (1 ∷ 0 ∷ [])) ≡ Cut 1
 unfolding computed
 twice-cut = refl
 
 -- messages 90 and 90 00
 abbrev tenth : List ℕ → Request
-tenth acknowledges = asked (0x90 ∷ 0x90 ∷ 0x00 ∷ []) (1 ∷ 2 ∷ []) (1 ∷ 1 ∷ []) acknowledges
+tenth acknowledges = single (0x90 ∷ 0x90 ∷ 0x00 ∷ []) (1 ∷ 2 ∷ []) acknowledges
 
 -- P10: acknowledges 0 0: refused
 pub P10-refused : verdict (tenth (0 ∷ 0 ∷ [])) ≡ Refused 16
@@ -67,8 +68,7 @@ unfolding computed
 P11-undecided = refl
 
 -- P12: messages 90, 90 00 and 50, acknowledges 0 0: the third is sent
-pub P12-sent : verdict
-    (asked (0x90 ∷ 0x90 ∷ 0x00 ∷ 0x50 ∷ []) (1 ∷ 2 ∷ 1 ∷ []) (1 ∷ 1 ∷ 1 ∷ []) (0 ∷ 0 ∷ [])) ≡ Sent 1
+pub P12-sent : verdict (single (0x90 ∷ 0x90 ∷ 0x00 ∷ 0x50 ∷ []) (1 ∷ 2 ∷ 1 ∷ []) (0 ∷ 0 ∷ [])) ≡ Sent 1
 unfolding computed
 P12-sent = refl
 
