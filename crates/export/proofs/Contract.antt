@@ -34,7 +34,7 @@ use Rattle.arbitration_rules.proofs.Cut.{messages-count}
 use Rattle.arbitration_rules.proofs.Demand.{Arbitration, least-sendable}
 use Rattle.arbitration_rules.proofs.FinalMasters.{final-masters}
 use Rattle.arbitration_rules.proofs.Pieces.{Bytes}
-use Rattle.arbitration_checks.proofs.Carried.{carried-within}
+use Rattle.arbitration_rules.proofs.Carried.{carried-within}
 use Rattle.arbitration.proofs.Given.{found, arbitration, carried-length, few, short as few-acknowledges}
 use Rattle.arbitration.proofs.Given.{applies-is as own-parts}
 use Rattle.usi.specs.Module.{powerUp}
