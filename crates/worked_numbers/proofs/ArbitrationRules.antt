@@ -1,5 +1,5 @@
--- Document 01's refusals of an arbitration, one line each, as arbitrate answers them, and its limits; messages have one
--- part each.
+-- Document 01's refusals of an arbitration, one line each, as arbitrate answers them, and its limits; messages have
+-- one part each.
 use mathlib.Core.Path.{_≡_, refl}
 use mathlib.Core.List.{List, [], _∷_, _++_}
 use Prim.Native.Nat.{ℕ}

@@ -74,8 +74,8 @@ pub loses-after-restart : arbitrated losing-later 2 2 44 ≡ answer 2 (in-seat �
 unfolding computed.arbitrated
 loses-after-restart = refl
 
--- ---- [02][04] and [02 04] have the same bytes and differ: with acknowledges 0 0 refusal 16, whatever table and buffers
--- are, and they stay
+-- ---- [02][04] and [02 04] have the same bytes and differ: with acknowledges 0 0 refusal 16, whatever table and
+-- buffers are, and they stay
 abbrev parted : List ℕ → Request
 parted acknowledges = asked (0x02 ∷ 0x04 ∷ 0x02 ∷ 0x04 ∷ []) (1 ∷ 1 ∷ 2 ∷ []) (2 ∷ 1 ∷ []) acknowledges
 

@@ -110,13 +110,15 @@ seventhLevels =
     3 ∷ 1 ∷ 2 ∷ 3 ∷ 0 ∷ 1 ∷ 2 ∷ 3 ∷ 0 ∷ 1 ∷ 0 ∷ 1 ∷ 0 ∷ 1 ∷ 0 ∷ 1 ∷ 0 ∷ 1 ∷ 0 ∷ 1 ∷ 0 ∷ 1 ∷ 3 ∷ []
 
 abbrev seventhStamps : List ℕ
-seventhStamps = 0 ∷ 1 ∷ 2 ∷ 3 ∷ 4 ∷ 5 ∷ 6 ∷ 7 ∷ 8 ∷ 9 ∷ 10 ∷ 11 ∷ 12 ∷ 13 ∷ 14 ∷ 15 ∷ 16 ∷ 17 ∷ 18 ∷ 19 ∷ 20 ∷ 21 ∷ 22 ∷ []
+seventhStamps =
+    0 ∷ 1 ∷ 2 ∷ 3 ∷ 4 ∷ 5 ∷ 6 ∷ 7 ∷ 8 ∷ 9 ∷ 10 ∷ 11 ∷ 12 ∷ 13 ∷ 14 ∷ 15 ∷ 16 ∷ 17 ∷ 18 ∷ 19 ∷ 20 ∷ 21 ∷ 22 ∷ []
 
 pub P7-count : encode.encoded seventh 0 1 23 23 ≡ Drawn 23
 unfolding encoded
 P7-count = refl
 
-pub P7-levels : encode.levelsAfter (encode.encoded seventh 0 1 23 24) seventh (replicate 24 7) ≡ seventhLevels ++ 7 ∷ []
+pub P7-levels : encode.levelsAfter (encode.encoded seventh 0 1 23 24) seventh (replicate 24 7)
+    ≡ seventhLevels ++ 7 ∷ []
 unfolding encoded drawn
 P7-levels = refl
 
