@@ -1,4 +1,1 @@
 pub mod Cases
-pub mod Judging
-pub mod Columns
-pub mod Someone
