@@ -3,8 +3,7 @@ use mathlib.Core.Path.{_≡_, refl}
 use mathlib.Core.Bool.{Bool, true, false}
 use mathlib.Core.List.{List, [], _∷_, _++_}
 use Prim.Native.Nat.{ℕ}
-use lib.ListN.{length, replicate}
-use Rattle.laws.specs.declared.Refusal.{Refusal}
+use lib.ListN.{replicate}
 use Rattle.laws.specs.Refusals.{none, refusedAt}
 use Rattle.usi_registers.specs.Registers.{USICTL0, USICTL1, USICKCTL, USICNT, USISRL}
 use Rattle.usi.specs.declared.Usi.{Usi}

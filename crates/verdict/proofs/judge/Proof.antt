@@ -1,11 +1,9 @@
 -- A refusal's number, or what is decided of the messages that are gathered.
-use mathlib.Core.Path.{_≡_, sym, ap, _∙_}
-use mathlib.Core.List.{List}
-use Prim.Native.Nat.{ℕ}
+use mathlib.Core.Path.{sym, _∙_}
 use lib.Seq.{length-take-le}
 use borrow.Author.Tests.{eq-eqb, ne-eqb}
 use Rattle.arbitration_messages.proofs.Whole.{size-within, count-within, whole, apart}
-use Rattle.verdict.specs.Verdict.{contenders, decided, verdictOf}
+use Rattle.verdict.specs.Verdict.{verdictOf}
 use borrow.Author.Needs.{needs}
 use Rattle.verdict.proofs.judge.Statement.{statement}
 use Rattle.verdict.proofs.judge.Tie as tie
