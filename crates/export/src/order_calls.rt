@@ -19,6 +19,6 @@ pub extern "C" fn least_comparisons(bytes: &[u8], parts: &[u32], counts: &[u32])
     ensures { λ r. ⌜ r
         ≡ leastOf (asked (now (bytes .entry)) (now (parts .entry)) (now (counts .entry)) []) .comparisons ⌝ }
 {
-    let found = arbitration_checks::least_message(bytes, parts, counts);
-    found.comparisons as u64
+    let counted = arbitration_checks::least_message(bytes, parts, counts);
+    counted.comparisons as u64
 }

@@ -1,17 +1,17 @@
--- `cases_arbitration::script::read_lengths` is safe, ends and answers a count of the buffer.
+-- `cases_arbitration::script::read_numbers` is safe, ends and answers a count of the buffer.
 use Prim.Native.Nat.{_≤_, _-_}
 use lib.ListN.{length}
 use mathlib.Core.Path.{_≡_}
 use borrow.Author.Needs.{needs}
 use native.Mathlib.Omega.{arith}
-use Rattle.cases_arbitration.proofs.script.read_lengths.Statement.{statement}
-use Rattle.cases_arbitration.proofs.script.read_lengths.Tie as tie
+use Rattle.cases_arbitration.proofs.script.read_numbers.Statement.{statement}
+use Rattle.cases_arbitration.proofs.script.read_numbers.Tie as tie
 
 abbrev Inv-loop : tie.InvT-loop
-Inv-loop line kind out₀ rest₀ n₀ out rest n = (n ≤ length out₀) × (length out ≡ length out₀)
+Inv-loop line out₀ rest₀ n₀ out rest n = (n ≤ length out₀) × (length out ≡ length out₀)
 
 abbrev μ-loop : tie.MeasureT-loop
-μ-loop line kind out₀ rest₀ n₀ out rest n = length out₀ - n
+μ-loop line out₀ rest₀ n₀ out rest n = length out₀ - n
 
 loop-holds : tie.Need-loop-holds Inv-loop μ-loop
 loop-holds c = omega arith
@@ -25,8 +25,11 @@ same-length c = omega arith
 returns : tie.Need-returns Inv-loop μ-loop
 returns c = omega arith
 
-message-length-requires : tie.Need-message-length-requires Inv-loop μ-loop
-message-length-requires c κs = tt
+value-requires : tie.Need-value-requires Inv-loop μ-loop
+value-requires c κs = tt
+
+short-requires : tie.Need-short-requires Inv-loop μ-loop
+short-requires c κs = tt
 
 mul-out : tie.Need-mul-out Inv-loop μ-loop
 mul-out c = omega arith
@@ -52,8 +55,8 @@ same-length-2 c = omega arith
 returns-2 : tie.Need-returns-2 Inv-loop μ-loop
 returns-2 c = omega arith
 
-pub read-lengths-spec : {M : Type 1} → statement M
-read-lengths-spec =
+pub read-numbers-spec : {M : Type 1} → statement M
+read-numbers-spec =
     tie.close
     (tie.spec
     Inv-loop
@@ -62,7 +65,8 @@ read-lengths-spec =
     first-word-requires
     same-length
     returns
-    message-length-requires
+    value-requires
+    short-requires
     mul-out
     slice-write-out
     after-word-requires
