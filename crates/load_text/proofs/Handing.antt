@@ -6,38 +6,21 @@ use Prim.Native.Nat.{ℕ, zero, suc, _+_, _-_, _*_, _≤_, _<_, min}
 use native.Mathlib.Nat.{not-suc-le-zero, le-of-suc-le-suc}
 use native.Mathlib.Numerals.{add-one}
 use native.Mathlib.Omega.{arith}
-use lib.ListN.{length, getD, take, drop, length-drop}
-use lib.Seq.{take-all, length-take-le, drop-at, take-at}
+use lib.ListN.{length, getD, take, drop}
+use lib.Seq.{take-all, drop-at, drop-drop, take-at}
 use Rattle.text.specs.Output.{Put}
 use Rattle.text.proofs.Runs.{to-end}
 use Rattle.text.proofs.Putting.{put-then, put-as}
 use Rattle.laws.proofs.Lists.{take-least, drop-least}
-use Rattle.laws.specs.Everyone.{Everyone, also}
 use Rattle.arbitration_rules.specs.Limits.{maxMasters, maxLength}
-use Rattle.arbitration_rules.specs.Reply.{messagesOf}
+use Rattle.arbitration_rules.specs.Reply.{Request, asked, cut, total, partsOf, lengthsOf}
 use Rattle.load_text.specs.Boards.{boardOf, masters}
-use Rattle.load_text.specs.Messages.{chosen, messagesIn, joined, unless}
+use Rattle.load_text.specs.Messages.{chosen, messagesIn, joined, unless, partsIn, partCounts}
 
 -- a board's message, cut out of the rows
 pub messages-length : (counts rows : List ℕ) → length (messagesIn rows counts) ≡ length counts
 messages-length [] rows = refl
 messages-length (count ∷ counts) rows = ap suc (messages-length counts (drop maxLength rows))
-
-drop-twice : (a b : ℕ) (l : List ℕ) → drop a (drop b l) ≡ drop (b + a) l
-drop-twice a zero l =
-    let none : a ≡ zero + a = omega arith in
-    ap (λ (k : ℕ). drop k l) none
-drop-twice a (suc b) [] = none a ∙ ap (λ (k : ℕ). drop {A = ℕ} k []) (one a)
-  where
-    none : (a : ℕ) → drop {A = ℕ} a [] ≡ []
-    none zero = refl
-    none (suc a) = refl
-
-    one : (a : ℕ) → suc (b + a) ≡ suc b + a
-    one a = omega arith
-drop-twice a (suc b) (x ∷ l) =
-    let one : suc (b + a) ≡ suc b + a = omega arith in
-    drop-twice a b l ∙ ap (λ (k : ℕ). drop k (x ∷ l)) one
 
 messages-at : (counts rows : List ℕ) (board : ℕ) → board < length counts
     → getD (messagesIn rows counts) board [] ≡ take (getD counts board 0) (drop (board * maxLength) rows)
@@ -46,7 +29,7 @@ messages-at (count ∷ counts) rows zero less = refl
 messages-at (count ∷ counts) rows (suc board) less =
     let next : maxLength + board * maxLength ≡ suc board * maxLength = omega arith in
     messages-at counts (drop maxLength rows) board (le-of-suc-le-suc less)
-    ∙ ap (take (getD counts board 0)) (drop-twice (board * maxLength) maxLength rows ∙ ap (λ (k : ℕ). drop k rows) next)
+    ∙ ap (take (getD counts board 0)) (drop-drop (board * maxLength) maxLength rows ∙ ap (λ (k : ℕ). drop k rows) next)
 
 module _ (counts rows : List ℕ) (board : ℕ) where
   pub message-none : length counts ≤ board → [] ≡ getD (messagesIn rows counts) board []
@@ -164,13 +147,12 @@ chosen-at (false ∷ silent) (a ∷ all) zero empty less enough = refl
 chosen-at (false ∷ silent) (a ∷ all) (suc master) empty less enough =
     chosen-at silent all master empty (omega arith) (le-of-suc-le-suc enough)
 
--- messages put one after the other are told apart again by their lengths
-told-apart : (messages : List (List ℕ)) → messagesOf (map length messages) (joined messages) ≡ messages
+-- lists put one after the other are told apart again by their lengths
+told-apart : (lists : List (List ℕ)) → cut (map length lists) (joined lists) ≡ lists
 told-apart [] = refl
-told-apart (message ∷ messages) =
-    ap₂ _∷_ (take-at message (joined messages) (length message) refl)
-    (ap (messagesOf (map length messages)) (drop-at message (joined messages) (length message) refl)
-    ∙ told-apart messages)
+told-apart (list ∷ lists) =
+    ap₂ _∷_ (take-at list (joined lists) (length list) refl)
+    (ap (cut (map length lists)) (drop-at list (joined lists) (length list) refl) ∙ told-apart lists)
 
 chosen-map : {A B : Type 0} (f : A → B) (silent : List Bool) (all : List A)
     → chosen silent (map f all) ≡ map f (chosen silent all)
@@ -179,26 +161,39 @@ chosen-map f (one ∷ silent) [] = refl
 chosen-map f (true ∷ silent) (a ∷ all) = chosen-map f silent all
 chosen-map {B} f (false ∷ silent) (a ∷ all) = ap (λ (l : List B). f a ∷ l) (chosen-map f silent all)
 
--- rows that are long enough hold the messages whole
-whole : (counts rows : List ℕ) → Everyone (λ count. count ≤ maxLength) counts → length counts * maxLength ≤ length rows
-    → map length (messagesIn rows counts) ≡ counts
-whole [] rows few enough = refl
-whole (count ∷ counts) rows (also small few) enough =
-    let long : count ≤ length rows = omega (arith, small) in
-    let rest : length counts * maxLength ≤ length (drop maxLength rows) = omega (arith, length-drop maxLength rows) in
-    ap₂ _∷_ (length-take-le count rows long) (whole counts (drop maxLength rows) few rest)
+chosen-apart : (silent : List Bool) (lists : List (List ℕ))
+    → cut (chosen silent (map length lists)) (joined (chosen silent lists)) ≡ chosen silent lists
+chosen-apart silent lists =
+    ap (λ (l : List ℕ). cut l (joined (chosen silent lists))) (chosen-map length silent lists)
+    ∙ told-apart (chosen silent lists)
 
--- what the library is handed for a master is the message of the master's board
-pub handed : (silent : List Bool) (counts rows : List ℕ) (master : ℕ)
-    → Everyone (λ count. count ≤ maxLength) counts → length counts * maxLength ≤ length rows
-    → length silent ≡ length counts → master < masters silent
-    → getD (messagesOf (chosen silent counts) (joined (chosen silent (messagesIn rows counts)))) master []
-    ≡ getD (messagesIn rows counts) (boardOf silent master) []
-handed silent counts rows master few enough same less =
-    let messages = messagesIn rows counts in
-    let lengths : chosen silent counts ≡ map length (chosen silent messages) =
-    ap (chosen silent) (sym (whole counts rows few enough)) ∙ chosen-map length silent messages in
-    let all : length silent ≤ length messages = omega (arith, messages-length counts rows) in
-    ap (λ (l : List ℕ). getD (messagesOf l (joined (chosen silent messages))) master []) lengths
-    ∙ ap (λ (l : List (List ℕ)). getD l master []) (told-apart (chosen silent messages))
-    ∙ chosen-at silent messages master [] less all
+-- what the library is handed: the messages in rows of bytes, their parts in rows like them, and acknowledges
+module _ (silent : List Bool) (counts rows starts acknowledges : List ℕ) where
+  abbrev pub request : Request
+  request =
+      asked (joined (chosen silent (messagesIn rows counts))) (joined (chosen silent (partsIn starts)))
+      (chosen silent (partCounts starts)) acknowledges
+
+  parts-apart : partsOf request ≡ chosen silent (partsIn starts)
+  parts-apart = chosen-apart silent (partsIn starts)
+
+  -- a master has the parts of its board
+  pub handed-parts : (master : ℕ) → length silent ≤ length (partsIn starts) → master < masters silent
+      → getD (partsOf request) master [] ≡ getD (partsIn starts) (boardOf silent master) []
+  handed-parts master enough less =
+      ap (λ (l : List (List ℕ)). getD l master []) parts-apart
+      ∙ chosen-at silent (partsIn starts) master [] less enough
+
+  -- and its board's message, where each board's parts are as long as its message
+  pub handed : (master : ℕ) → map total (partsIn starts) ≡ map length (messagesIn rows counts)
+      → length silent ≤ length counts → master < masters silent
+      → getD (cut (lengthsOf request) (request .bytes)) master []
+      ≡ getD (messagesIn rows counts) (boardOf silent master) []
+  handed master whole enough less =
+      let messages = messagesIn rows counts in
+      let lengths : lengthsOf request ≡ chosen silent (map length messages) =
+      ap (map total) parts-apart ∙ sym (chosen-map total silent (partsIn starts)) ∙ ap (chosen silent) whole in
+      let all : length silent ≤ length messages = omega (arith, messages-length counts rows) in
+      ap (λ (l : List ℕ). getD (cut l (joined (chosen silent messages))) master []) lengths
+      ∙ ap (λ (l : List (List ℕ)). getD l master []) (chosen-apart silent messages)
+      ∙ chosen-at silent messages master [] less all

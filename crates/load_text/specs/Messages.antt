@@ -1,9 +1,9 @@
 -- What is handed to the library of the boards that are not silent, in the order of their numbers.
 use mathlib.Core.Bool.{Bool, true, false, cond}
-use mathlib.Core.List.{List, [], _∷_, _++_}
-use Prim.Native.Nat.{ℕ}
-use lib.ListN.{take, drop}
-use Rattle.arbitration_rules.specs.Limits.{maxLength}
+use mathlib.Core.List.{List, [], _∷_, _++_, map}
+use Prim.Native.Nat.{ℕ, zero, suc}
+use lib.ListN.{length, take, drop, replicate}
+use Rattle.arbitration_rules.specs.Limits.{maxMasters, maxLength}
 
 -- what belongs to the boards that are not silent
 abbrev pub chosen : {A : Type 0} → List Bool → List A → List A
@@ -25,3 +25,21 @@ joined (message ∷ messages) = message ++ joined messages
 -- nothing, of a board that is silent
 abbrev pub unless : {A : Type 0} → Bool → List A → List A
 unless silent said = cond silent [] said
+
+-- The parts of a message: in a row like that of its bytes the length of each part stands where the part begins, and 0
+-- at every other byte.
+abbrev pub partLengths : List ℕ → List ℕ
+partLengths [] = []
+partLengths (zero ∷ starts) = partLengths starts
+partLengths (suc more ∷ starts) = suc more ∷ partLengths starts
+
+-- each board's row, and its parts
+unfoldable pub rowsIn : List ℕ → List (List ℕ)
+rowsIn rows = messagesIn rows (replicate maxMasters maxLength)
+
+abbrev pub partsIn : List ℕ → List (List ℕ)
+partsIn rows = map partLengths (rowsIn rows)
+
+-- how many each board has
+abbrev pub partCounts : List ℕ → List ℕ
+partCounts rows = map length (partsIn rows)

@@ -53,7 +53,7 @@ pub fn gather(
 }
 
 // A length put where the board is not silent.
-fn put_length(out: &mut [u32], at: usize, silent: bool, length: u32) -> usize
+pub(crate) fn put_length(out: &mut [u32], at: usize, silent: bool, length: u32) -> usize
     ensures { λ r. ⌜ Put (now (out .entry)) at (unless silent (length ∷ [])) (now (out .exit)) r ⌝ }
 {
     if silent {

@@ -8,6 +8,7 @@ use crate::contenders::Style;
 use crate::corrected;
 use crate::kept;
 use crate::load::Load;
+use crate::order;
 use crate::outcome::Outcome;
 use crate::phrase;
 use crate::refusals;
@@ -127,7 +128,8 @@ pub(crate) fn put(
     let shown = put_outcome(page, header, kept, load, outcome);
     let next = put_registers(page, shown, kept, load, outcome, options.registers);
     if options.wave {
-        return wave::put(page, next, kept, outcome.count, carried, levels);
+        let parts = order::parts(kept, load, outcome.winner);
+        return wave::put(page, next, kept, parts, outcome, carried, levels);
     }
     next
 }

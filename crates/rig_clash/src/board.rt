@@ -92,12 +92,20 @@ fn put_silent(page: &mut [u8; PAGE], at: usize, kept: &[u8], load: Load, board: 
     put_byte(page, who, b'\n')
 }
 
-// Bytes, separated by one space.
-pub(crate) fn put_message(page: &mut [u8; PAGE], at: usize, message: &[u8]) -> usize {
+// Between two bytes stands a space, and between two parts ` / `.
+fn put_gap(page: &mut [u8; PAGE], at: usize, i: usize, part: u8) -> usize {
+    if i == 0 {
+        return at;
+    }
+    put_bytes(page, at, line_of(b" \n / ", (part > 0) as usize))
+}
+
+// The bytes of a message, and where its parts begin.
+pub(crate) fn put_message(page: &mut [u8; PAGE], at: usize, message: &[u8], parts: &[u8]) -> usize {
     let mut next = at;
     let mut i = 0;
     while i < message.len() {
-        next = put_blank(page, next, i > 0);
+        next = put_gap(page, next, i, order::byte_at(parts, i));
         next = put_hex_byte(page, next, message[i]);
         i += 1;
     }
@@ -117,12 +125,19 @@ pub(crate) fn before(count: usize) -> u64 {
 }
 
 // What of a message was not sent.
-fn put_unsent(page: &mut [u8; PAGE], at: usize, message: &[u8], count: usize) -> usize {
+fn put_unsent(
+    page: &mut [u8; PAGE],
+    at: usize,
+    message: &[u8],
+    parts: &[u8],
+    count: usize,
+) -> usize {
     if count >= message.len() {
         return at;
     }
     let mark = put_bytes(page, at, b"; ");
-    let rest = put_message(page, mark, &message[count..]);
+    let left = kept::part(parts, count, parts.len());
+    let rest = put_message(page, mark, &message[count..], left);
     put_bytes(page, rest, b" not sent")
 }
 
@@ -136,7 +151,13 @@ fn form_of(verdict: Verdict) -> usize {
 }
 
 // How a board that is still in fares.
-fn put_in(page: &mut [u8; PAGE], at: usize, message: &[u8], outcome: Outcome) -> usize {
+fn put_in(
+    page: &mut [u8; PAGE],
+    at: usize,
+    message: &[u8],
+    parts: &[u8],
+    outcome: Outcome,
+) -> usize {
     let verdict = outcome.verdict;
     let count = outcome.count;
     let form = form_of(verdict);
@@ -151,7 +172,7 @@ fn put_in(page: &mut [u8; PAGE], at: usize, message: &[u8], outcome: Outcome) ->
     ];
     let fate = put_numbers(page, at, line_of(words, form), numbers);
     if form == CUT {
-        return put_unsent(page, fate, message, count);
+        return put_unsent(page, fate, message, parts, count);
     }
     fate
 }
@@ -185,8 +206,8 @@ pub(crate) fn is_undecided(verdict: Verdict) -> bool {
 }
 
 // The message of a board, padded, and two spaces.
-fn put_row(page: &mut [u8; PAGE], at: usize, message: &[u8]) -> usize {
-    let end = put_message(page, at, message);
+fn put_row(page: &mut [u8; PAGE], at: usize, message: &[u8], parts: &[u8]) -> usize {
+    let end = put_message(page, at, message, parts);
     let padded = pad(page, at, end, MESSAGE);
     put_bytes(page, padded, b"  ")
 }
@@ -200,10 +221,11 @@ fn put_contender(
     board: usize,
 ) -> usize {
     let message = order::message(kept, load, board);
+    let parts = order::parts(kept, load, board);
     let verdict = outcome.verdict;
     let word = put_in_word(page, at, kept, load, verdict, board);
-    let row = put_row(page, word, message);
-    let fate = put_in(page, row, message, outcome);
+    let row = put_row(page, word, message, parts);
+    let fate = put_in(page, row, message, parts, outcome);
     put_byte(page, fate, b'\n')
 }
 
@@ -217,7 +239,7 @@ fn put_loser(
 ) -> usize {
     let message = order::message(kept, load, board);
     let word = put_begin(page, at, kept, load, b"  lost   ", board);
-    let row = put_row(page, word, message);
+    let row = put_row(page, word, message, order::parts(kept, load, board));
     put_lost(page, row, message, position)
 }
 

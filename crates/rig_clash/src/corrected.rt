@@ -78,11 +78,15 @@ fn unknown(page: &mut [u8; PAGE], kept: &[u8], state: State, correction: usize) 
     state.moved(end).blamed()
 }
 
-// The message of a correction, in the row of its board.
+// The message of a correction, in the row of its board; its parts take the place of those that stand, as the board
+// gets no other message.
 fn keep_row(kept: &mut [u8; ROOM], board: usize, correction: usize) {
     let mut row = [0u8; MAX_LENGTH];
+    let mut parts = [0u8; MAX_LENGTH];
     put_bytes(&mut row, 0, slots::message(kept, correction));
+    put_bytes(&mut parts, 0, slots::parts(kept, correction));
     put_bytes(kept, kept::tonight_row_of(board), &row);
+    put_bytes(kept, kept::parts_row_of(board), &parts);
 }
 
 // The board of a correction among the first so many, else their number.

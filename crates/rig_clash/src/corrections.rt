@@ -128,12 +128,23 @@ fn corrected(
     count: u64,
 ) -> State {
     let mut row = [0u8; MAX_LENGTH];
+    let mut parts = [0u8; MAX_LENGTH];
     let source = state.source;
     let load = state.load;
     let correction = state.corrections;
     let length = least_number(count, BYTES) as u8;
     words::put_values(&mut row, Kind::Byte, bytes);
-    slots::keep(kept, correction, load.line, name, source.line, &row, length);
+    words::put_parts(&mut parts, bytes);
+    slots::keep(
+        kept,
+        correction,
+        load.line,
+        name,
+        source.line,
+        &row,
+        &parts,
+        length,
+    );
     if correction < SLOTS {
         state.corrections = correction + 1;
     }
@@ -145,7 +156,7 @@ fn with_bytes(kept: &mut [u8; ROOM], state: State, name: &[u8], bytes: &[u8]) ->
     let other = words::first_other(Kind::Byte, bytes);
     let count = words::count(bytes);
     if other.len() > 0 {
-        return wrong(state, forms::BYTES, other, 0);
+        return wrong(state, words::form_of(other, forms::BYTES), other, 0);
     }
     if count == 0 {
         return plainly_wrong(state, forms::NO_BOARD);

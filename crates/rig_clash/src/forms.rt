@@ -90,26 +90,28 @@ pub(crate) const AFTER_CORRECTIONS: usize = 42;
 
 pub(crate) const IN_CORRECTIONS: usize = 43;
 
+pub(crate) const SLASH: usize = 44;
+
 // Those about an argument.
-pub(crate) const NO_NUMBER: usize = 44;
+pub(crate) const NO_NUMBER: usize = 45;
 
-pub(crate) const NUMBER: usize = 45;
+pub(crate) const NUMBER: usize = 46;
 
-pub(crate) const NO_CORRECTIONS: usize = 46;
+pub(crate) const NO_CORRECTIONS: usize = 47;
 
-pub(crate) const NO_TRACE: usize = 47;
+pub(crate) const NO_TRACE: usize = 48;
 
-pub(crate) const NO_FILE: usize = 48;
+pub(crate) const NO_FILE: usize = 49;
 
-pub(crate) const INPUT_TWICE: usize = 49;
+pub(crate) const INPUT_TWICE: usize = 50;
 
-pub(crate) const OPTION: usize = 50;
+pub(crate) const OPTION: usize = 51;
 
-pub(crate) const LONG_ARGUMENT: usize = 51;
+pub(crate) const LONG_ARGUMENT: usize = 52;
 
-pub(crate) const TABLE: usize = 52;
+pub(crate) const TABLE: usize = 53;
 
-pub(crate) const TRACE: usize = 53;
+pub(crate) const TRACE: usize = 54;
 
 // No words.
 pub(crate) const NONE: usize = 0;
@@ -142,7 +144,8 @@ fn put_of_file(
         a byte that is no text\nthe file ends without an end line\nno load in the file\n\
         no load $ in the files\nload @ has no board line\nexpected load NAME, one word, not $\n\
         board @ has # bytes, and at most 64 may be sent\nmore than 256 corrections\n\
-        end says #, and the file has &\nafter end (line #)\nexpected load, board or end, not $";
+        end says #, and the file has &\nafter end (line #)\nexpected load, board or end, not $\n\
+        / needs a byte before it and one after it";
     put_words(page, at, line_of(words, form), word, number, loads, last)
 }
 

@@ -35,15 +35,18 @@ pub(crate) const MESSAGES_AT: usize = BOARDS_AT + MAX_MASTERS * BOARD_NAME;
 // The messages of one load, and the corrections of its boards, in rows of their own.
 pub(crate) const BYTES: usize = MAX_MASTERS * MAX_LENGTH;
 
-pub(crate) const TONIGHT_AT: usize = MESSAGES_AT + BYTES;
+// The parts of the messages, in rows like theirs: the length of a part where it begins, 0 at every other byte.
+pub(crate) const PARTS_AT: usize = MESSAGES_AT + BYTES;
+
+pub(crate) const TONIGHT_AT: usize = PARTS_AT + BYTES;
 
 // All corrections, each in a slot.
 pub(crate) const SLOTS_AT: usize = TONIGHT_AT + BYTES;
 
 pub(crate) const SLOTS: usize = 256;
 
-// A mark, the load's name and line, the board's name and line, and a message with its length.
-pub(crate) const SLOT: usize = 1 + LOAD_NAME + NUMBER + BOARD_NAME + NUMBER + 1 + MAX_LENGTH;
+// A mark, the load's name and line, the board's name and line, and a message with its length and its parts.
+pub(crate) const SLOT: usize = 1 + LOAD_NAME + NUMBER + BOARD_NAME + NUMBER + 1 + 2 * MAX_LENGTH;
 
 // The names of the file's loads, each in a slot with its line.
 pub(crate) const NAMES_AT: usize = SLOTS_AT + SLOTS * SLOT;
@@ -119,6 +122,14 @@ pub(crate) fn row_of(board: usize) -> usize {
     }
 }
 
+pub(crate) fn parts_row_of(board: usize) -> usize {
+    if board < MAX_MASTERS {
+        PARTS_AT + board * MAX_LENGTH
+    } else {
+        PARTS_AT
+    }
+}
+
 pub(crate) fn tonight_row_of(board: usize) -> usize {
     if board < MAX_MASTERS {
         TONIGHT_AT + board * MAX_LENGTH
@@ -138,4 +149,13 @@ pub(crate) fn keep_board_name(kept: &mut [u8; ROOM], board: usize, name: &[u8]) 
 // A board's message of so many bytes.
 pub(crate) fn message(kept: &[u8], board: usize, length: u32) -> &[u8] {
     part(part(kept, row_of(board), MAX_LENGTH), 0, length as usize)
+}
+
+// Where its parts begin.
+pub(crate) fn parts_of(kept: &[u8], board: usize, length: u32) -> &[u8] {
+    part(
+        part(kept, parts_row_of(board), MAX_LENGTH),
+        0,
+        length as usize,
+    )
 }

@@ -35,8 +35,11 @@ fn with_bytes(
     bytes: &[u8],
 ) -> State {
     let mut row = [0u8; MAX_LENGTH];
+    let mut parts = [0u8; MAX_LENGTH];
     words::put_values(&mut row, kind, bytes);
+    words::put_parts(&mut parts, bytes);
     put_bytes(kept, kept::row_of(board), &row);
+    put_bytes(kept, kept::parts_row_of(board), &parts);
     state.with_load(state.load.with_message(board, few(words::count(bytes))))
 }
 
@@ -56,7 +59,7 @@ fn with_message(kept: &mut [u8; ROOM], state: State, board: usize, bytes: &[u8])
     }
     let other = words::first_other(Kind::Byte, bytes);
     if other.len() > 0 {
-        return state.wrong(forms::BYTES, other, 0);
+        return state.wrong(words::form_of(other, forms::BYTES), other, 0);
     }
     with_bytes(kept, state, board, Kind::Byte, bytes)
 }
@@ -104,7 +107,7 @@ pub(crate) fn with_numbered(kept: &mut [u8; ROOM], state: State, bytes: &[u8]) -
     let next = with_row(state);
     let other = words::first_other(Kind::Short, bytes);
     if other.len() > 0 {
-        return next.wrong(forms::SHORT_BYTES, other, 0);
+        return next.wrong(words::form_of(other, forms::SHORT_BYTES), other, 0);
     }
     if state.load.boards < MAX_MASTERS {
         return with_bytes(kept, next, state.load.boards, Kind::Short, bytes);

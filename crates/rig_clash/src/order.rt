@@ -1,4 +1,4 @@
-// Which boards a refusal is about: the longest message, the least one, and one that it begins.
+// What a refusal is about: the longest message, a part that is a read, the least message, and one that parts from it.
 use crate::kept;
 use crate::load::Load;
 
@@ -6,11 +6,11 @@ pub(crate) fn byte_at(bytes: &[u8], at: usize) -> u8 {
     if at < bytes.len() { bytes[at] } else { 0 }
 }
 
-// The first acknowledge that is neither 0 nor 1.
-pub(crate) fn first_above_one(acks: &[u8]) -> usize {
+// The first acknowledge above a value.
+pub(crate) fn first_above(acks: &[u8], value: u8) -> usize {
     let mut i = 0;
     while i < acks.len() {
-        if acks[i] > 1 {
+        if acks[i] > value {
             return i;
         }
         i += 1;
@@ -31,14 +31,19 @@ pub(crate) fn longest(load: Load) -> usize {
     board
 }
 
-// How many bytes at their fronts two messages have in common.
-fn common(message: &[u8], other: &[u8]) -> usize {
+pub(crate) fn message(kept: &[u8], load: Load, board: usize) -> &[u8] {
+    kept::message(kept, board, load.length_of(board))
+}
+
+pub(crate) fn parts(kept: &[u8], load: Load, board: usize) -> &[u8] {
+    kept::parts_of(kept, board, load.length_of(board))
+}
+
+// The first byte of a part that is odd, a read.
+pub(crate) fn first_read(message: &[u8], parts: &[u8]) -> usize {
     let mut i = 0;
     while i < message.len() {
-        if i >= other.len() {
-            return i;
-        }
-        if message[i] != other[i] {
+        if (message[i] % 2 == 1) & (byte_at(parts, i) > 0) {
             return i;
         }
         i += 1;
@@ -46,17 +51,54 @@ fn common(message: &[u8], other: &[u8]) -> usize {
     i
 }
 
-// A message comes after another: it is greater in the first byte that differs, or goes on where the other ends.
-fn comes_after(message: &[u8], other: &[u8]) -> bool {
-    let front = common(message, other);
-    if front == other.len() {
-        return front < message.len();
+// What stands at a place, as messages are ordered: a part's first byte is below a STOP, and any other above.
+const STOP: u16 = 256;
+
+fn symbol(message: &[u8], parts: &[u8], place: usize) -> u16 {
+    if place >= message.len() {
+        return STOP;
     }
-    byte_at(message, front) > byte_at(other, front)
+    if byte_at(parts, place) > 0 {
+        return message[place] as u16;
+    }
+    message[place] as u16 + STOP + 1
 }
 
-pub(crate) fn message(kept: &[u8], load: Load, board: usize) -> &[u8] {
-    kept::message(kept, board, load.length_of(board))
+// How many bytes at their fronts two messages have in common, with their parts.
+fn common(message: &[u8], parts: &[u8], other: &[u8], other_parts: &[u8]) -> usize {
+    let mut i = 0;
+    while i < message.len() {
+        if symbol(message, parts, i) != symbol(other, other_parts, i) {
+            return i;
+        }
+        i += 1;
+    }
+    i
+}
+
+// Where a board's message first differs from another's, by the bytes before; its length where it does not.
+pub(crate) fn front(kept: &[u8], load: Load, board: usize, other: usize) -> usize {
+    common(
+        message(kept, load, board),
+        parts(kept, load, board),
+        message(kept, load, other),
+        parts(kept, load, other),
+    )
+}
+
+fn symbol_of(kept: &[u8], load: Load, board: usize, place: usize) -> u16 {
+    symbol(message(kept, load, board), parts(kept, load, board), place)
+}
+
+// A board restarts at a place.
+pub(crate) fn restarts(kept: &[u8], load: Load, board: usize, place: usize) -> bool {
+    symbol_of(kept, load, board, place) < STOP
+}
+
+// A board's message comes after another's: it is greater where they first differ.
+fn comes_after(kept: &[u8], load: Load, board: usize, other: usize) -> bool {
+    let place = front(kept, load, board, other);
+    symbol_of(kept, load, board, place) > symbol_of(kept, load, other, place)
 }
 
 // The lesser of two boards, the first of equal ones; a silent one never.
@@ -64,7 +106,7 @@ fn lesser(kept: &[u8], load: Load, best: usize, board: usize) -> usize {
     if load.is_silent(board) {
         return best;
     }
-    if load.is_silent(best) | comes_after(message(kept, load, best), message(kept, load, board)) {
+    if load.is_silent(best) | comes_after(kept, load, best, board) {
         return board;
     }
     best
@@ -81,17 +123,26 @@ pub(crate) fn least(kept: &[u8], load: Load) -> usize {
     best
 }
 
-// A board goes on where a message ends that it begins with.
-fn begins(shorter: &[u8], longer: &[u8]) -> bool {
-    (shorter.len() < longer.len()) & (common(shorter, longer) == shorter.len())
+// The lesser of two symbols is an ending, a restart or a STOP, and the other is not the same one.
+fn is_ending(symbol: u16, other: u16) -> bool {
+    (symbol < other) & (symbol <= STOP) & (other >= STOP)
 }
 
-// The first board that a board's message begins.
-pub(crate) fn begun_by(kept: &[u8], load: Load, least: usize) -> usize {
-    let shorter = message(kept, load, least);
+// A board does not do the same as the least one after a byte that the bus comes to, as all before are acknowledged.
+fn parts_from(kept: &[u8], load: Load, least: usize, board: usize, acked: usize) -> bool {
+    let place = front(kept, load, least, board);
+    let ends = is_ending(
+        symbol_of(kept, load, least, place),
+        symbol_of(kept, load, board, place),
+    );
+    ends & (place <= acked) & !load.is_silent(board)
+}
+
+// The first such board; acked: how many bytes are acknowledged, from the first on.
+pub(crate) fn parted_from(kept: &[u8], load: Load, least: usize, acked: usize) -> usize {
     let mut board: usize = 0;
     while board < load.boards {
-        if !load.is_silent(board) & begins(shorter, message(kept, load, board)) {
+        if parts_from(kept, load, least, board, acked) {
             return board;
         }
         board += 1;

@@ -4,35 +4,41 @@ use crate::kept::ACKS;
 use crate::kept::ACKS_AT;
 use crate::kept::BYTES;
 use crate::kept::MESSAGES_AT;
+use crate::kept::PARTS_AT;
 use crate::load::Load;
+use crate::order;
 use arbitration::Rehearsed;
 use arbitration_rules::MAX_LENGTH;
 use arbitration_rules::MAX_MASTERS;
 use arbitration_rules::Seat;
+use load_text::count_parts;
 use load_text::gather;
-use load_text::gather_lengths;
+use load_text::gather_counts;
+use load_text::gather_parts;
 use load_text::master_of;
 use rig_lines::parts;
 use usi::Usi;
 use verdict::Verdict;
 
-// The levels recorded for START and STOP, and those for each byte.
+// The levels recorded for START and STOP, those for each byte, and those for each repeated START.
 const FRAME: usize = 5;
 
 const BYTE: usize = 18;
 
-// Room for the levels of any arbitration.
-pub(crate) const LEVELS: usize = FRAME + BYTE * MAX_LENGTH;
+const RESTART: usize = 3;
 
-// Room for one length more than there may be.
-const LENGTHS: usize = MAX_MASTERS + 1;
+// Room for the levels of any arbitration: every byte may be a part of its own.
+pub(crate) const LEVELS: usize = FRAME + BYTE * MAX_LENGTH + RESTART * (MAX_LENGTH - 1);
 
-// How many levels are recorded for so many bytes.
-pub(crate) fn recorded(bytes: usize) -> usize {
-    if bytes > MAX_LENGTH {
+// Room for one message more than there may be.
+const COUNTS: usize = MAX_MASTERS + 1;
+
+// How many levels are recorded for so many bytes, in so many parts.
+fn recorded(bytes: usize, parts: usize) -> usize {
+    if (bytes > MAX_LENGTH) | (parts > MAX_LENGTH) | (parts == 0) {
         return 0;
     }
-    FRAME + BYTE * bytes
+    FRAME + BYTE * bytes + RESTART * (parts - 1)
 }
 
 pub(crate) struct Outcome {
@@ -41,9 +47,12 @@ pub(crate) struct Outcome {
     pub(crate) expected: bool,
     // the master that a refusal is about
     pub(crate) place: usize,
-    // how many bytes were carried, and the last of them; the length of the winner's message
+    // how many bytes were carried, the last of them, and how many levels were recorded
     pub(crate) count: usize,
     pub(crate) last: u8,
+    pub(crate) levels: usize,
+    // the first board that is still in, and the length of its message
+    pub(crate) winner: usize,
     pub(crate) length: usize,
     // of each master
     pub(crate) seats: [Seat; MAX_MASTERS],
@@ -141,33 +150,45 @@ fn last(carried: &[u8], count: usize) -> u8 {
     }
 }
 
-// The outcome of a rehearsal.
-fn told(load: Load, done: Rehearsed, verdict: Verdict, carried: &[u8]) -> Outcome {
-    let reply = done.reply;
-    let refusal = reply.refusal;
-    let seats = reply.seats;
-    let modules = done.modules;
-    let mut outcome = Outcome {
-        verdict,
-        expected: true,
-        place: refusal.place,
-        count: reply.count,
-        last: last(carried, reply.count),
-        length: 0,
-        seats,
-        modules,
-    };
-    let length = load.length_of(winner(load, outcome));
+// With the first board that is still in, and what follows from its message.
+fn with_winner(kept: &[u8], load: Load, mut outcome: Outcome) -> Outcome {
+    let board = winner(load, outcome);
+    let parts = kept::part(order::parts(kept, load, board), 0, outcome.count);
+    let levels = recorded(outcome.count, count_parts(parts));
+    let length = load.length_of(board);
+    outcome.winner = board;
     outcome.length = length as usize;
+    outcome.levels = levels;
     let expected = as_expected(load, outcome);
     outcome.expected = expected;
     outcome
 }
 
+// The outcome of a rehearsal.
+fn told(kept: &[u8], load: Load, done: Rehearsed, verdict: Verdict, carried: &[u8]) -> Outcome {
+    let reply = done.reply;
+    let refusal = reply.refusal;
+    let seats = reply.seats;
+    let modules = done.modules;
+    let outcome = Outcome {
+        verdict,
+        expected: true,
+        place: refusal.place,
+        count: reply.count,
+        last: last(carried, reply.count),
+        levels: 0,
+        winner: 0,
+        length: 0,
+        seats,
+        modules,
+    };
+    with_winner(kept, load, outcome)
+}
+
 // How many masters there are: in the old form more rows than are kept count as one too many.
 fn masters(load: Load, kept: usize) -> usize {
     if load.rows > load.boards as u64 {
-        LENGTHS
+        COUNTS
     } else {
         kept
     }
@@ -183,17 +204,19 @@ fn refused_first(load: Load, verdict: Verdict) -> Verdict {
 
 // The messages of the masters, rehearsed and judged.
 fn rehearsed(
+    kept: &[u8],
     load: Load,
     bytes: &[u8],
-    lengths: &[u32],
+    parts: &[u32],
+    counts: &[u32],
     acks: &[u8],
     carried: &mut [u8],
     levels: &mut [u8],
 ) -> Outcome {
     let table = [Usi::power_up(0, 0); MAX_MASTERS];
-    let done = arbitration::rehearse(table, bytes, lengths, acks, carried, levels);
-    let verdict = verdict::judge(done.reply, bytes, lengths, acks);
-    told(load, done, refused_first(load, verdict), carried)
+    let done = arbitration::rehearse(table, bytes, parts, counts, acks, carried, levels);
+    let verdict = verdict::judge(done.reply, bytes, parts, counts, acks);
+    told(kept, load, done, refused_first(load, verdict), carried)
 }
 
 // Rehearses a load: the library gets the messages of the boards that are not silent, in the order of their numbers.
@@ -205,23 +228,24 @@ pub(crate) fn of(
     levels: &mut [u8],
 ) -> Outcome {
     let mut bytes = [0u8; BYTES];
-    let mut lengths = [0u32; LENGTHS];
+    let mut lengths = [0u32; BYTES];
+    let mut counts = [0u32; COUNTS];
     let silent = load.silent;
     let rows = load.lengths;
-    let size = gather(
-        kept::part(kept, MESSAGES_AT, BYTES),
-        rows,
-        silent,
-        &mut bytes,
-    );
-    let count = gather_lengths(rows, silent, &mut lengths);
-    let lent = parts::stamps(masters(load, count), &lengths);
+    let starts = kept::part(kept, PARTS_AT, BYTES);
+    let messages = kept::part(kept, MESSAGES_AT, BYTES);
+    let size = gather(messages, rows, silent, &mut bytes);
+    let parted = gather_parts(starts, silent, &mut lengths);
+    let count = gather_counts(starts, silent, &mut counts);
+    let lent = parts::stamps(masters(load, count), &counts);
     let acks = kept::part(kept::part(kept, ACKS_AT, ACKS), 0, load.ack_count());
     let part = parts::bytes(room, levels);
     rehearsed(
+        kept,
         load,
         &bytes[..size],
-        &lengths[..lent],
+        &lengths[..parted],
+        &counts[..lent],
         acks,
         carried,
         &mut levels[..part],

@@ -3,7 +3,6 @@ use crate::kept;
 use crate::kept::part;
 use crate::outcome::LEVELS;
 use crate::outcome::Outcome;
-use crate::outcome::recorded;
 use crate::phrase::put_numbers;
 use check::same;
 use rig_lines::console::PAGE;
@@ -47,5 +46,5 @@ pub(crate) fn put(page: &mut [u8; PAGE], at: usize, levels: &[u8], outcome: Outc
     if outcome.is_refused() {
         return at;
     }
-    put_samples(page, at, part(levels, 0, recorded(outcome.count)))
+    put_samples(page, at, part(levels, 0, outcome.levels))
 }

@@ -50,10 +50,10 @@ fn put_masters(page: &mut [u8; PAGE], at: usize, load: Load, brief: bool) -> usi
     put_numbers(page, at, form, [load.rows, 0, 0, 0])
 }
 
-// 13 and 14: a message of no bytes or too many, or one that begins with a read.
-fn message_form(number: u8, length: u32, brief: bool) -> usize {
+// 13 and 14: a message of no bytes or too many, or one that begins, or restarts, with a read at a place.
+fn message_form(number: u8, length: u32, place: usize, brief: bool) -> usize {
     if number == 14 {
-        return either(brief, 4, 3);
+        return either(place == 0, either(brief, 4, 3), either(brief, 6, 5));
     }
     if length == 0 {
         return 0;
@@ -61,9 +61,9 @@ fn message_form(number: u8, length: u32, brief: bool) -> usize {
     either(brief, 2, 1)
 }
 
-fn message_number(number: u8, length: u32, first: u8) -> u64 {
+fn message_number(number: u8, length: u32, read: u8) -> u64 {
     if number == 14 {
-        first as u64
+        read as u64
     } else {
         length as u64
     }
@@ -79,17 +79,14 @@ fn put_message_of(
     brief: bool,
 ) -> usize {
     let length = load.length_of(board);
-    let first = order::byte_at(kept::message(kept, board, length), 0);
+    let message = order::message(kept, load, board);
+    let place = order::first_read(message, order::parts(kept, load, board));
     let words = b" has no bytes\n has # bytes, and at most 64 may be sent\n has # bytes\n\
-        \x20begins with %, which is odd, a read\n begins with %";
+        \x20begins with %, which is odd, a read\n begins with %\n restarts with %, which is odd, a read\n restarts with %";
     let who = put_board(page, at, kept, load, board, brief);
-    let form = line_of(words, message_form(number, length, brief));
-    put_numbers(
-        page,
-        who,
-        form,
-        [message_number(number, length, first), 0, 0, 0],
-    )
+    let form = line_of(words, message_form(number, length, place, brief));
+    let said = message_number(number, length, order::byte_at(message, place));
+    put_numbers(page, who, form, [said, 0, 0, 0])
 }
 
 // 15: acknowledges that are not as many as the longest message has bytes.
@@ -128,7 +125,7 @@ fn put_longest(
 // 15: an acknowledge above 1.
 fn put_ack(page: &mut [u8; PAGE], at: usize, kept: &[u8], load: Load, brief: bool) -> usize {
     let acks = kept::part(kept, ACKS_AT, ACKS);
-    let place = order::first_above_one(acks);
+    let place = order::first_above(acks, 1);
     let value = order::byte_at(acks, place) as u64;
     let words = b"acknowledge # (line #) is #, neither 0 nor 1\nacknowledge # is #";
     let numbers = [place as u64, acks_line(load, value, brief), value, 0];
@@ -148,32 +145,76 @@ fn put_acknowledges(
     put_acks(page, at, kept, load, brief)
 }
 
-// A message that ends, acknowledged, where another goes on.
-fn put_end(page: &mut [u8; PAGE], at: usize, message: &[u8]) -> usize {
-    let ends = put_bytes(page, at, b" ends with ");
-    let bytes = put_message(page, ends, message);
+// A message ends or restarts, acknowledged up to there, where another does not.
+fn put_end(
+    page: &mut [u8; PAGE],
+    at: usize,
+    message: &[u8],
+    parts: &[u8],
+    restarts: bool,
+) -> usize {
+    let words = line_of(b" ends with \n restarts after ", restarts as usize);
+    let ends = put_bytes(page, at, words);
+    let bytes = put_message(page, ends, message, parts);
     put_bytes(page, bytes, b", acknowledged, where ")
 }
 
-// What stands between two boards: that the message of the first begins the other, or how it ends.
-fn put_begins(page: &mut [u8; PAGE], at: usize, message: &[u8], brief: bool) -> usize {
-    if brief {
-        return put_bytes(page, at, b" begins ");
-    }
-    put_end(page, at, message)
+// 16 in a block: what the least message does at a place, and what the other does there.
+fn put_parting(
+    page: &mut [u8; PAGE],
+    at: usize,
+    kept: &[u8],
+    load: Load,
+    board: usize,
+    other: usize,
+    place: usize,
+) -> usize {
+    let message = order::message(kept, load, other);
+    let who = put_board(page, at, kept, load, board, false);
+    let bytes = kept::part(order::message(kept, load, board), 0, place);
+    let restarts = order::restarts(kept, load, board, place);
+    let ends = put_end(page, who, bytes, order::parts(kept, load, board), restarts);
+    let whom = put_board(page, ends, kept, load, other, false);
+    let words = line_of(b" goes on with %\n ends", (place >= message.len()) as usize);
+    put_numbers(
+        page,
+        whom,
+        words,
+        [order::byte_at(message, place) as u64, 0, 0, 0],
+    )
 }
 
-// 16: the least message is acknowledged to its end, and begins another.
-fn put_beginning(page: &mut [u8; PAGE], at: usize, kept: &[u8], load: Load, brief: bool) -> usize {
+// 16 in a row: the one that ends begins the other.
+fn put_pair(
+    page: &mut [u8; PAGE],
+    at: usize,
+    kept: &[u8],
+    load: Load,
+    board: usize,
+    other: usize,
+    place: usize,
+) -> usize {
+    let ends = place >= order::message(kept, load, other).len();
+    let restarts = order::restarts(kept, load, board, place) & !ends;
+    let who = put_board(page, at, kept, load, either(ends, other, board), true);
+    let words = put_bytes(
+        page,
+        who,
+        line_of(b" begins \n restarts in ", restarts as usize),
+    );
+    put_board(page, words, kept, load, either(ends, board, other), true)
+}
+
+// 16: the least message, and another that does not do the same after bytes that are acknowledged.
+fn put_undecided(page: &mut [u8; PAGE], at: usize, kept: &[u8], load: Load, brief: bool) -> usize {
+    let acked = order::first_above(kept::part(kept, ACKS_AT, ACKS), 0);
     let board = order::least(kept, load);
-    let other = order::begun_by(kept, load, board);
-    let message = order::message(kept, load, board);
-    let next = order::byte_at(order::message(kept, load, other), message.len()) as u64;
-    let who = put_board(page, at, kept, load, board, brief);
-    let begins = put_begins(page, who, message, brief);
-    let whom = put_board(page, begins, kept, load, other, brief);
-    let words = line_of(b" goes on with %", brief as usize);
-    put_numbers(page, whom, words, [next, 0, 0, 0])
+    let other = order::parted_from(kept, load, board, acked);
+    let place = order::front(kept, load, board, other);
+    if brief {
+        return put_pair(page, at, kept, load, board, other, place);
+    }
+    put_parting(page, at, kept, load, board, other, place)
 }
 
 // 40, 41, and 8: the buffers are too short.
@@ -208,7 +249,7 @@ pub(crate) fn put_words(
         13 => put_message_of(page, at, kept, load, number, board, brief),
         14 => put_message_of(page, at, kept, load, number, board, brief),
         15 => put_acknowledges(page, at, kept, load, brief),
-        16 => put_beginning(page, at, kept, load, brief),
+        16 => put_undecided(page, at, kept, load, brief),
         _ => put_other(page, at, number, brief),
     }
 }

@@ -1,5 +1,5 @@
 // The corrections as they are kept, each in a slot: a mark once its load was met, the load's name and line, the
-// board's name and line, and its message. Lines are kept as text.
+// board's name and line, its message and where its parts begin. Lines are kept as text.
 use crate::kept;
 use crate::kept::NUMBER;
 use crate::kept::ROOM;
@@ -27,6 +27,8 @@ const LINE_AT: usize = BOARD_AT + BOARD_NAME;
 const LENGTH_AT: usize = LINE_AT + NUMBER;
 
 const BYTES_AT: usize = LENGTH_AT + 1;
+
+const PARTS_AT: usize = BYTES_AT + MAX_LENGTH;
 
 const MET: u8 = b'+';
 
@@ -66,6 +68,10 @@ pub(crate) fn length(kept: &[u8], correction: usize) -> u8 {
 pub(crate) fn message(kept: &[u8], correction: usize) -> &[u8] {
     let count = length(kept, correction) as usize;
     kept::part(slot(kept, correction), BYTES_AT, count)
+}
+
+pub(crate) fn parts(kept: &[u8], correction: usize) -> &[u8] {
+    kept::part(slot(kept, correction), PARTS_AT, MAX_LENGTH)
 }
 
 // Whether its load was met in a file.
@@ -111,14 +117,22 @@ pub(crate) fn find(kept: &[u8], count: usize, board_name: &[u8]) -> usize {
 }
 
 // A board's name and line, and its message, in a slot.
-fn put_board(slot: &mut [u8; SLOT], name: &[u8], line: u64, row: &[u8; MAX_LENGTH], length: u8) {
+fn put_board(
+    slot: &mut [u8; SLOT],
+    name: &[u8],
+    line: u64,
+    row: &[u8; MAX_LENGTH],
+    parts: &[u8; MAX_LENGTH],
+    length: u8,
+) {
     put_bytes(slot, BOARD_AT, name);
     put_decimal(slot, LINE_AT, line);
     put_byte(slot, LENGTH_AT, length);
     put_bytes(slot, BYTES_AT, row);
+    put_bytes(slot, PARTS_AT, parts);
 }
 
-// Keeps the correction of a board of the load whose name is kept; row: its bytes, so many.
+// Keeps the correction of a board of the load whose name is kept; row: its bytes, so many; parts: where they begin.
 pub(crate) fn keep(
     kept: &mut [u8; ROOM],
     correction: usize,
@@ -126,11 +140,12 @@ pub(crate) fn keep(
     board_name: &[u8],
     line: u64,
     row: &[u8; MAX_LENGTH],
+    parts: &[u8; MAX_LENGTH],
     length: u8,
 ) {
     let mut slot = [0u8; SLOT];
     put_bytes(&mut slot, LOAD_AT, kept::name(kept));
     put_decimal(&mut slot, LOAD_LINE_AT, load_line);
-    put_board(&mut slot, board_name, line, row, length);
+    put_board(&mut slot, board_name, line, row, parts, length);
     put_bytes(kept, slot_of(correction), &slot);
 }

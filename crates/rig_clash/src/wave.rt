@@ -4,29 +4,39 @@ use crate::kept;
 use crate::kept::ACKS;
 use crate::kept::ACKS_AT;
 use crate::order::byte_at;
-use crate::outcome::recorded;
+use crate::outcome::Outcome;
 use crate::phrase;
 use crate::phrase::either;
 use crate::phrase::line_of;
 use rig_lines::console::PAGE;
 use rig_lines::console::begin;
-use rig_lines::parts;
+use rig_lines::parts::bytes;
 use text::put_byte;
 use text::put_bytes;
 
-// The words about a byte with an acknowledge: all but the first have a comma.
-fn form_of(ack: u8, i: usize) -> usize {
-    if i > 0 {
-        return either(ack == 0, 3, 2);
+// The words about a byte with an acknowledge: all but the first have a comma, or a `/` where the bus restarted.
+fn form_of(ack: u8, part: u8, i: usize) -> usize {
+    if i == 0 {
+        return either(ack == 0, 1, 0);
     }
-    either(ack == 0, 1, 0)
+    if part > 0 {
+        return either(ack == 0, 5, 4);
+    }
+    either(ack == 0, 3, 2)
 }
 
 // A byte that was carried, and its acknowledge.
-fn put_byte_at(page: &mut [u8; PAGE], at: usize, carried: &[u8], acks: &[u8], i: usize) -> usize {
+fn put_byte_at(
+    page: &mut [u8; PAGE],
+    at: usize,
+    carried: &[u8],
+    acks: &[u8],
+    parts: &[u8],
+    i: usize,
+) -> usize {
     let words = line_of(
-        b"% NACK\n% ACK\n, % NACK\n, % ACK",
-        form_of(byte_at(acks, i), i),
+        b"% NACK\n% ACK\n, % NACK\n, % ACK\n / % NACK\n / % ACK",
+        form_of(byte_at(acks, i), byte_at(parts, i), i),
     );
     phrase::put_numbers(page, at, words, [byte_at(carried, i) as u64, 0, 0, 0])
 }
@@ -36,12 +46,13 @@ fn put_carried(
     at: usize,
     carried: &[u8],
     acks: &[u8],
+    parts: &[u8],
     count: usize,
 ) -> usize {
     let mut next = at;
     let mut i: usize = 0;
     while i < count {
-        next = put_byte_at(page, next, carried, acks, i);
+        next = put_byte_at(page, next, carried, acks, parts, i);
         i += 1;
     }
     next
@@ -99,20 +110,21 @@ fn put_signal(page: &mut [u8; PAGE], at: usize, name: &[u8], levels: &[u8], sda:
     put_byte(page, marks, b'\n')
 }
 
-// What the bus carried in a rehearsal of so many bytes.
+// What the bus carried in a rehearsal; parts: those of a message that won.
 pub(crate) fn put(
     page: &mut [u8; PAGE],
     at: usize,
     kept: &[u8],
-    count: usize,
+    parts: &[u8],
+    outcome: Outcome,
     carried: &[u8],
     levels: &[u8],
 ) -> usize {
     let acks = kept::part(kept, ACKS_AT, ACKS);
     let word = phrase::put_line(page, at, kept, b"  carried ", 0, [0; 4]);
-    let bytes = put_carried(page, word, carried, acks, count);
-    let next = put_byte(page, bytes, b'\n');
-    let size = parts::bytes(recorded(count), levels);
+    let said = put_carried(page, word, carried, acks, parts, outcome.count);
+    let next = put_byte(page, said, b'\n');
+    let size = bytes(outcome.levels, levels);
     let scl = put_signal(page, next, b"  scl:", &levels[..size], false);
     put_signal(page, scl, b"  sda:", &levels[..size], true)
 }

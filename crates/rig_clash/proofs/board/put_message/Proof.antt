@@ -1,23 +1,24 @@
 -- `rig_clash::board::put_message` is safe and ends.
 use Prim.Native.Nat.{_-_}
-use borrow.Author.Needs.{needs}
 use lib.ListN.{length}
+use borrow.Author.Needs.{needs}
 use Rattle.rig_clash.proofs.board.put_message.Statement.{statement}
 use Rattle.rig_clash.proofs.board.put_message.Tie as tie
 
--- `rig_clash::board::put_message` is safe and ends.
-
 abbrev Inv-loop : tie.InvT-loop
-Inv-loop page₀ at message next₀ i₀ page next i = Unit {0}
+Inv-loop page₀ at message parts next₀ i₀ page next i = Unit {0}
 
 abbrev μ-loop : tie.MeasureT-loop
-μ-loop page₀ at message next₀ i₀ page next i = length message - i
+μ-loop page₀ at message parts next₀ i₀ page next i = length message - i
 
 loop-holds : tie.Need-loop-holds Inv-loop μ-loop
 loop-holds c = search needs
 
-put-blank-requires : tie.Need-put-blank-requires Inv-loop μ-loop
-put-blank-requires c κs = search needs
+byte-at-requires : tie.Need-byte-at-requires Inv-loop μ-loop
+byte-at-requires c κs = search needs
+
+put-gap-requires : tie.Need-put-gap-requires Inv-loop μ-loop
+put-gap-requires c κs = search needs
 
 shared-slice-read-put-hex-byte : tie.Need-shared-slice-read-put-hex-byte Inv-loop μ-loop
 shared-slice-read-put-hex-byte c = search needs
@@ -44,7 +45,8 @@ put-message-spec =
     Inv-loop
     μ-loop
     loop-holds
-    put-blank-requires
+    byte-at-requires
+    put-gap-requires
     shared-slice-read-put-hex-byte
     put-hex-byte-requires
     add-i

@@ -1,30 +1,27 @@
 -- `rig_clash::order::common` is safe and ends.
 use Prim.Native.Nat.{_-_}
-use borrow.Author.Needs.{needs}
 use lib.ListN.{length}
+use borrow.Author.Needs.{needs}
 use Rattle.rig_clash.proofs.order.common.Statement.{statement}
 use Rattle.rig_clash.proofs.order.common.Tie as tie
 
 abbrev Inv-loop : tie.InvT-loop
-Inv-loop message other i₀ i = Unit {0}
+Inv-loop message parts other «other_parts» i₀ i = Unit {0}
 
 abbrev μ-loop : tie.MeasureT-loop
-μ-loop message other i₀ i = length message - i
+μ-loop message parts other «other_parts» i₀ i = length message - i
 
 loop-holds : tie.Need-loop-holds Inv-loop μ-loop
 loop-holds c = search needs
 
+symbol-requires : tie.Need-symbol-requires Inv-loop μ-loop
+symbol-requires c κs = search needs
+
+symbol-requires-2 : tie.Need-symbol-requires-2 Inv-loop μ-loop
+symbol-requires-2 c κs = search needs
+
 returns : tie.Need-returns Inv-loop μ-loop
 returns c = search needs
-
-shared-slice-read-if2 : tie.Need-shared-slice-read-if2 Inv-loop μ-loop
-shared-slice-read-if2 c = search needs
-
-shared-slice-read-if2-2 : tie.Need-shared-slice-read-if2-2 Inv-loop μ-loop
-shared-slice-read-if2-2 c = search needs
-
-returns-2 : tie.Need-returns-2 Inv-loop μ-loop
-returns-2 c = search needs
 
 add-i : tie.Need-add-i Inv-loop μ-loop
 add-i c = search needs
@@ -35,8 +32,8 @@ loop-less c = search needs
 loop-again : tie.Need-loop-again Inv-loop μ-loop
 loop-again c = search needs
 
-returns-3 : tie.Need-returns-3 Inv-loop μ-loop
-returns-3 c = search needs
+returns-2 : tie.Need-returns-2 Inv-loop μ-loop
+returns-2 c = search needs
 
 pub common-spec : {M : Type 1} → statement M
 common-spec =
@@ -45,11 +42,10 @@ common-spec =
     Inv-loop
     μ-loop
     loop-holds
+    symbol-requires
+    symbol-requires-2
     returns
-    shared-slice-read-if2
-    shared-slice-read-if2-2
-    returns-2
     add-i
     loop-less
     loop-again
-    returns-3)
+    returns-2)

@@ -4,13 +4,11 @@ use borrow.Author.Needs.{needs}
 use Rattle.rig_clash.proofs.wave.put_carried.Statement.{statement}
 use Rattle.rig_clash.proofs.wave.put_carried.Tie as tie
 
--- `rig_clash::wave::put_carried` is safe and ends.
-
 abbrev Inv-loop : tie.InvT-loop
-Inv-loop page₀ at carried acks count next₀ i₀ page next i = Unit {0}
+Inv-loop page₀ at carried acks parts count next₀ i₀ page next i = Unit {0}
 
 abbrev μ-loop : tie.MeasureT-loop
-μ-loop page₀ at carried acks count next₀ i₀ page next i = count - i
+μ-loop page₀ at carried acks parts count next₀ i₀ page next i = count - i
 
 loop-holds : tie.Need-loop-holds Inv-loop μ-loop
 loop-holds c = search needs

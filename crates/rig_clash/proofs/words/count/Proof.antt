@@ -1,11 +1,9 @@
 -- `rig_clash::words::count` is safe and ends: each turn leaves fewer words.
 use Rattle.rig_lines.proofs.Words.{past-word}
-use borrow.Author.Needs.{needs}
 use lib.ListN.{length}
+use borrow.Author.Needs.{needs}
 use Rattle.rig_clash.proofs.words.count.Statement.{statement}
 use Rattle.rig_clash.proofs.words.count.Tie as tie
-
--- `rig_clash::words::count` is safe and ends: each turn leaves fewer words.
 
 abbrev Inv-loop : tie.InvT-loop
 Inv-loop words n₀ rest₀ n rest = Unit {0}
@@ -19,15 +17,18 @@ loop-holds c = search needs
 first-word-requires : tie.Need-first-word-requires Inv-loop μ-loop
 first-word-requires c κs = search needs
 
-more-requires : tie.Need-more-requires Inv-loop μ-loop
-more-requires c κs = search needs
+first-word-requires-2 : tie.Need-first-word-requires-2 Inv-loop μ-loop
+first-word-requires-2 c κs = search needs
+
+counted-requires : tie.Need-counted-requires Inv-loop μ-loop
+counted-requires c κs = search needs
 
 after-word-requires : tie.Need-after-word-requires Inv-loop μ-loop
 after-word-requires c κs = search needs
 
 loop-less : tie.Need-loop-less Inv-loop μ-loop
 loop-less c =
-    let head = c .before .before in
+    let head = c .before .before .before in
     past-word _ _ _ (head .before .first-word .ensures) (c .after-word .ensures) (head .if1 .taken)
 
 loop-again : tie.Need-loop-again Inv-loop μ-loop
@@ -44,7 +45,8 @@ count-spec =
     μ-loop
     loop-holds
     first-word-requires
-    more-requires
+    first-word-requires-2
+    counted-requires
     after-word-requires
     loop-less
     loop-again

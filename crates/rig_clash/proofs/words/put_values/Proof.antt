@@ -1,12 +1,10 @@
 -- `rig_clash::words::put_values` is safe and ends: each turn leaves fewer words.
 use Rattle.rig_lines.proofs.Words.{past-word}
-use borrow.Author.Needs.{needs}
 use lib.ListN.{length}
 use mathlib.Core.Path.{_≡_}
+use borrow.Author.Needs.{needs}
 use Rattle.rig_clash.proofs.words.put_values.Statement.{statement}
 use Rattle.rig_clash.proofs.words.put_values.Tie as tie
-
--- `rig_clash::words::put_values` is safe and ends: each turn leaves fewer words.
 
 abbrev Inv-loop : tie.InvT-loop
 Inv-loop room₀ kind words next₀ rest₀ room next rest = length room ≡ length room₀
@@ -23,18 +21,15 @@ first-word-requires c κs = search needs
 first-word-requires-2 : tie.Need-first-word-requires-2 Inv-loop μ-loop
 first-word-requires-2 c κs = search needs
 
-value-requires : tie.Need-value-requires Inv-loop μ-loop
-value-requires c κs = search needs
-
-put-byte-requires : tie.Need-put-byte-requires Inv-loop μ-loop
-put-byte-requires c κs = search needs
+put-value-requires : tie.Need-put-value-requires Inv-loop μ-loop
+put-value-requires c κs = search needs
 
 after-word-requires : tie.Need-after-word-requires Inv-loop μ-loop
 after-word-requires c κs = search needs
 
 loop-less : tie.Need-loop-less Inv-loop μ-loop
 loop-less c =
-    let head = c .before .before .before .before .before .before .before in
+    let head = c .before .before .before .before .before .before in
     past-word _ _ _ (head .before .first-word .ensures) (c .after-word .ensures) (head .if1 .taken)
 
 loop-again : tie.Need-loop-again Inv-loop μ-loop
@@ -55,8 +50,7 @@ put-values-spec =
     loop-holds
     first-word-requires
     first-word-requires-2
-    value-requires
-    put-byte-requires
+    put-value-requires
     after-word-requires
     loop-less
     loop-again

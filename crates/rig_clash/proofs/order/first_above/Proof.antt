@@ -1,17 +1,15 @@
--- `rig_clash::order::first_above_one` is safe and ends.
+-- `rig_clash::order::first_above` is safe and ends.
 use Prim.Native.Nat.{_-_}
-use borrow.Author.Needs.{needs}
 use lib.ListN.{length}
-use Rattle.rig_clash.proofs.order.first_above_one.Statement.{statement}
-use Rattle.rig_clash.proofs.order.first_above_one.Tie as tie
-
--- `rig_clash::order::first_above_one` is safe and ends.
+use borrow.Author.Needs.{needs}
+use Rattle.rig_clash.proofs.order.first_above.Statement.{statement}
+use Rattle.rig_clash.proofs.order.first_above.Tie as tie
 
 abbrev Inv-loop : tie.InvT-loop
-Inv-loop acks i₀ i = Unit {0}
+Inv-loop acks value i₀ i = Unit {0}
 
 abbrev μ-loop : tie.MeasureT-loop
-μ-loop acks i₀ i = length acks - i
+μ-loop acks value i₀ i = length acks - i
 
 loop-holds : tie.Need-loop-holds Inv-loop μ-loop
 loop-holds c = search needs
@@ -34,8 +32,8 @@ loop-again c = search needs
 returns-2 : tie.Need-returns-2 Inv-loop μ-loop
 returns-2 c = search needs
 
-pub first-above-one-spec : {M : Type 1} → statement M
-first-above-one-spec =
+pub first-above-spec : {M : Type 1} → statement M
+first-above-spec =
     tie.close
     (tie.spec
     Inv-loop
