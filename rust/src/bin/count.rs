@@ -1,28 +1,25 @@
-//! `count library|model arbitrate|halves|decode N`: so many equal calls and nothing else, for a count of instructions
-//! under callgrind: the difference between N and 2N calls is N calls'. `halves` arbitrates half as many masters with
-//! messages half as long.
+//! `count library|model N decode` or `count library|model N arbitrate MASTERS BYTES`: N equal calls and nothing else,
+//! for a count of instructions under callgrind: the difference between N and 2N calls is N calls'.
 
-use rehearsal_model::arbitration::{levels_for, Message, MASTERS, MESSAGE_BYTES};
+use rehearsal_model::arbitration::{levels_for, Message};
 use rehearsal_model::bus::{drawing, START, STOP};
 use rehearsal_model::ffi::Archive;
 use rehearsal_model::packed::{Asked, Buffers, Interface, Model};
 use std::hint::black_box;
 
-const USAGE: &str = "usage: count library|model arbitrate|halves|decode N";
+const USAGE: &str = "usage: count library|model N decode | count library|model N arbitrate MASTERS BYTES";
 
 fn main() {
     let words: Vec<String> = std::env::args().skip(1).collect();
-    let [side, call, count] = &words[..] else { panic!("{USAGE}") };
-    let side: &dyn Interface = match side.as_str() {
-        "library" => &Archive,
-        "model" => &Model,
+    let number = |at: usize| words.get(at).and_then(|word| word.parse().ok()).expect(USAGE);
+    let side: &dyn Interface = match words.first().map(String::as_str) {
+        Some("library") => &Archive,
+        Some("model") => &Model,
         _ => panic!("{USAGE}"),
     };
-    let count = count.parse().expect(USAGE);
-    match call.as_str() {
-        "arbitrate" => arbitrate(side, MASTERS, MESSAGE_BYTES, count),
-        "halves" => arbitrate(side, MASTERS / 2, MESSAGE_BYTES / 2, count),
-        "decode" => decode(side, count),
+    match words.get(2).map(String::as_str) {
+        Some("arbitrate") => arbitrate(side, number(3), number(4), number(1)),
+        Some("decode") => decode(side, number(1)),
         _ => panic!("{USAGE}"),
     }
 }
