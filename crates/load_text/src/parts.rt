@@ -1,5 +1,5 @@
-// The parts of messages, with a repeated START between two. Each board has a row for them, like that of its bytes: where a
-// part begins stands its length, and 0 at every other byte.
+// The parts of messages, with a repeated START between two. Each board has a row for them, like that of its bytes:
+// where a part begins stands its length, and 0 at every other byte.
 ghost use mathlib.Core.Path.{_≡_};
 ghost use mathlib.Core.List.{[], _∷_};
 ghost use Prim.Native.Nat.{_≤_};

@@ -85,8 +85,8 @@ fn keep_row(kept: &mut [u8; ROOM], board: usize, correction: usize) {
     let mut parts = [0u8; MAX_LENGTH];
     put_bytes(&mut row, 0, slots::message(kept, correction));
     put_bytes(&mut parts, 0, slots::parts(kept, correction));
-    put_bytes(kept, kept::tonight_row_of(board), &row);
-    put_bytes(kept, kept::parts_row_of(board), &parts);
+    kept::put_row(kept, kept::tonight_row_of(board), &row);
+    kept::put_row(kept, kept::parts_row_of(board), &parts);
 }
 
 // The board of a correction among the first so many, else their number.

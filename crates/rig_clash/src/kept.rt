@@ -151,7 +151,12 @@ pub(crate) fn message(kept: &[u8], board: usize, length: u32) -> &[u8] {
     part(part(kept, row_of(board), MAX_LENGTH), 0, length as usize)
 }
 
-// Where its parts begin.
+// A row of bytes, put where it begins.
+pub(crate) fn put_row(kept: &mut [u8; ROOM], at: usize, row: &[u8; MAX_LENGTH]) {
+    put_bytes(kept, at, row);
+}
+
+// Where a message's parts begin.
 pub(crate) fn parts_of(kept: &[u8], board: usize, length: u32) -> &[u8] {
     part(
         part(kept, parts_row_of(board), MAX_LENGTH),

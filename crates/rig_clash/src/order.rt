@@ -54,14 +54,19 @@ pub(crate) fn first_read(message: &[u8], parts: &[u8]) -> usize {
 // What stands at a place, as messages are ordered: a part's first byte is below a STOP, and any other above.
 const STOP: u16 = 256;
 
+fn byte_symbol(byte: u8, part: u8) -> u16 {
+    let value = byte as u16;
+    if part > 0 {
+        return value;
+    }
+    value + STOP + 1
+}
+
 fn symbol(message: &[u8], parts: &[u8], place: usize) -> u16 {
     if place >= message.len() {
         return STOP;
     }
-    if byte_at(parts, place) > 0 {
-        return message[place] as u16;
-    }
-    message[place] as u16 + STOP + 1
+    byte_symbol(message[place], byte_at(parts, place))
 }
 
 // How many bytes at their fronts two messages have in common, with their parts.

@@ -16,29 +16,27 @@ use load_text::gather;
 use load_text::gather_counts;
 use load_text::gather_parts;
 use load_text::master_of;
+use rig_lines::numbers::least;
 use rig_lines::parts;
 use usi::Usi;
 use verdict::Verdict;
 
-// The levels recorded for START and STOP, those for each byte, and those for each repeated START.
-const FRAME: usize = 5;
+// The levels recorded for START, those for each byte, and those for each part's end, a repeated START or the STOP.
+const START: usize = 2;
 
 const BYTE: usize = 18;
 
-const RESTART: usize = 3;
+const END: usize = 3;
 
 // Room for the levels of any arbitration: every byte may be a part of its own.
-pub(crate) const LEVELS: usize = FRAME + BYTE * MAX_LENGTH + RESTART * (MAX_LENGTH - 1);
+pub(crate) const LEVELS: usize = START + (BYTE + END) * MAX_LENGTH;
 
 // Room for one message more than there may be.
 const COUNTS: usize = MAX_MASTERS + 1;
 
 // How many levels are recorded for so many bytes, in so many parts.
 fn recorded(bytes: usize, parts: usize) -> usize {
-    if (bytes > MAX_LENGTH) | (parts > MAX_LENGTH) | (parts == 0) {
-        return 0;
-    }
-    FRAME + BYTE * bytes + RESTART * (parts - 1)
+    START + BYTE * least(bytes, MAX_LENGTH) + END * least(parts, MAX_LENGTH)
 }
 
 pub(crate) struct Outcome {

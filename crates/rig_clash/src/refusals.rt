@@ -82,7 +82,8 @@ fn put_message_of(
     let message = order::message(kept, load, board);
     let place = order::first_read(message, order::parts(kept, load, board));
     let words = b" has no bytes\n has # bytes, and at most 64 may be sent\n has # bytes\n\
-        \x20begins with %, which is odd, a read\n begins with %\n restarts with %, which is odd, a read\n restarts with %";
+        \x20begins with %, which is odd, a read\n begins with %\n\
+        \x20restarts with %, which is odd, a read\n restarts with %";
     let who = put_board(page, at, kept, load, board, brief);
     let form = line_of(words, message_form(number, length, place, brief));
     let said = message_number(number, length, order::byte_at(message, place));

@@ -132,6 +132,10 @@ fn put_board(
     put_bytes(slot, PARTS_AT, parts);
 }
 
+fn put_slot(kept: &mut [u8; ROOM], correction: usize, slot: &[u8; SLOT]) {
+    put_bytes(kept, slot_of(correction), slot);
+}
+
 // Keeps the correction of a board of the load whose name is kept; row: its bytes, so many; parts: where they begin.
 pub(crate) fn keep(
     kept: &mut [u8; ROOM],
@@ -147,5 +151,5 @@ pub(crate) fn keep(
     put_bytes(&mut slot, LOAD_AT, kept::name(kept));
     put_decimal(&mut slot, LOAD_LINE_AT, load_line);
     put_board(&mut slot, board_name, line, row, parts, length);
-    put_bytes(kept, slot_of(correction), &slot);
+    put_slot(kept, correction, &slot);
 }

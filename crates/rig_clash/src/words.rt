@@ -127,10 +127,10 @@ pub(crate) fn put_values(room: &mut [u8], kind: Kind, words: &[u8]) {
     }
 }
 
-// Where the part of a word begins: after `/` at the next byte. All parts that begin past the room count as its last.
+// Where the part of a word begins: after `/` at the next byte.
 fn begun(slash: bool, start: usize, next: usize) -> usize {
     if slash {
-        return least(next, MAX_LENGTH - 1);
+        return next;
     }
     start
 }
@@ -139,12 +139,14 @@ fn longer(length: u8) -> u8 {
     if length < u8::MAX { length + 1 } else { length }
 }
 
-// One byte more of the part that begins at a place; answers where the next byte stands.
+// One byte more of the part that begins at a place, at the last where it begins past the room; answers where the next
+// byte stands.
 fn put_more(room: &mut [u8; MAX_LENGTH], slash: bool, start: usize, next: usize) -> usize {
-    if slash | (start >= MAX_LENGTH) {
+    if slash {
         return next;
     }
-    room[start] = longer(room[start]);
+    let at = least(start, MAX_LENGTH - 1);
+    room[at] = longer(room[at]);
     least(next, MAX_LENGTH - 1) + 1
 }
 

@@ -1,15 +1,14 @@
 -- `load_text::parts::gather_counts` meets its contract. The invariant: the numbers of the boards passed are put.
-use Prim.Native.Nat.{_-_, _<_, _≤_}
-use mathlib.Core.Path.{_≡_, ap, sym, _∙_}
+use Prim.Native.Nat.{ℕ, _-_, _<_, _≤_}
+use mathlib.Core.Path.{_≡_, ap, sym}
 use mathlib.Core.Bool.{false}
-use mathlib.Core.List.{List, [], _∷_}
-use Prim.Native.Nat.{ℕ}
+use mathlib.Core.List.{[], _∷_}
 use lib.ListN.{length, getD}
 use Rattle.arbitration_rules.specs.Limits.{maxMasters}
 use Rattle.text.proofs.Putting.{put-none, put-length, put-as}
-use Rattle.load_text.specs.Messages.{unless, partLengths, partCounts}
+use Rattle.load_text.specs.Messages.{unless, partCounts}
 use Rattle.load_text.proofs.Handing.{Lengths, lengths-more, lengths-all}
-use Rattle.load_text.proofs.Begun.{counts-length, parts-at}
+use Rattle.load_text.proofs.Begun.{counts-length}
 use borrow.Author.Needs.{needs}
 use Rattle.load_text.proofs.parts.gather_counts.Statement.{statement}
 use Rattle.load_text.proofs.parts.gather_counts.Tie as tie
@@ -46,7 +45,8 @@ loop-again c =
     let less : head .loop .board < length (args .t2) = search needs in
     let all : length (partCounts (args .rows .now)) ≡ maxMasters = counts-length (args .rows .now) in
     let less-all : head .loop .board < length (partCounts (args .rows .now)) = search needs in
-    let said = ap (λ (n : ℕ). unless (getD (args .t2) (head .loop .board) false) (n ∷ [])) (sym (c .before .before .before .count-in .ensures)) in
+    let count = sym (c .before .before .before .count-in .ensures) in
+    let said = ap (λ (n : ℕ). unless (getD (args .t2) (head .loop .board) false) (n ∷ [])) count in
     lengths-more _ _ _ _ few less less-all (head .loop .inv) (put-as _ _ said (c .before .before .put-length .ensures))
 
 same-length : tie.Need-same-length Inv-loop μ-loop

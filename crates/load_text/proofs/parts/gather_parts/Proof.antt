@@ -2,8 +2,6 @@
 use Prim.Native.Nat.{_-_, _<_, _≤_}
 use mathlib.Core.Path.{_≡_, ap, sym, _∙_}
 use mathlib.Core.Bool.{false}
-use mathlib.Core.List.{List, [], _∷_}
-use Prim.Native.Nat.{ℕ}
 use lib.ListN.{length, getD}
 use Rattle.arbitration_rules.specs.Limits.{maxMasters}
 use Rattle.text.proofs.Putting.{put-none, put-length, put-as}
@@ -46,7 +44,9 @@ loop-again c =
     let less : head .loop .board < length (args .t2) = search needs in
     let all : length (partsIn (args .rows .now)) ≡ maxMasters = parts-length (args .rows .now) in
     let less-all : head .loop .board < length (partsIn (args .rows .now)) = search needs in
-    let said = ap (unless (getD (args .t2) (head .loop .board) false)) (sym (ap partLengths (c .before .before .before .row-in .ensures .0) ∙ parts-at (args .rows .now) (head .loop .board))) in
+    let parts = ap partLengths (c .before .before .before .row-in .ensures .0)
+    ∙ parts-at (args .rows .now) (head .loop .board) in
+    let said = ap (unless (getD (args .t2) (head .loop .board) false)) (sym parts) in
     messages-more _ _ _ _ few less less-all (head .loop .inv) (put-as _ _ said (c .before .before .put-parts .ensures))
 
 same-length : tie.Need-same-length Inv-loop μ-loop
