@@ -24,9 +24,9 @@ use Rattle.arbitration_rules.proofs.Cut.{lengths-count, messages-count}
 use Rattle.arbitration_rules.proofs.Pieces.{Bytes}
 use Rattle.arbitration_rules.proofs.Accepted.{answered-outcome, refused-by-16}
 use Rattle.arbitration_rules.proofs.ClearedFlags.{run-clears}
-use Rattle.arbitration_run.specs.Members as members
+use Rattle.arbitration_members.specs.Members as members
 use Rattle.arbitration_messages.specs.Gathered.{passing}
-use Rattle.arbitration_run.specs.Rows.{rowsOf}
+use Rattle.arbitration_members.specs.Rows.{rowsOf}
 use Rattle.arbitration_run.specs.Sequence.{first}
 use Rattle.arbitration_turns.specs.Turns.{Turn, Reached, ended, more}
 use Rattle.arbitration_turns.proofs.Ran as ran

@@ -20,12 +20,12 @@ use denote.RattleType.{RattleType}
 use denote.Builtin.{u8, u16}
 use Rattle.usi.proofs.Usi as usi-type
 use Rattle.usi.proofs.Usi.Laws as usi-laws
-use Rattle.arbitration_run.proofs.pass.Pass as pass-type
-use Rattle.arbitration_run.proofs.pass.Pass.Laws as pass-laws
-use Rattle.arbitration_run.proofs.pass.Sampling as sampling-type
-use Rattle.arbitration_run.proofs.pass.Sampling.Laws as sampling-laws
-use Rattle.arbitration_run.proofs.pass.Seen as seen-type
-use Rattle.arbitration_run.proofs.pass.Seen.Laws as seen-laws
+use Rattle.arbitration_pass.proofs.pass.Pass as pass-type
+use Rattle.arbitration_pass.proofs.pass.Pass.Laws as pass-laws
+use Rattle.arbitration_pass.proofs.pass.Sampling as sampling-type
+use Rattle.arbitration_pass.proofs.pass.Sampling.Laws as sampling-laws
+use Rattle.arbitration_pass.proofs.pass.Seen as seen-type
+use Rattle.arbitration_pass.proofs.pass.Seen.Laws as seen-laws
 use Rattle.arbitration_run.proofs.sequencer.Sequencer as sequencer-type
 use Rattle.arbitration_run.proofs.sequencer.Sequencer.Laws as sequencer-laws
 use Rattle.arbitration_rules.proofs.Arbitrated as reply-type

@@ -14,13 +14,13 @@ use Rattle.laws.proofs.Loops.{gathered-more, any-more, drop-replicate}
 use Rattle.usi.specs.declared.Usi.{Usi}
 use Rattle.usi.specs.Module.{pullsScl, pullsSda}
 use Rattle.arbitration_rules.specs.Limits.{maxMasters}
-use Rattle.arbitration_run.specs.declared.pass.Pass.{Pass}
-use Rattle.arbitration_run.specs.declared.pass.Sampling.{Sampling}
-use Rattle.arbitration_run.specs.declared.pass.Seen.{Seen}
+use Rattle.arbitration_pass.specs.declared.pass.Pass.{Pass}
+use Rattle.arbitration_pass.specs.declared.pass.Sampling.{Sampling}
+use Rattle.arbitration_pass.specs.declared.pass.Seen.{Seen}
 use Rattle.arbitration_turns.proofs.Kept.{length-passed}
-use Rattle.arbitration_run.specs.Instants.{samples}
-use Rattle.arbitration_run.specs.Pass.{sampledAt, wroteAt, applied, passedFrom, passed, sampling, sampled, samplingPass}
-use Rattle.arbitration_run.specs.Pass.{lostBy, unseen, noted, seen}
+use Rattle.arbitration_pass.specs.Instants.{samples}
+use Rattle.arbitration_pass.specs.Pass.{sampledAt, wroteAt, applied, passedFrom, passed, sampling, sampled, samplingPass}
+use Rattle.arbitration_pass.specs.Pass.{lostBy, unseen, noted, seen}
 
 -- in a pass that samples each module samples, in another each writes its registers
 pub sampled-applied : (sampling : Sampling) (i : ℕ) (usi : Usi) → i < maxMasters

@@ -38,13 +38,13 @@ use denote.Triple.Statement.{Contract, Triple}
 use Rattle.usi.specs.declared.Usi.{Usi}
 use Rattle.usi.specs.Module.{powerUp}
 use Rattle.arbitration_rules.specs.Limits.{maxMasters}
-use Rattle.arbitration_run.specs.declared.pass.Pass.{Pass}
-use Rattle.arbitration_run.specs.declared.pass.Seen.{Seen}
-use Rattle.arbitration_run.specs.Pass.{passed, seen as seenBy, unseen, applied, noted}
-use Rattle.arbitration_run.proofs.unseen as unseen′
-use Rattle.arbitration_run.proofs.unseen.Symbol as unseen-def
-use Rattle.arbitration_run.proofs.noted as noted′
-use Rattle.arbitration_run.proofs.noted.Symbol as noted-def
+use Rattle.arbitration_pass.specs.declared.pass.Pass.{Pass}
+use Rattle.arbitration_pass.specs.declared.pass.Seen.{Seen}
+use Rattle.arbitration_pass.specs.Pass.{passed, seen as seenBy, unseen, applied, noted}
+use Rattle.arbitration_pass.proofs.unseen as unseen′
+use Rattle.arbitration_pass.proofs.unseen.Symbol as unseen-def
+use Rattle.arbitration_pass.proofs.noted as noted′
+use Rattle.arbitration_pass.proofs.noted.Symbol as noted-def
 use Rattle.arbitration.proofs.Walk.{ByValue, uint, have, typed, Local, empty, holds, locals, free-locals, local-at}
 use Rattle.arbitration.proofs.Walk.{field-at, sets, sets-last, puts, while-test, Meant, by-value}
 use Rattle.arbitration.proofs.Lent.{word, Borrowed, token, mine, elements, opened, Fits, open-table}

@@ -11,7 +11,7 @@ use Rattle.arbitration_rules.specs.declared.Arbitrated.{Arbitrated}
 use Rattle.arbitration_rules.specs.Limits.{maxMasters}
 use Rattle.arbitration_rules.specs.Reply.{Request, lengthsOf, refusal, refused}
 use Rattle.arbitration_run.specs.declared.sequencer.Sequencer.{Sequencer}
-use Rattle.arbitration_run.specs.Members.{seats}
+use Rattle.arbitration_members.specs.Members.{seats}
 use Rattle.arbitration_run.specs.Sequence.{first}
 use Rattle.arbitration.specs.declared.prepare.Prepared.{Prepared}
 

@@ -6,7 +6,7 @@ ghost use Prim.Native.Nat.{_≤_};
 ghost use lib.Dec.{eqb};
 ghost use lib.ListN.{length, take};
 ghost use Rattle.arbitration_rules.specs.Reply.{asked, refusal as applies};
-ghost use Rattle.arbitration_run.specs.Rows.{rowsOf};
+ghost use Rattle.arbitration_members.specs.Rows.{rowsOf};
 ghost use Rattle.arbitration_messages.specs.Gathered.{passing};
 ghost use Rattle.arbitration.specs.Prepared.{Short, Prepares, begunBy};
 use arbitration_messages::Messages;
@@ -132,5 +132,5 @@ pub(crate) fn rows(bytes: &[u8], parts: &[u32], counts: &[u32]) -> [[u16; MAX_LE
     let size = messages.size;
     let lengths = messages.lengths;
     let count = messages.count;
-    arbitration_run::rows(&sent[..size], &lengths[..count])
+    arbitration_members::rows(&sent[..size], &lengths[..count])
 }

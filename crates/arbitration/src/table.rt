@@ -4,14 +4,14 @@ ghost use mathlib.Core.Bool.{false};
 ghost use Prim.Native.Nat.{_≤_};
 ghost use lib.ListN.{length};
 ghost use Rattle.arbitration_rules.specs.Limits.{maxMasters};
-ghost use Rattle.arbitration_run.specs.Instants.{samples};
-ghost use Rattle.arbitration_run.specs.Pass.{passed, samplingPass, seen as seenBy};
+ghost use Rattle.arbitration_pass.specs.Instants.{samples};
+ghost use Rattle.arbitration_pass.specs.Pass.{passed, samplingPass, seen as seenBy};
 ghost use Rattle.arbitration_turns.specs.Turns.{Reached};
+use arbitration_pass::Pass;
+use arbitration_pass::Sampling;
+use arbitration_pass::Seen;
 use arbitration_rules::MAX_LENGTH;
 use arbitration_rules::MAX_MASTERS;
-use arbitration_run::Pass;
-use arbitration_run::Sampling;
-use arbitration_run::Seen;
 use arbitration_run::Sequencer;
 use usi::Usi;
 
@@ -21,12 +21,12 @@ fn sample_all(table: &mut [Usi], count: usize, sampling: Sampling) -> Seen
     ensures { λ r. ⌜ (now (table .exit) ≡ passed count (samplingPass sampling) (now (table .entry)))
         × (r ≡ seenBy count (passed count (samplingPass sampling) (now (table .entry)))) ⌝ }
 {
-    let mut seen = arbitration_run::unseen();
+    let mut seen = arbitration_pass::unseen();
     let mut i = 0;
     while i < count {
-        let usi = arbitration_run::sampled(table[i], sampling);
+        let usi = arbitration_pass::sampled(table[i], sampling);
         table[i] = usi;
-        seen = arbitration_run::noted(seen, usi, i);
+        seen = arbitration_pass::noted(seen, usi, i);
         i = i + 1;
     }
     seen
@@ -38,12 +38,12 @@ fn write_all(table: &mut [Usi], count: usize, pass: Pass) -> Seen
     ensures { λ r. ⌜ (now (table .exit) ≡ passed count pass (now (table .entry)))
         × (r ≡ seenBy count (passed count pass (now (table .entry)))) ⌝ }
 {
-    let mut seen = arbitration_run::unseen();
+    let mut seen = arbitration_pass::unseen();
     let mut i = 0;
     while i < count {
-        let usi = arbitration_run::wrote_at(table[i], pass, i);
+        let usi = arbitration_pass::wrote_at(table[i], pass, i);
         table[i] = usi;
-        seen = arbitration_run::noted(seen, usi, i);
+        seen = arbitration_pass::noted(seen, usi, i);
         i = i + 1;
     }
     seen

@@ -24,17 +24,6 @@ all-carried : (message : List ℕ) → carriedCount message [] ≡ length messag
 all-carried [] = refl
 all-carried (sent ∷ message) = ap suc (all-carried message)
 
-pub carried-within : (message acknowledges : List ℕ) → carriedCount message acknowledges ≤ length message
-carried-within [] acknowledges = omega arith
-carried-within (sent ∷ message) [] = omega (arith, all-carried message)
-carried-within (sent ∷ message) (acknowledge ∷ acknowledges) =
-    go (eqb acknowledge 1) (carried-within message acknowledges)
-  where
-    go : (refuses : Bool) → carriedCount message acknowledges ≤ length message
-        → cond refuses 1 (suc (carriedCount message acknowledges)) ≤ suc (length message)
-    go true rest = omega arith
-    go false rest = omega arith
-
 module _ (message acknowledges : List ℕ) (i : ℕ) (carried : Carried message acknowledges i) where
   -- one of both has ended
   pub carried-all : min (length message) (length acknowledges) ≤ i

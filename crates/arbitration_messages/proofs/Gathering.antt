@@ -24,7 +24,8 @@ use Rattle.arbitration_messages.specs.Gathered.{without, sending, gather
 use Rattle.arbitration_messages.proofs.Sums.{total-append, total-none}
 use Rattle.arbitration_messages.proofs.Limited.{limited-bad}
 use Rattle.arbitration_messages.proofs.Sound.{Sound, sound, sound-lengths, sound-total, sound-bound, sound-short}
-use Rattle.arbitration_messages.proofs.Sound.{sound-marks, Short, Small, marks-small, everyone-at, everyone-same}
+use Rattle.arbitration_messages.proofs.Sound.{sound-marks, Short, Small, everyone-at, everyone-same}
+use Rattle.arbitration_rules.proofs.Pieces.{all-small}
 use Rattle.arbitration_messages.proofs.Sound.{sent-length, sent-joined}
 
 -- the limited lengths say which message is bad
@@ -133,7 +134,7 @@ module _ (bytes parts counts : List ℕ) where
               let most : Small 256 = omega arith in
               rw marks-are
               (everyone-at none
-              (everyone-append (marks-small (cut counts parts))
+              (everyone-append (all-small (cut counts parts))
               (everyone-same Small 256 (maxSent - total parts) most)) i)
 
       -- the code's test of 13, over the sum of the limited lengths

@@ -15,9 +15,9 @@ use Rattle.laws.proofs.Bools.{neither}
 use Rattle.laws.proofs.Lists.{everyone-append, zipWith-length}
 use Rattle.arbitration_rules.specs.Limits.{maxLength}
 use Rattle.arbitration_rules.specs.Reply.{cut, total, isEmpty, itself, badMessage, marksAfter, marksOf, allMarks}
+use Rattle.arbitration_rules.proofs.Pieces.{marks-length, all-length, split-total}
 use Rattle.arbitration_messages.specs.Lengths.{limited}
 use Rattle.arbitration_messages.specs.Marks.{maxSent, started, joinedOf}
-use Rattle.arbitration_messages.proofs.Sums.{total-append}
 use Rattle.arbitration_messages.proofs.Limited.{limited-all}
 
 -- lists joined
@@ -35,27 +35,6 @@ after-append (suc n ∷ parts) more =
     ap (λ (l : List ℕ). 0 ∷ replicate n 256 ++ l) (after-append parts more)
     ∙ sym (append-assoc (0 ∷ replicate n 256) (marksAfter parts) (marksAfter more))
 
-after-length : (parts : List ℕ) → length (marksAfter parts) ≡ total parts
-after-length [] = refl
-after-length (zero ∷ parts) = omega (arith, after-length parts)
-after-length (suc n ∷ parts) =
-    omega (
-      arith,
-      length-append (replicate n 256) (marksAfter parts),
-      length-replicate {A = ℕ} n 256,
-      after-length parts,
-    )
-
-pub marks-length : (parts : List ℕ) → length (marksOf parts) ≡ total parts
-marks-length [] = refl
-marks-length (part ∷ parts) =
-    omega (
-      arith,
-      length-append (replicate part 256) (marksAfter parts),
-      length-replicate {A = ℕ} part 256,
-      after-length parts,
-    )
-
 -- a message's first part begins with no restart
 first-marks : (parts rest : List ℕ) → 0 < length parts → any isEmpty parts ≡ false
     → set (marksAfter parts ++ rest) 0 256 ≡ marksOf parts ++ rest
@@ -70,26 +49,6 @@ Small mark = mark ≤ 256
 pub everyone-same : (P : ℕ → Type 0) (a count : ℕ) → P a → Everyone P (replicate count a)
 everyone-same P a zero p = nobody
 everyone-same P a (suc count) p = also p (everyone-same P a count p)
-
-after-small : (parts : List ℕ) → Everyone Small (marksAfter parts)
-after-small [] = nobody
-after-small (zero ∷ parts) = after-small parts
-after-small (suc n ∷ parts) =
-    let none : Small 0 = omega arith in
-    let most : Small 256 = omega arith in
-    also none (everyone-append (everyone-same Small 256 n most) (after-small parts))
-
-pub marks-small : (messages : List (List ℕ)) → Everyone Small (allMarks messages)
-marks-small [] = nobody
-marks-small ([] ∷ messages) = marks-small messages
-marks-small ((part ∷ parts) ∷ messages) =
-    let most : Small 256 = omega arith in
-    everyone-append (everyone-append (everyone-same Small 256 part most) (after-small parts)) (marks-small messages)
-
-all-length : (messages : List (List ℕ)) → length (allMarks messages) ≡ total (map total messages)
-all-length [] = refl
-all-length (parts ∷ messages) =
-    omega (arith, length-append (marksOf parts) (allMarks messages), marks-length parts, all-length messages)
 
 -- what holds of everyone holds at an index, and of what is past the end
 pub everyone-at : {P : ℕ → Type 0} {list : List ℕ} → P 0 → Everyone P list → (i : ℕ) → P (getD list i 0)
@@ -140,10 +99,6 @@ Short length = length ≤ maxLength
 pub sound-short : {counts parts : List ℕ} → Sound counts parts → Everyone Short (map total (cut counts parts))
 sound-short no-more = nobody
 sound-short (message some enough full short more) = also short (sound-short more)
-
-split-total : (count : ℕ) (parts : List ℕ) → total (take count parts) + total (drop count parts) ≡ total parts
-split-total count parts =
-    sym (total-append (take count parts) (drop count parts)) ∙ ap total (take-append-drop count parts)
 
 pub sound-total : {counts parts : List ℕ} → Sound counts parts → total (map total (cut counts parts)) ≡ total parts
 sound-total no-more = refl

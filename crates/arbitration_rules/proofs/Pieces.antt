@@ -58,6 +58,16 @@ marks-small : (parts : List ℕ) → Everyone (λ mark. mark ≤ 256) (marksOf p
 marks-small [] = nobody
 marks-small (part ∷ parts) = everyone-append (same-marks part) (after-small parts)
 
+-- and so have all messages
+pub all-length : (all : List (List ℕ)) → length (allMarks all) ≡ total (map total all)
+all-length [] = refl
+all-length (parts ∷ more) =
+    length-append (marksOf parts) (allMarks more) ∙ omega (arith, marks-length parts, all-length more)
+
+pub all-small : (all : List (List ℕ)) → Everyone (λ mark. mark ≤ 256) (allMarks all)
+all-small [] = nobody
+all-small (parts ∷ more) = everyone-append (marks-small parts) (all-small more)
+
 -- two lists zipped, cut where the second is
 zip-take : (bytes marks more : List ℕ)
     → take (length marks) (zipWith _+_ bytes (marks ++ more)) ≡ zipWith _+_ (take (length marks) bytes) marks
@@ -145,6 +155,12 @@ piece-length bytes parts enough =
     zipWith-length _+_ (take (total parts) bytes) (marksOf parts)
     ∙ omega (arith, length-take (total parts) bytes, marks-length parts)
 
+-- a total in two
+pub split-total : (count : ℕ) (parts : List ℕ) → total (take count parts) + total (drop count parts) ≡ total parts
+split-total zero parts = omega arith
+split-total (suc count) [] = refl
+split-total (suc count) (part ∷ parts) = let rest = split-total count parts in omega (arith, rest)
+
 -- the parts that are cut: as many bytes as all of them say, and none is bad
 cut-total : (counts parts : List ℕ) → total counts ≡ length parts
     → total (map total (cut counts parts)) ≡ total parts
@@ -153,12 +169,7 @@ cut-total [] (part ∷ parts) same = absurd (omega arith)
 cut-total (count ∷ counts) parts same =
     ap (λ (sum : ℕ). total (take count parts) + sum)
     (cut-total counts (drop count parts) (omega (arith, length-drop count parts)))
-    ∙ split count parts
-  where
-    split : (count : ℕ) (parts : List ℕ) → total (take count parts) + total (drop count parts) ≡ total parts
-    split zero parts = omega arith
-    split (suc count) [] = refl
-    split (suc count) (part ∷ parts) = let rest = split count parts in omega (arith, rest)
+    ∙ split-total count parts
 
 cut-good : (counts parts : List ℕ) → total counts ≡ length parts
     → any itself (zipWith badMessage counts (cut counts parts)) ≡ false → Everyone Good (cut counts parts)

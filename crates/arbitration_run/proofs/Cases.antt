@@ -1,4 +1,4 @@
--- What the arm that takes the rest of a match says of each operation and effect.
+-- What the arm that takes the rest of a match says of each effect.
 use Prim.Native.Nat.{ℕ}
 use mathlib.Core.Path.{_≡_, refl, sym}
 use mathlib.Core.Bool.{Bool, true, false, cond, _&&_}
@@ -9,73 +9,12 @@ use lib.ListN.{length, set}
 use types.Run.{OneOf, miss}
 use lib.Seq.{set-out}
 use denote.Enum.Declared.{tagOf}
-use Rattle.arbitration_run.specs.declared.instants.Operation.{Operation}
-use Rattle.arbitration_run.specs.declared.instants.Operation.the-variants as does
-use Rattle.arbitration_run.specs.declared.instants.Effect.{Effect}
-use Rattle.arbitration_run.specs.declared.instants.Effect.the-variants as then
-use Rattle.arbitration_run.specs.Instants.{samples, letsGo, heeds}
-use Rattle.arbitration_run.specs.declared.members.Members.{Members}
+use Rattle.arbitration_pass.specs.declared.instants.Effect.{Effect}
+use Rattle.arbitration_pass.specs.declared.instants.Effect.the-variants as then
+use Rattle.arbitration_pass.proofs.instants.Effect as effects
 use Rattle.arbitration_run.specs.declared.wire.Wire.{Wire}
-use Rattle.arbitration_run.specs.Members as members
 use Rattle.arbitration_run.specs.Wire as wire
 use Rattle.arbitration_run.specs.Sequence.{sentAfter, carriedBy}
-use Rattle.arbitration_run.proofs.instants.Operation as operations
-use Rattle.arbitration_run.proofs.instants.Effect as effects
-
-pub no-sample : (operation : Operation)
-    → OneOf (0 ∷ 2 ∷ 3 ∷ 4 ∷ 5 ∷ 6 ∷ 7 ∷ 8 ∷ 9 ∷ 10 ∷ []) (tagOf operations.the-type operation)
-    → samples operation ≡ false
-no-sample does.Enter keys = refl
-no-sample does.Sample keys = absurd (miss (0 ∷ 2 ∷ 3 ∷ 4 ∷ 5 ∷ 6 ∷ 7 ∷ 8 ∷ 9 ∷ 10 ∷ []) 1 tt keys)
-no-sample does.Pull keys = refl
-no-sample does.Clear keys = refl
-no-sample does.Load keys = refl
-no-sample does.LetGo keys = refl
-no-sample does.Lower keys = refl
-no-sample does.Raise keys = refl
-no-sample does.Rest keys = refl
-no-sample does.Rise keys = refl
-no-sample does.Heed keys = refl
-
-pub keeps-on : (operation : Operation)
-    → OneOf (0 ∷ 1 ∷ 2 ∷ 3 ∷ 4 ∷ 6 ∷ 7 ∷ 8 ∷ 9 ∷ 10 ∷ []) (tagOf operations.the-type operation)
-    → letsGo operation ≡ false
-keeps-on does.Enter keys = refl
-keeps-on does.Sample keys = refl
-keeps-on does.Pull keys = refl
-keeps-on does.Clear keys = refl
-keeps-on does.Load keys = refl
-keeps-on does.LetGo keys = absurd (miss (0 ∷ 1 ∷ 2 ∷ 3 ∷ 4 ∷ 6 ∷ 7 ∷ 8 ∷ 9 ∷ 10 ∷ []) 5 tt keys)
-keeps-on does.Lower keys = refl
-keeps-on does.Raise keys = refl
-keeps-on does.Rest keys = refl
-keeps-on does.Rise keys = refl
-keeps-on does.Heed keys = refl
-
-pub heedless : (operation : Operation)
-    → OneOf (0 ∷ 1 ∷ 2 ∷ 3 ∷ 4 ∷ 5 ∷ 6 ∷ 7 ∷ 8 ∷ 9 ∷ []) (tagOf operations.the-type operation)
-    → heeds operation ≡ false
-heedless does.Enter keys = refl
-heedless does.Sample keys = refl
-heedless does.Pull keys = refl
-heedless does.Clear keys = refl
-heedless does.Load keys = refl
-heedless does.LetGo keys = refl
-heedless does.Lower keys = refl
-heedless does.Raise keys = refl
-heedless does.Rest keys = refl
-heedless does.Rise keys = refl
-heedless does.Heed keys = absurd (miss (0 ∷ 1 ∷ 2 ∷ 3 ∷ 4 ∷ 5 ∷ 6 ∷ 7 ∷ 8 ∷ 9 ∷ []) 10 tt keys)
-
-pub members-stay : (effect : Effect) → OneOf (0 ∷ 1 ∷ 2 ∷ 3 ∷ 4 ∷ []) (tagOf effects.the-type effect)
-    → (al : List Bool) (index : ℕ) (stood : Members) → stood ≡ members.affected effect al index stood
-members-stay then.Nothing keys al index stood = refl
-members-stay then.Begin keys al index stood = refl
-members-stay then.Release keys al index stood = refl
-members-stay then.Acknowledge keys al index stood = refl
-members-stay then.Record keys al index stood = refl
-members-stay (then.Bit bit) keys al index stood = absurd (miss (0 ∷ 1 ∷ 2 ∷ 3 ∷ 4 ∷ []) 5 tt keys)
-members-stay then.Settle keys al index stood = absurd (miss (0 ∷ 1 ∷ 2 ∷ 3 ∷ 4 ∷ []) 6 tt keys)
 
 pub none-carried : (effect : Effect) → OneOf (0 ∷ 1 ∷ 2 ∷ 3 ∷ 4 ∷ 6 ∷ []) (tagOf effects.the-type effect)
     → (room sent byte : ℕ) (carried : List ℕ)

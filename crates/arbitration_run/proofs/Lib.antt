@@ -1,5 +1,1 @@
-pub mod Walk
 pub mod Cases
-pub mod Judging
-pub mod Columns
-pub mod Someone

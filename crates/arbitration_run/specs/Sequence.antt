@@ -4,19 +4,19 @@ use mathlib.Core.Bool.{Bool, cond, true, false, _&&_, _||_}
 use mathlib.Core.List.{List}
 use lib.Dec.{eqb, ltb}
 use lib.ListN.{length, getD, set}
-use Rattle.arbitration_run.specs.declared.instants.Effect.{Effect}
-use Rattle.arbitration_run.specs.declared.instants.Effect.the-variants.{Nothing, Begin, Release, Acknowledge}
-use Rattle.arbitration_run.specs.declared.instants.Effect.the-variants.{Record, Bit, Settle}
-use Rattle.arbitration_run.specs.declared.instants.Instant.{Instant}
-use Rattle.arbitration_run.specs.declared.instants.Part.{Part}
-use Rattle.arbitration_run.specs.declared.instants.Part.the-variants.{Entry, Opening, Restart, Byte, Closing}
-use Rattle.arbitration_run.specs.declared.pass.Pass.{Pass}
-use Rattle.arbitration_run.specs.declared.pass.Seen.{Seen}
+use Rattle.arbitration_pass.specs.declared.instants.Effect.{Effect}
+use Rattle.arbitration_pass.specs.declared.instants.Effect.the-variants.{Nothing, Begin, Release, Acknowledge}
+use Rattle.arbitration_pass.specs.declared.instants.Effect.the-variants.{Record, Bit, Settle}
+use Rattle.arbitration_pass.specs.declared.instants.Instant.{Instant}
+use Rattle.arbitration_pass.specs.declared.instants.Part.{Part}
+use Rattle.arbitration_pass.specs.declared.instants.Part.the-variants.{Entry, Opening, Restart, Byte, Closing}
+use Rattle.arbitration_pass.specs.declared.pass.Pass.{Pass}
+use Rattle.arbitration_pass.specs.declared.pass.Seen.{Seen}
 use Rattle.arbitration_run.specs.declared.sequencer.Sequencer.{Sequencer}
 use Rattle.arbitration_run.specs.declared.wire.Wire.{Wire}
-use Rattle.arbitration_run.specs.Instants.{instant, last}
-use Rattle.arbitration_run.specs.Members as members
-use Rattle.arbitration_run.specs.Rows.{columnOf}
+use Rattle.arbitration_pass.specs.Instants.{instant, last}
+use Rattle.arbitration_members.specs.Members as members
+use Rattle.arbitration_members.specs.Rows.{columnOf}
 use Rattle.arbitration_run.specs.Wire as wire
 
 -- before power-up, with messages of these lengths

@@ -6,13 +6,13 @@ use lib.Dec.{ltb}
 use lib.ListN.{set}
 use Rattle.bits.specs.Positions.{shiftIn}
 use Rattle.levels.specs.Levels.{levelOf, sda}
-use Rattle.arbitration_run.specs.declared.instants.Operation.{Operation}
-use Rattle.arbitration_run.specs.declared.instants.Effect.{Effect}
-use Rattle.arbitration_run.specs.declared.instants.Effect.the-variants.{Nothing, Begin, Release, Acknowledge}
-use Rattle.arbitration_run.specs.declared.instants.Effect.the-variants.{Record, Bit, Settle}
-use Rattle.arbitration_run.specs.declared.pass.Seen.{Seen}
+use Rattle.arbitration_pass.specs.declared.instants.Operation.{Operation}
+use Rattle.arbitration_pass.specs.declared.instants.Effect.{Effect}
+use Rattle.arbitration_pass.specs.declared.instants.Effect.the-variants.{Nothing, Begin, Release, Acknowledge}
+use Rattle.arbitration_pass.specs.declared.instants.Effect.the-variants.{Record, Bit, Settle}
+use Rattle.arbitration_pass.specs.declared.pass.Seen.{Seen}
 use Rattle.arbitration_run.specs.declared.wire.Wire.{Wire}
-use Rattle.arbitration_run.specs.Instants.{samples}
+use Rattle.arbitration_pass.specs.Instants.{samples}
 
 abbrev pub shown : Wire → ℕ
 shown wire = levelOf (not (wire .scl)) (not (wire .pull || wire .sda))

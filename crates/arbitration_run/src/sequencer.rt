@@ -2,14 +2,13 @@
 ghost use mathlib.Core.Path.{_≡_};
 ghost use lib.ListN.{length};
 ghost use Rattle.arbitration_run.specs.Sequence as rule;
-use crate::instants::Effect;
-use crate::instants::Instant;
-use crate::instants::Part;
-use crate::members::Members;
-use crate::messages;
-use crate::pass::Pass;
-use crate::pass::Seen;
 use crate::wire::Wire;
+use arbitration_members::Members;
+use arbitration_pass::Effect;
+use arbitration_pass::Instant;
+use arbitration_pass::Part;
+use arbitration_pass::Pass;
+use arbitration_pass::Seen;
 use arbitration_rules::MAX_LENGTH;
 use arbitration_rules::MAX_MASTERS;
 
@@ -121,7 +120,7 @@ impl Sequencer {
     pub fn loaded(self, rows: [[u16; MAX_LENGTH]; MAX_MASTERS]) -> Sequencer
         ensures { λ r. ⌜ r ≡ rule.loaded rows self ⌝ }
     {
-        let column = messages::column(rows, self.index);
+        let column = arbitration_members::column(rows, self.index);
         let members = self.members;
         let loaded = self.taking(column);
         if members.restarting(column) {

@@ -3,9 +3,9 @@
 ghost use mathlib.Core.Path.{_≡_};
 ghost use lib.ListN.{length};
 ghost use Rattle.arbitration_run.specs.Wire as rule;
-use crate::instants::Effect;
-use crate::instants::Operation;
-use crate::pass::Seen;
+use arbitration_pass::Effect;
+use arbitration_pass::Operation;
+use arbitration_pass::Seen;
 
 pub struct Wire {
     // whether any module pulls SCL, and SDA; whether the acknowledge pulls SDA

@@ -11,20 +11,20 @@ use Rattle.arbitration_rules.specs.Limits.{maxMasters, maxLength}
 use Rattle.arbitration_rules.specs.Masters.{stillIn}
 use Rattle.arbitration_rules.specs.Outcome.{byteAt}
 use Rattle.arbitration_rules.specs.Run.{Bus, perform, writes}
-use Rattle.arbitration_run.specs.declared.instants.Operation.{Operation}
-use Rattle.arbitration_run.specs.declared.instants.Operation.the-variants.{Pull, Clear, Load, LetGo, Lower, Raise}
-use Rattle.arbitration_run.specs.declared.instants.Operation.the-variants.{Rest, Rise, Heed}
-use Rattle.arbitration_run.specs.declared.instants.Effect.{Effect}
-use Rattle.arbitration_run.specs.declared.instants.Effect.the-variants.{Nothing, Begin, Release, Acknowledge, Record}
-use Rattle.arbitration_run.specs.declared.instants.Effect.the-variants.{Bit, Settle}
-use Rattle.arbitration_run.specs.declared.instants.Instant.{Instant}
-use Rattle.arbitration_run.specs.declared.instants.Part.{Part}
-use Rattle.arbitration_run.specs.declared.instants.Part.the-variants.{Entry, Opening, Restart, Byte, Closing}
-use Rattle.arbitration_run.specs.declared.members.Members.{Members}
+use Rattle.arbitration_pass.specs.declared.instants.Operation.{Operation}
+use Rattle.arbitration_pass.specs.declared.instants.Operation.the-variants.{Pull, Clear, Load, LetGo, Lower, Raise}
+use Rattle.arbitration_pass.specs.declared.instants.Operation.the-variants.{Rest, Rise, Heed}
+use Rattle.arbitration_pass.specs.declared.instants.Effect.{Effect}
+use Rattle.arbitration_pass.specs.declared.instants.Effect.the-variants.{Nothing, Begin, Release, Acknowledge, Record}
+use Rattle.arbitration_pass.specs.declared.instants.Effect.the-variants.{Bit, Settle}
+use Rattle.arbitration_pass.specs.declared.instants.Instant.{Instant}
+use Rattle.arbitration_pass.specs.declared.instants.Part.{Part}
+use Rattle.arbitration_pass.specs.declared.instants.Part.the-variants.{Entry, Opening, Restart, Byte, Closing}
+use Rattle.arbitration_members.specs.declared.members.Members.{Members}
 use Rattle.arbitration_run.specs.declared.wire.Wire.{Wire}
-use Rattle.arbitration_run.specs.Instants.{write, sample, turn, condition, instant}
-use Rattle.arbitration_run.specs.Members as members
-use Rattle.arbitration_run.specs.Pass.{registers, passed, seen}
+use Rattle.arbitration_pass.specs.Instants.{write, sample, turn, condition, instant}
+use Rattle.arbitration_members.specs.Members as members
+use Rattle.arbitration_pass.specs.Pass.{registers, passed, seen}
 use Rattle.arbitration_run.specs.Wire as wires
 use Rattle.arbitration_run.specs.Sequence.{sentAfter, carriedBy}
 use Rattle.arbitration_turns.proofs.Scripts.{ofOperation, spelled}

@@ -9,13 +9,13 @@ use Rattle.bits.specs.Positions.{shiftIn}
 use Rattle.levels.specs.Levels.{sda}
 use Rattle.laws.proofs.Bools.{both, bool-byte}
 use Rattle.laws.proofs.Search.{all-below}
-use Rattle.arbitration_run.specs.declared.instants.Effect.{Effect}
-use Rattle.arbitration_run.specs.declared.instants.Effect.the-variants.{Nothing, Begin, Release, Acknowledge, Record}
-use Rattle.arbitration_run.specs.declared.instants.Effect.the-variants.{Bit, Settle}
-use Rattle.arbitration_run.specs.declared.instants.Part.{Part}
-use Rattle.arbitration_run.specs.declared.instants.Part.the-variants.{Entry, Opening, Restart, Byte, Closing}
+use Rattle.arbitration_pass.specs.declared.instants.Effect.{Effect}
+use Rattle.arbitration_pass.specs.declared.instants.Effect.the-variants.{Nothing, Begin, Release, Acknowledge, Record}
+use Rattle.arbitration_pass.specs.declared.instants.Effect.the-variants.{Bit, Settle}
+use Rattle.arbitration_pass.specs.declared.instants.Part.{Part}
+use Rattle.arbitration_pass.specs.declared.instants.Part.the-variants.{Entry, Opening, Restart, Byte, Closing}
 use Rattle.arbitration_run.specs.declared.wire.Wire.{Wire}
-use Rattle.arbitration_run.specs.Instants.{byte}
+use Rattle.arbitration_pass.specs.Instants.{byte}
 use Rattle.arbitration_run.specs.Wire as wires
 
 -- a number of so many bits is below this

@@ -8,7 +8,7 @@ use lib.Seq.{getD-take}
 use Rattle.laws.proofs.Lists.{map-map, map-alike, everyone}
 use Rattle.arbitration_rules.specs.Limits.{maxMasters, maxLength}
 use Rattle.arbitration_rules.specs.Outcome.{byteOf, sentAt, byteAt}
-use Rattle.arbitration_run.specs.Rows.{emptyRow, rowOf, rowsOf, columnOf}
+use Rattle.arbitration_members.specs.Rows.{emptyRow, rowOf, rowsOf, columnOf}
 
 -- something of each message, and a blank for a master without one
 abbrev pub column : (List ℕ → ℕ) → ℕ → List (List ℕ) → List ℕ

@@ -9,11 +9,11 @@ use lib.ListN.{length, drop, replicate}
 use Rattle.laws.specs.Search.{any}
 use Rattle.usi.specs.declared.Usi.{Usi}
 use Rattle.arbitration_rules.specs.Masters.{Master}
-use Rattle.arbitration_run.specs.declared.instants.Effect.{Effect}
-use Rattle.arbitration_run.specs.declared.instants.Effect.the-variants.{Nothing, Begin, Release, Acknowledge, Record}
-use Rattle.arbitration_run.specs.declared.instants.Effect.the-variants.{Bit, Settle}
-use Rattle.arbitration_run.specs.declared.members.Members.{Members}
-use Rattle.arbitration_run.specs.Members as members
+use Rattle.arbitration_pass.specs.declared.instants.Effect.{Effect}
+use Rattle.arbitration_pass.specs.declared.instants.Effect.the-variants.{Nothing, Begin, Release, Acknowledge, Record}
+use Rattle.arbitration_pass.specs.declared.instants.Effect.the-variants.{Bit, Settle}
+use Rattle.arbitration_members.specs.declared.members.Members.{Members}
+use Rattle.arbitration_members.specs.Members as members
 use Rattle.arbitration_turns.proofs.View.{mastersFrom}
 
 -- nobody past a count contends

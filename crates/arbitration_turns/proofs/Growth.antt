@@ -9,8 +9,8 @@ use lib.ListN.{length, length-append}
 use Rattle.arbitration_rules.specs.Run.{Bus, Instant, does, loads, samples, records, pulls, judges, takes, carries}
 use Rattle.arbitration_rules.specs.Run.{settles}
 use Rattle.arbitration_rules.specs.Run.{performed, perform, turnOf, through, restarting, bytes}
-use Rattle.arbitration_run.specs.declared.instants.Effect.the-variants.{Record, Bit}
-use Rattle.arbitration_run.specs.Instants.{sample}
+use Rattle.arbitration_pass.specs.declared.instants.Effect.the-variants.{Record, Bit}
+use Rattle.arbitration_pass.specs.Instants.{sample}
 use Rattle.arbitration_turns.proofs.Scripts.{further, ofTick, spelled}
 
 pub record Grows (one other : Bus) : Type 0 where

@@ -12,15 +12,15 @@ use lib.Seq.{drop-drop, drop-set-lt, set-out}
 use Rattle.laws.proofs.Lists.{zipWith-length}
 use Rattle.usi.specs.declared.Usi.{Usi}
 use Rattle.arbitration_rules.specs.Limits.{maxMasters}
-use Rattle.arbitration_run.specs.declared.instants.Operation.{Operation}
-use Rattle.arbitration_run.specs.declared.instants.Effect.{Effect}
-use Rattle.arbitration_run.specs.declared.instants.Effect.the-variants.{Nothing, Begin, Release, Acknowledge, Record}
-use Rattle.arbitration_run.specs.declared.instants.Effect.the-variants.{Bit, Settle}
-use Rattle.arbitration_run.specs.declared.members.Members.{Members}
-use Rattle.arbitration_run.specs.declared.pass.Pass.{Pass}
+use Rattle.arbitration_pass.specs.declared.instants.Operation.{Operation}
+use Rattle.arbitration_pass.specs.declared.instants.Effect.{Effect}
+use Rattle.arbitration_pass.specs.declared.instants.Effect.the-variants.{Nothing, Begin, Release, Acknowledge, Record}
+use Rattle.arbitration_pass.specs.declared.instants.Effect.the-variants.{Bit, Settle}
+use Rattle.arbitration_members.specs.declared.members.Members.{Members}
+use Rattle.arbitration_pass.specs.declared.pass.Pass.{Pass}
 use Rattle.arbitration_run.specs.declared.wire.Wire.{Wire}
-use Rattle.arbitration_run.specs.Members as members
-use Rattle.arbitration_run.specs.Pass.{passedFrom, passed, seen, lostBy}
+use Rattle.arbitration_members.specs.Members as members
+use Rattle.arbitration_pass.specs.Pass.{passedFrom, passed, seen, lostBy}
 use Rattle.arbitration_run.specs.Wire as wires
 use Rattle.arbitration_run.specs.Sequence.{sentAfter, carriedBy}
 use Rattle.arbitration_turns.proofs.Pieces.{Sized}

@@ -12,11 +12,11 @@ use Rattle.usi.specs.declared.Usi.{Usi}
 use Rattle.arbitration_rules.specs.Limits.{maxMasters}
 use Rattle.arbitration_rules.specs.Masters.{Master, judged, settled}
 use Rattle.arbitration_rules.specs.Run.{Bus}
-use Rattle.arbitration_run.specs.declared.members.Members.{Members}
-use Rattle.arbitration_run.specs.declared.pass.Pass.{Pass}
+use Rattle.arbitration_members.specs.declared.members.Members.{Members}
+use Rattle.arbitration_pass.specs.declared.pass.Pass.{Pass}
 use Rattle.arbitration_run.specs.declared.wire.Wire.{Wire}
-use Rattle.arbitration_run.specs.Members as members
-use Rattle.arbitration_run.specs.Pass.{passed, lostBy}
+use Rattle.arbitration_members.specs.Members as members
+use Rattle.arbitration_pass.specs.Pass.{passed, lostBy}
 use Rattle.arbitration_turns.proofs.View.{join, mastersFrom, Treats, from-on}
 
 -- the bus that a table, what the masters know, the wire and the two buffers stand for

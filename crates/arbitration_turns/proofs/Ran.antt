@@ -20,13 +20,13 @@ use Rattle.arbitration_rules.specs.Reply.{cut, absent, seatOf}
 use Rattle.arbitration_rules.specs.Run.{Bus, Instant, perform, powered, setUp, start, stop, bytes as steps, run}
 use Rattle.arbitration_rules.proofs.Cut.{cut-count}
 use Rattle.arbitration_rules.proofs.Phases.{perform-append}
-use Rattle.arbitration_run.specs.declared.instants.Operation.the-variants.{Enter}
-use Rattle.arbitration_run.specs.declared.instants.Effect.the-variants.{Nothing}
-use Rattle.arbitration_run.specs.declared.instants.Part.the-variants.{Opening}
-use Rattle.arbitration_run.specs.declared.members.Members.{Members}
-use Rattle.arbitration_run.specs.Members as members
-use Rattle.arbitration_run.specs.Pass.{registers, writtenAll, passed, seen}
-use Rattle.arbitration_run.specs.Rows.{rowsOf}
+use Rattle.arbitration_pass.specs.declared.instants.Operation.the-variants.{Enter}
+use Rattle.arbitration_pass.specs.declared.instants.Effect.the-variants.{Nothing}
+use Rattle.arbitration_pass.specs.declared.instants.Part.the-variants.{Opening}
+use Rattle.arbitration_members.specs.declared.members.Members.{Members}
+use Rattle.arbitration_members.specs.Members as members
+use Rattle.arbitration_pass.specs.Pass.{registers, writtenAll, passed, seen}
+use Rattle.arbitration_members.specs.Rows.{rowsOf}
 use Rattle.arbitration_run.specs.Sequence as sequence
 use Rattle.arbitration_turns.specs.Turns.{Turn, ready, turnAfter, Reached, ended, more}
 use Rattle.arbitration_turns.proofs.View.{join, mastersFrom, stepped, Treats}

@@ -10,17 +10,17 @@ use Rattle.arbitration_rules.specs.Masters.{everybody, stillIn, beaten, losers,
 use Rattle.arbitration_rules.specs.Run as run
 use Rattle.arbitration_rules.specs.Run.{does, loads, samples, records, pulls, judges, takes, carries, settles}
 use Rattle.arbitration_rules.specs.Run.{writes, setUp, start, restart, byteTurn, stop}
-use Rattle.arbitration_run.specs.declared.instants.Operation.{Operation}
-use Rattle.arbitration_run.specs.declared.instants.Operation.the-variants.{Enter, Sample, Pull, Clear, Load, LetGo}
-use Rattle.arbitration_run.specs.declared.instants.Operation.the-variants.{Lower, Raise, Rest, Rise, Heed}
-use Rattle.arbitration_run.specs.declared.instants.Effect.{Effect}
-use Rattle.arbitration_run.specs.declared.instants.Effect.the-variants.{Nothing, Begin, Release, Acknowledge, Record}
-use Rattle.arbitration_run.specs.declared.instants.Effect.the-variants.{Bit, Settle}
-use Rattle.arbitration_run.specs.declared.instants.Instant.{Instant}
-use Rattle.arbitration_run.specs.declared.instants.Part.{Part}
-use Rattle.arbitration_run.specs.declared.instants.Part.the-variants.{Opening, Restart, Byte, Closing}
-use Rattle.arbitration_run.specs.Instants.{instant, last}
-use Rattle.arbitration_run.specs.Pass.{registers}
+use Rattle.arbitration_pass.specs.declared.instants.Operation.{Operation}
+use Rattle.arbitration_pass.specs.declared.instants.Operation.the-variants.{Enter, Sample, Pull, Clear, Load, LetGo}
+use Rattle.arbitration_pass.specs.declared.instants.Operation.the-variants.{Lower, Raise, Rest, Rise, Heed}
+use Rattle.arbitration_pass.specs.declared.instants.Effect.{Effect}
+use Rattle.arbitration_pass.specs.declared.instants.Effect.the-variants.{Nothing, Begin, Release, Acknowledge, Record}
+use Rattle.arbitration_pass.specs.declared.instants.Effect.the-variants.{Bit, Settle}
+use Rattle.arbitration_pass.specs.declared.instants.Instant.{Instant}
+use Rattle.arbitration_pass.specs.declared.instants.Part.{Part}
+use Rattle.arbitration_pass.specs.declared.instants.Part.the-variants.{Opening, Restart, Byte, Closing}
+use Rattle.arbitration_pass.specs.Instants.{instant, last}
+use Rattle.arbitration_pass.specs.Pass.{registers}
 
 -- what an operation spells in the byte at an index
 abbrev pub ofOperation : Operation → ℕ → List run.Instant

@@ -11,10 +11,10 @@ use Rattle.arbitration_rules.specs.Masters.{Master}
 use Rattle.arbitration_rules.specs.Run as script
 use Rattle.arbitration_rules.specs.Run.{Bus, perform, byteTurn, stop, through}
 use Rattle.arbitration_rules.proofs.Phases.{perform-append}
-use Rattle.arbitration_run.specs.declared.instants.Instant.{Instant}
-use Rattle.arbitration_run.specs.declared.instants.Part.{Part}
-use Rattle.arbitration_run.specs.declared.instants.Part.the-variants.{Entry, Opening, Restart, Byte, Closing}
-use Rattle.arbitration_run.specs.Instants.{instant, last}
+use Rattle.arbitration_pass.specs.declared.instants.Instant.{Instant}
+use Rattle.arbitration_pass.specs.declared.instants.Part.{Part}
+use Rattle.arbitration_pass.specs.declared.instants.Part.the-variants.{Entry, Opening, Restart, Byte, Closing}
+use Rattle.arbitration_pass.specs.Instants.{instant, last}
 use Rattle.arbitration_run.specs.Sequence.{acknowledgeAt}
 use Rattle.arbitration_turns.proofs.Scripts.{spelled, remaining, remaining-next, remaining-last}
 use Rattle.arbitration_turns.proofs.Growth.{Grows, grows-not, grows-on, perform-grows, bytes-grow}

@@ -14,17 +14,17 @@ use Rattle.arbitration_rules.specs.Limits.{maxMasters}
 use Rattle.arbitration_rules.specs.Outcome.{byteAt}
 use Rattle.arbitration_rules.specs.Run as script
 use Rattle.arbitration_rules.specs.Run.{Bus, perform, restart, stop, through, run}
-use Rattle.arbitration_run.specs.declared.instants.Effect.{Effect}
-use Rattle.arbitration_run.specs.declared.instants.Effect.the-variants.{Nothing, Begin, Release, Acknowledge, Record}
-use Rattle.arbitration_run.specs.declared.instants.Effect.the-variants.{Bit, Settle}
-use Rattle.arbitration_run.specs.declared.instants.Instant.{Instant}
-use Rattle.arbitration_run.specs.declared.instants.Part.{Part}
-use Rattle.arbitration_run.specs.declared.instants.Part.the-variants.{Entry, Opening, Restart, Byte, Closing}
+use Rattle.arbitration_pass.specs.declared.instants.Effect.{Effect}
+use Rattle.arbitration_pass.specs.declared.instants.Effect.the-variants.{Nothing, Begin, Release, Acknowledge, Record}
+use Rattle.arbitration_pass.specs.declared.instants.Effect.the-variants.{Bit, Settle}
+use Rattle.arbitration_pass.specs.declared.instants.Instant.{Instant}
+use Rattle.arbitration_pass.specs.declared.instants.Part.{Part}
+use Rattle.arbitration_pass.specs.declared.instants.Part.the-variants.{Entry, Opening, Restart, Byte, Closing}
 use Rattle.arbitration_run.specs.declared.sequencer.Sequencer.{Sequencer}
-use Rattle.arbitration_run.specs.Instants.{turn, byte, instant, last}
-use Rattle.arbitration_run.specs.Members as members
-use Rattle.arbitration_run.specs.Rows.{rowsOf}
-use Rattle.arbitration_run.specs.Pass.{passed, seen}
+use Rattle.arbitration_pass.specs.Instants.{turn, byte, instant, last}
+use Rattle.arbitration_members.specs.Members as members
+use Rattle.arbitration_members.specs.Rows.{rowsOf}
+use Rattle.arbitration_pass.specs.Pass.{passed, seen}
 use Rattle.arbitration_run.specs.Wire as wires
 use Rattle.arbitration_run.specs.Sequence as sequence
 use Rattle.arbitration_run.specs.Sequence.{acknowledgeAt}

@@ -15,13 +15,13 @@ use Rattle.arbitration_rules.specs.Run as script
 use Rattle.arbitration_rules.specs.Run.{Bus, perform, restart, byteTurn, stop, restarting, run}
 use Rattle.arbitration_rules.proofs.Cut.{cut-count}
 use Rattle.arbitration_rules.proofs.Phases.{perform-append}
-use Rattle.arbitration_run.specs.declared.instants.Part.{Part}
-use Rattle.arbitration_run.specs.declared.instants.Part.the-variants.{Entry, Opening, Restart, Byte, Closing}
-use Rattle.arbitration_run.specs.declared.members.Members.{Members}
+use Rattle.arbitration_pass.specs.declared.instants.Part.{Part}
+use Rattle.arbitration_pass.specs.declared.instants.Part.the-variants.{Entry, Opening, Restart, Byte, Closing}
+use Rattle.arbitration_members.specs.declared.members.Members.{Members}
 use Rattle.arbitration_run.specs.declared.sequencer.Sequencer.{Sequencer}
-use Rattle.arbitration_run.specs.Instants.{turn, byte, last}
-use Rattle.arbitration_run.specs.Members as members
-use Rattle.arbitration_run.specs.Rows.{rowsOf, columnOf}
+use Rattle.arbitration_pass.specs.Instants.{turn, byte, last}
+use Rattle.arbitration_members.specs.Members as members
+use Rattle.arbitration_members.specs.Rows.{rowsOf, columnOf}
 use Rattle.arbitration_run.specs.Sequence as sequence
 use Rattle.arbitration_run.specs.Sequence.{acknowledgeAt}
 use Rattle.arbitration_turns.specs.Turns.{Turn}

@@ -10,11 +10,11 @@ use Rattle.usi.specs.Step.{moduleOf, sample}
 use Rattle.arbitration_rules.specs.Masters.{Master, withUsi, Who, everybody, stillIn, beaten, losers, meant}
 use Rattle.arbitration_rules.specs.Masters.{Write, applied}
 use Rattle.arbitration_rules.specs.Run.{Bus, withMasters, performed, perform, writes}
-use Rattle.arbitration_run.specs.declared.instants.Operation.{Operation}
-use Rattle.arbitration_run.specs.declared.instants.Operation.the-variants.{Sample, Load, LetGo, Heed}
-use Rattle.arbitration_run.specs.declared.pass.Pass.{Pass}
-use Rattle.arbitration_run.specs.Instants.{samples, letsGo, heeds}
-use Rattle.arbitration_run.specs.Pass.{writtenAll, registers, fresh, ticked}
+use Rattle.arbitration_pass.specs.declared.instants.Operation.{Operation}
+use Rattle.arbitration_pass.specs.declared.instants.Operation.the-variants.{Sample, Load, LetGo, Heed}
+use Rattle.arbitration_pass.specs.declared.pass.Pass.{Pass}
+use Rattle.arbitration_pass.specs.Instants.{samples, letsGo, heeds}
+use Rattle.arbitration_pass.specs.Pass.{writtenAll, registers, fresh, ticked}
 use Rattle.arbitration_turns.proofs.View.{join, stepped, Treats}
 use Rattle.arbitration_turns.proofs.Scripts.{ofTick}
 

@@ -11,9 +11,9 @@ use Rattle.usi.specs.declared.Usi.{Usi}
 use Rattle.usi.specs.Step.{moduleOf, sample}
 use Rattle.arbitration_rules.specs.Limits.{maxMasters}
 use Rattle.arbitration_rules.specs.Masters.{Master}
-use Rattle.arbitration_run.specs.declared.pass.Pass.{Pass}
-use Rattle.arbitration_run.specs.Instants.{samples}
-use Rattle.arbitration_run.specs.Pass.{ticked, wroteAs, sampledAt, wroteAt, applied, passedFrom}
+use Rattle.arbitration_pass.specs.declared.pass.Pass.{Pass}
+use Rattle.arbitration_pass.specs.Instants.{samples}
+use Rattle.arbitration_pass.specs.Pass.{ticked, wroteAs, sampledAt, wroteAt, applied, passedFrom}
 
 -- one master
 abbrev pub join : Usi → Bool → Bool → ℕ → Master

@@ -7,13 +7,13 @@ use mathlib.Core.List.{List}
 use lib.Dec.{eqb, ltb}
 use lib.ListN.{length}
 use borrow.Author.Tests.{ltb-true}
-use Rattle.arbitration_run.specs.declared.instants.Part.{Part}
-use Rattle.arbitration_run.specs.declared.instants.Part.the-variants.{Entry, Opening, Restart, Byte, Closing}
-use Rattle.arbitration_run.specs.declared.pass.Seen.{Seen}
+use Rattle.arbitration_pass.specs.declared.instants.Part.{Part}
+use Rattle.arbitration_pass.specs.declared.instants.Part.the-variants.{Entry, Opening, Restart, Byte, Closing}
+use Rattle.arbitration_pass.specs.declared.pass.Seen.{Seen}
 use Rattle.arbitration_run.specs.declared.sequencer.Sequencer.{Sequencer}
-use Rattle.arbitration_run.specs.Instants.{last}
-use Rattle.arbitration_run.specs.Members as members
-use Rattle.arbitration_run.specs.Rows.{columnOf}
+use Rattle.arbitration_pass.specs.Instants.{last}
+use Rattle.arbitration_members.specs.Members as members
+use Rattle.arbitration_members.specs.Rows.{columnOf}
 use Rattle.arbitration_run.specs.Sequence.{acknowledgeAt, taking, loaded, entering, placed, affected, opened}
 use Rattle.arbitration_run.specs.Sequence.{decided, partedFrom, parted, advanced, turned}
 use Rattle.arbitration_turns.specs.Turns.{ready}

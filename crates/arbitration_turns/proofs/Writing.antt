@@ -15,13 +15,13 @@ use Rattle.arbitration_rules.specs.Outcome.{byteAt}
 use Rattle.arbitration_rules.specs.Run.{Bus, withMasters, perform, performed, writes, loads, settles}
 use Rattle.arbitration_rules.specs.Run as run
 use Rattle.arbitration_rules.proofs.Phases.{perform-append}
-use Rattle.arbitration_run.specs.declared.instants.Operation.{Operation}
-use Rattle.arbitration_run.specs.declared.instants.Operation.the-variants.{Load, LetGo}
-use Rattle.arbitration_run.specs.declared.members.Members.{Members}
-use Rattle.arbitration_run.specs.declared.pass.Pass.{Pass}
+use Rattle.arbitration_pass.specs.declared.instants.Operation.{Operation}
+use Rattle.arbitration_pass.specs.declared.instants.Operation.the-variants.{Load, LetGo}
+use Rattle.arbitration_members.specs.declared.members.Members.{Members}
+use Rattle.arbitration_pass.specs.declared.pass.Pass.{Pass}
 use Rattle.arbitration_run.specs.declared.wire.Wire.{Wire}
-use Rattle.arbitration_run.specs.Members as members
-use Rattle.arbitration_run.specs.Pass.{registers, passed, seen}
+use Rattle.arbitration_members.specs.Members as members
+use Rattle.arbitration_pass.specs.Pass.{registers, passed, seen}
 use Rattle.arbitration_run.specs.Wire as wires
 use Rattle.arbitration_turns.proofs.View.{join, mastersFrom}
 use Rattle.arbitration_turns.proofs.Scripts.{ofTick}

@@ -6,7 +6,7 @@ use mathlib.Core.List.{List}
 use lib.ListN.{length}
 use Rattle.usi.specs.declared.Usi.{Usi}
 use Rattle.arbitration_run.specs.declared.sequencer.Sequencer.{Sequencer}
-use Rattle.arbitration_run.specs.Pass.{passed, seen}
+use Rattle.arbitration_pass.specs.Pass.{passed, seen}
 use Rattle.arbitration_run.specs.Sequence.{passOf, loaded, turned, carriedAfter, levelsAfter}
 
 -- the sequencer, the modules, and the two buffers

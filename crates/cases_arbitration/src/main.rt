@@ -4,11 +4,11 @@ mod show;
 
 use check::same;
 use libc::STDIN_FILENO;
-use script::Lengths;
 use script::read_bytes;
 use script::read_digits;
-use script::read_lengths;
-use script::room;
+use script::read_messages;
+use script::read_numbers;
+use script::within;
 use text::after_word;
 use text::first_word;
 
@@ -19,14 +19,22 @@ const ROOM: usize = 2048;
 const UNTOUCHED: u8 = 0xee;
 
 // Runs one arbitration in buffers of the lengths that two words say.
-fn run_in(bytes: &[u8], lengths: &[u32], acks: &[u8], carried_room: &[u8], levels_room: &[u8]) {
+fn run_in(
+    bytes: &[u8],
+    parts: &[u32],
+    counts: &[u32],
+    acks: &[u8],
+    carried_room: &[u8],
+    levels_room: &[u8],
+) {
     let mut carried = [UNTOUCHED; ROOM];
     let mut levels = [UNTOUCHED; ROOM];
-    let carried_end = room(carried_room, &carried);
-    let levels_end = room(levels_room, &levels);
+    let carried_end = within(carried_room, ROOM);
+    let levels_end = within(levels_room, ROOM);
     show::arbitration(
         bytes,
-        lengths,
+        parts,
+        counts,
         acks,
         &mut carried[0..carried_end],
         &mut levels[0..levels_end],
@@ -34,44 +42,77 @@ fn run_in(bytes: &[u8], lengths: &[u32], acks: &[u8], carried_room: &[u8], level
 }
 
 // The same with a header CROOM LROOM ACKS.
-fn run_under(header: &[u8], bytes: &[u8], lengths: &[u32]) {
+fn run_under(header: &[u8], bytes: &[u8], parts: &[u32], counts: &[u32]) {
     let past_carried = after_word(header);
     let mut acks = [0u8; ROOM];
     let n = read_digits(first_word(after_word(past_carried)), &mut acks);
     run_in(
         bytes,
-        lengths,
+        parts,
+        counts,
         &acks[0..n],
         first_word(header),
         first_word(past_carried),
     );
 }
 
-// The same with the messages in hexadecimal.
-fn run_messages(header: &[u8], messages: &[u8], sizes: &[u8], kind: Lengths) {
+// The same with messages in hexadecimal, `/` between two parts.
+fn run_messages(header: &[u8], messages: &[u8]) {
     let mut bytes = [0u8; ROOM];
-    let mut lengths = [0u32; ROOM];
+    let mut parts = [0u32; ROOM];
+    let mut counts = [0u32; ROOM];
     let end = read_bytes(messages, &mut bytes);
-    let count = read_lengths(sizes, kind, &mut lengths);
-    run_under(header, &bytes[0..end], &lengths[0..count]);
+    let read = read_messages(messages, &mut parts, &mut counts);
+    let parts_end = read.parts;
+    let counts_end = read.counts;
+    run_under(
+        header,
+        &bytes[0..end],
+        &parts[0..parts_end],
+        &counts[0..counts_end],
+    );
 }
 
-// run CROOM LROOM ACKS HEX HEX .., and lens CROOM LROOM ACKS HEX N N ..
+// The same with all bytes in hexadecimal and the lengths of messages of one part.
+fn run_lengths(header: &[u8], messages: &[u8], numbers: &[u8]) {
+    let mut bytes = [0u8; ROOM];
+    let mut lengths = [0u32; ROOM];
+    let counts = [1u32; ROOM];
+    let end = read_bytes(messages, &mut bytes);
+    let n = read_numbers(numbers, &mut lengths);
+    run_under(header, &bytes[0..end], &lengths[0..n], &counts[0..n]);
+}
+
+// The same with counts and then the lengths of the parts in one list; a word says how many counts.
+fn run_counted(header: &[u8], bytes: &[u8], list: &[u32], word: &[u8]) {
+    let n = within(word, list.len());
+    run_under(header, bytes, &list[n..], &list[0..n]);
+}
+
+// The same with all bytes in hexadecimal, how many counts there are, the counts and the lengths of the parts.
+fn run_parts(header: &[u8], messages: &[u8], numbers: &[u8]) {
+    let mut bytes = [0u8; ROOM];
+    let mut list = [0u32; ROOM];
+    let end = read_bytes(messages, &mut bytes);
+    let n = read_numbers(after_word(numbers), &mut list);
+    run_counted(header, &bytes[0..end], &list[0..n], first_word(numbers));
+}
+
+// run CROOM LROOM ACKS HEX HEX .., lens CROOM LROOM ACKS HEX N N .., and parts CROOM LROOM ACKS HEX N C .. P ..
 fn run_line(line: &[u8]) {
     let name = first_word(line);
     let header = after_word(line);
     let messages = after_word(after_word(after_word(header)));
     if same(name, b"run") {
-        run_messages(header, messages, messages, Lengths::Counted);
+        run_messages(header, messages);
         return;
     }
     if same(name, b"lens") {
-        run_messages(
-            header,
-            first_word(messages),
-            after_word(messages),
-            Lengths::Given,
-        );
+        run_lengths(header, first_word(messages), after_word(messages));
+        return;
+    }
+    if same(name, b"parts") {
+        run_parts(header, first_word(messages), after_word(messages));
         return;
     }
     // a comment is copied to the output

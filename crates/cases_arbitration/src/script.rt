@@ -3,10 +3,10 @@ use text::Number;
 ghost use Prim.Native.Nat.{_≤_};
 ghost use lib.ListN.{length};
 
-// Whether a word is the length of a message, or a message whose bytes are counted.
-pub enum Lengths {
-    Given,
-    Counted,
+// How many lengths of parts were read, and how many counts of parts.
+pub struct Read {
+    pub parts: usize,
+    pub counts: usize,
 }
 
 fn value(word: &[u8]) -> u64 {
@@ -17,12 +17,12 @@ fn value(word: &[u8]) -> u64 {
     }
 }
 
-// The length of a buffer: the number that a word says, or all there is.
-pub fn room(word: &[u8], buffer: &[u8]) -> usize
-    ensures { λ r. ⌜ r ≤ length (now (buffer .entry)) ⌝ }
+// The number that a word says, or all there is.
+pub fn within(word: &[u8], all: usize) -> usize
+    ensures { λ r. ⌜ r ≤ all ⌝ }
 {
     let n = value(word) as usize;
-    if n < buffer.len() { n } else { buffer.len() }
+    if n < all { n } else { all }
 }
 
 // One digit more, where b is one and there is room, and the next position.
@@ -78,16 +78,12 @@ pub fn read_bytes(text: &[u8], out: &mut [u8]) -> usize
     join(out, n)
 }
 
-fn message_length(word: &[u8], kind: Lengths) -> u32 {
-    let n = match kind {
-        Lengths::Given => value(word),
-        Lengths::Counted => (word.len() / 2) as u64,
-    };
+fn short(n: u64) -> u32 {
     if n <= 0xffff_ffff { n as u32 } else { u32::MAX }
 }
 
-// The lengths of the messages of a line, and how many there are.
-pub fn read_lengths(line: &[u8], kind: Lengths, out: &mut [u32]) -> usize
+// The numbers of a line, and how many there are.
+pub fn read_numbers(line: &[u8], out: &mut [u32]) -> usize
     ensures { λ r. ⌜ r ≤ length (now (out .exit)) ⌝ }
 {
     let mut rest = line;
@@ -97,10 +93,68 @@ pub fn read_lengths(line: &[u8], kind: Lengths, out: &mut [u32]) -> usize
         if word.len() == 0 {
             return n;
         }
-        out[n] = message_length(word, kind);
+        out[n] = short(value(word));
         let next = text::after_word(rest);
         rest = next;
         n += 1;
     }
     n
+}
+
+// One number more, where there is room, and the next position.
+fn push(out: &mut [u32], n: usize, number: u32) -> usize
+    requires { ⌜ n ≤ length (now out) ⌝ }
+    ensures { λ r. ⌜ (n ≤ r) × (r ≤ length (now (out .exit))) ⌝ }
+{
+    if n < out.len() {
+        out[n] = number;
+        return n + 1;
+    }
+    n
+}
+
+// The lengths of the parts of a message in hexadecimal, from position n on, and the next position.
+fn push_parts(message: &[u8], parts: &mut [u32], n: usize) -> usize
+    requires { ⌜ n ≤ length (now parts) ⌝ }
+    ensures { λ r. ⌜ (n ≤ r) × (r ≤ length (now (parts .exit))) ⌝ }
+{
+    let mut next = n;
+    let mut from = 0;
+    let mut i = 0;
+    while i < message.len() {
+        if message[i] == b'/' {
+            next = push(parts, next, short(((i - from) / 2) as u64));
+            from = i + 1;
+        }
+        i += 1;
+    }
+    push(parts, next, short(((i - from) / 2) as u64))
+}
+
+// The lengths of the parts of the messages of a line, and how many parts each has.
+pub fn read_messages(line: &[u8], parts: &mut [u32], counts: &mut [u32]) -> Read
+    ensures { λ r. ⌜ (r .parts ≤ length (now (parts .exit))) × (r .counts ≤ length (now (counts .exit))) ⌝ }
+{
+    let mut rest = line;
+    let mut at = 0;
+    let mut n = 0;
+    while n < counts.len() {
+        let message = text::first_word(rest);
+        if message.len() == 0 {
+            return Read {
+                parts: at,
+                counts: n,
+            };
+        }
+        let to = push_parts(message, parts, at);
+        counts[n] = short((to - at) as u64);
+        at = to;
+        let next = text::after_word(rest);
+        rest = next;
+        n += 1;
+    }
+    Read {
+        parts: at,
+        counts: n,
+    }
 }

@@ -122,14 +122,15 @@ fn buffer(label: &[u8], entries: &[u8], kind: Entries) {
 // Runs one arbitration, and prints the reply and both buffers.
 pub fn arbitration(
     bytes: &[u8],
-    lengths: &[u32],
+    parts: &[u32],
+    counts: &[u32],
     acks: &[u8],
     carried: &mut [u8],
     levels: &mut [u8],
 ) {
     let held = [Usi::power_up(HELD, HELD); MAX_MASTERS];
-    let done = arbitration::rehearse(held, bytes, lengths, acks, carried, levels);
-    replied(done, lengths.len());
+    let done = arbitration::rehearse(held, bytes, parts, counts, acks, carried, levels);
+    replied(done, counts.len());
     buffer(b"  carried ", carried, Entries::Bytes);
     buffer(b"  levels ", levels, Entries::Levels);
 }

@@ -15,17 +15,16 @@ use Rattle.laws.specs.Refusals.{check, given}
 use Rattle.arbitration_rules.specs.declared.Arbitrated.{Arbitrated}
 use Rattle.arbitration_rules.specs.declared.Seat.{Seat}
 use Rattle.arbitration_rules.specs.Masters.{Master}
-use Rattle.arbitration_rules.specs.Outcome.{Fate, Outcome, levelCount}
-use Rattle.arbitration_rules.specs.Reply.{messagesOf, messageChecks, shortBuffer, seatOf, refused, answered}
-use Rattle.arbitration_rules.specs.Run.{Bus, run}
+use Rattle.arbitration_rules.specs.Outcome.{Fate, Outcome, least, levelCount}
+use Rattle.arbitration_rules.specs.Reply.{Request, messagesOf, requestChecks, runOf, shortBuffer, seatOf, refused}
+use Rattle.arbitration_rules.specs.Reply.{answered}
+use Rattle.arbitration_rules.specs.Run.{Bus}
 use Rattle.arbitration_rules.specs.Cleared.{clearedBy}
 use Rattle.export.specs.Packed.{packed, unpacked}
 
--- what is lent: bytes, lengths and acknowledges, the two buffers and the two tables
+-- what is lent: what is asked, the two buffers and the two tables
 pub record Lent : Type 0 where
-  pub bytes : List ℕ
-  pub lengths : List ℕ
-  pub acks : List ℕ
+  pub request : Request
   pub carried : List ℕ
   pub levels : List ℕ
   pub modules : List ℕ
@@ -40,17 +39,9 @@ pub record Returned : Type 0 where
   pub seats : List ℕ
 
 -- both, of the slices one by one
-abbrev pub lent : List ℕ → List ℕ → List ℕ → List ℕ → List ℕ → List ℕ → List ℕ → Lent
-lent bytes lengths acks carried levels modules seats =
-    record {
-      bytes = bytes;
-      lengths = lengths;
-      acks = acks;
-      carried = carried;
-      levels = levels;
-      modules = modules;
-      seats = seats;
-    }
+abbrev pub lent : Request → List ℕ → List ℕ → List ℕ → List ℕ → Lent
+lent request carried levels modules seats =
+    record { request = request; carried = carried; levels = levels; modules = modules; seats = seats }
 
 abbrev pub gave : ℕ → List ℕ → List ℕ → List ℕ → List ℕ → Returned
 gave answer carried levels modules seats =
@@ -60,20 +51,17 @@ gave answer carried levels modules seats =
 abbrev pub shortTables : ℕ → ℕ → ℕ → Bool
 shortTables masters modules seats = ltb modules masters || ltb seats masters
 
-abbrev pub busOf : Lent → Bus
-busOf lent = run (messagesOf (lent .lengths) (lent .bytes)) (lent .acks)
-
-abbrev pub clearedOf : Lent → List ℕ
-clearedOf lent = clearedBy (messagesOf (lent .lengths) (lent .bytes)) (lent .acks)
+abbrev pub clearedOf : Request → List ℕ
+clearedOf request = clearedBy (messagesOf request) (request .acknowledges)
 
 -- the first of 12, 13, 14, 15, 16 and 8 that applies
 unfoldable pub refusalOf : Lent → Refusal
 refusalOf lent =
     given
-    (messageChecks (lent .bytes) (lent .lengths) (lent .acks)
+    (requestChecks (lent .request)
     ++ check 8
-    (shortBuffer (busOf lent) (length (lent .carried)) (length (lent .levels))
-    || shortTables (length (lent .lengths)) (length (lent .modules)) (length (lent .seats)))
+    (shortBuffer (runOf (lent .request)) (length (lent .carried)) (length (lent .levels))
+    || shortTables (length (lent .request .counts)) (length (lent .modules)) (length (lent .seats)))
     ∷ [])
 
 -- a seat as a number: 1 while it contends, from bit 1 on the flags that its writes cleared, from bit 5 on the position
@@ -109,10 +97,10 @@ ran cleared bus lent =
 unfoldable pub returned : Lent → Returned
 returned lent =
     let found = refusalOf lent in
-    cond (eqb (found .number) 0) (ran (clearedOf lent) (busOf lent) lent) (untouched found lent)
+    cond (eqb (found .number) 0) (ran (clearedOf (lent .request)) (runOf (lent .request)) lent) (untouched found lent)
 
--- what demand 3 compares, as the answer, the buffers and the tables show it: k, the carried bytes, the levels, and of
--- each of so many masters whether it contends, its position, and its AL
+-- what demand 3 compares, as the answer, the buffers and the tables show it: k, the carried bytes, the levels with
+-- those of the restarts, and of each message's master whether it contends, its position, and its AL
 abbrev pub countIn : ℕ → ℕ
 countIn answer = answer / 256 ^ 3 % 256 ^ 2
 
@@ -124,11 +112,11 @@ fateIn usi seat =
       arbitrationLost = on (unpacked usi .usictl1) USIAL;
     }
 
-unfoldable pub shownIn : ℕ → Returned → Outcome
-shownIn masters got =
+unfoldable pub shownIn : List (List ℕ) → Returned → Outcome
+shownIn messages got =
     record {
       count = countIn (got .answer);
       carried = take (countIn (got .answer)) (got .carried);
-      levels = take (levelCount (countIn (got .answer))) (got .levels);
-      fates = take masters (zipWith fateIn (got .modules) (got .seats));
+      levels = take (levelCount (take (countIn (got .answer)) (least messages))) (got .levels);
+      fates = take (length messages) (zipWith fateIn (got .modules) (got .seats));
     }

@@ -6,7 +6,7 @@ ghost use lib.ListN.{length, take};
 ghost use Rattle.laws.specs.Buffer.{filled};
 ghost use Rattle.arbitration_rules.specs.Limits.{maxMasters};
 ghost use Rattle.arbitration_rules.specs.Outcome.{outcome};
-ghost use Rattle.arbitration_rules.specs.Reply.{messagesOf, refused as refusedReply};
+ghost use Rattle.arbitration_rules.specs.Reply.{asked, messagesOf, refused as refusedReply};
 ghost use Rattle.export.specs.Packed.{packed as packedModule};
 ghost use Rattle.export.specs.Arbitration.{gave, lent, packedReply, packedSeat, returned, shownIn};
 use arbitration::Arbitrated;
@@ -66,12 +66,14 @@ fn put_seats(seats: [Seat; MAX_MASTERS], count: usize, table: &mut [u32])
     }
 }
 
-// The arbitration of messages: refused by 12, 13, 14, 15, 16 and 8 in this order, and then everything lent stays as it
-// was. What a run returns is what follows from messages and acknowledges alone (01: demand 3).
+// The arbitration of messages that lie in bytes one after the other, with the length of every part, message after
+// message, and how many parts each message has: refused by 12, 13, 14, 15, 16 and 8 in this order, and then everything
+// lent stays as it was. What a run returns is what follows from messages and acknowledges alone (01: demand 3).
 #[no_mangle]
 pub extern "C" fn arbitrate(
     bytes: &[u8],
-    lengths: &[u32],
+    parts: &[u32],
+    counts: &[u32],
     acks: &[u8],
     carried: &mut [u8],
     levels: &mut [u8],
@@ -79,16 +81,20 @@ pub extern "C" fn arbitrate(
     seats: &mut [u32],
 ) -> u64
     ensures returns { λ r. ⌜ gave r (now (carried .exit)) (now (levels .exit)) (now (modules .exit)) (now (seats .exit))
-        ≡ returned (lent (now (bytes .entry)) (now (lengths .entry)) (now (acks .entry)) (now (carried .entry))
-        (now (levels .entry)) (now (modules .entry)) (now (seats .entry))) ⌝ }
+        ≡ returned (lent
+        (asked (now (bytes .entry)) (now (parts .entry)) (now (counts .entry)) (now (acks .entry)))
+        (now (carried .entry)) (now (levels .entry)) (now (modules .entry)) (now (seats .entry))) ⌝ }
     ensures follows { λ r. ⌜ (r % 256 ≡ 0
-        → shownIn (length (now (lengths .entry)))
+        → shownIn
+        (messagesOf (asked (now (bytes .entry)) (now (parts .entry)) (now (counts .entry)) (now (acks .entry))))
         (gave r (now (carried .exit)) (now (levels .exit)) (now (modules .exit)) (now (seats .exit)))
-        ≡ outcome (messagesOf (now (lengths .entry)) (now (bytes .entry))) (now (acks .entry))) ⌝ }
+        ≡ outcome
+        (messagesOf (asked (now (bytes .entry)) (now (parts .entry)) (now (counts .entry)) (now (acks .entry))))
+        (now (acks .entry))) ⌝ }
 {
-    let masters = lengths.len();
+    let masters = counts.len();
     if (modules.len() < masters) | (seats.len() < masters) {
-        let settled = arbitration_checks::settle(bytes, lengths, acks);
+        let settled = arbitration_checks::settle(bytes, parts, counts, acks);
         let found = settled.refusal;
         if found.number != 0 {
             return refused(found);
@@ -96,7 +102,7 @@ pub extern "C" fn arbitrate(
         return 8;
     }
     let table = [Usi::power_up(0, 0); MAX_MASTERS];
-    let done = arbitration::rehearse(table, bytes, lengths, acks, carried, levels);
+    let done = arbitration::rehearse(table, bytes, parts, counts, acks, carried, levels);
     let answer = done.reply;
     let found = answer.refusal;
     if found.number != 0 {

@@ -1,24 +1,24 @@
 // The least of several messages for callers in C or Rust.
 ghost use mathlib.Core.Path.{_≡_};
-ghost use Prim.Native.Nat.{_-_};
-ghost use lib.ListN.{length};
-ghost use Rattle.arbitration_rules.specs.Reply.{messagesOf};
-ghost use Rattle.arbitration_checks.specs.Order.{leastIndex};
+ghost use mathlib.Core.List.{[]};
+ghost use Rattle.arbitration_rules.specs.Reply.{asked};
+ghost use Rattle.arbitration_checks.specs.Order.{leastOf};
 
-// The index of the least message, the first of equal ones; 0 where there is none.
+// The index of the least message, the first of equal ones; 0 where 12 or 13 applies.
 #[no_mangle]
-pub extern "C" fn least_message(bytes: &[u8], lengths: &[u32]) -> u64
-    ensures { λ r. ⌜ r ≡ leastIndex (messagesOf (now (lengths .entry)) (now (bytes .entry))) ⌝ }
+pub extern "C" fn least_message(bytes: &[u8], parts: &[u32], counts: &[u32]) -> u64
+    ensures { λ r. ⌜ r ≡ leastOf (asked (now (bytes .entry)) (now (parts .entry)) (now (counts .entry)) []) .index ⌝ }
 {
-    let found = arbitration_checks::least_message(bytes, lengths);
+    let found = arbitration_checks::least_message(bytes, parts, counts);
     found.index as u64
 }
 
-// How many comparisons of two messages find it: one for each message but the first.
+// How many comparisons of two messages find it: one for each message but the first; 0 where 12 or 13 applies.
 #[no_mangle]
-pub extern "C" fn least_comparisons(bytes: &[u8], lengths: &[u32]) -> u64
-    ensures { λ r. ⌜ r ≡ length (now (lengths .entry)) - 1 ⌝ }
+pub extern "C" fn least_comparisons(bytes: &[u8], parts: &[u32], counts: &[u32]) -> u64
+    ensures { λ r. ⌜ r
+        ≡ leastOf (asked (now (bytes .entry)) (now (parts .entry)) (now (counts .entry)) []) .comparisons ⌝ }
 {
-    let found = arbitration_checks::least_message(bytes, lengths);
-    found.comparisons as u64
+    let counted = arbitration_checks::least_message(bytes, parts, counts);
+    counted.comparisons as u64
 }

@@ -29,33 +29,39 @@ pub record FirstRefused (message acknowledges : List ℕ) (count : ℕ) : Type 0
 pub each-acknowledged : (message acknowledges : List ℕ) → allAcknowledged message acknowledges ≡ true
     → length message ≤ length acknowledges → (i : ℕ) → i < length message → getD acknowledges i 1 ≡ 0
 each-acknowledged [] acknowledges every enough i less = absurd (not-suc-le-zero less)
-each-acknowledged (byte ∷ bytes) [] every enough i less = absurd (not-suc-le-zero enough)
-each-acknowledged (byte ∷ bytes) (acknowledge ∷ acknowledges) every enough zero less =
-    eqb-true acknowledge 0 (both (eqb acknowledge 0) (allAcknowledged bytes acknowledges) every .0)
-each-acknowledged (byte ∷ bytes) (acknowledge ∷ acknowledges) every enough (suc i) less =
-    each-acknowledged bytes acknowledges
-    (both (eqb acknowledge 0) (allAcknowledged bytes acknowledges) every .1) (le-of-suc-le-suc enough) i
+each-acknowledged (sent ∷ message) [] every enough i less = absurd (not-suc-le-zero enough)
+each-acknowledged (sent ∷ message) (acknowledge ∷ acknowledges) every enough zero less =
+    eqb-true acknowledge 0 (both (eqb acknowledge 0) (allAcknowledged message acknowledges) every .0)
+each-acknowledged (sent ∷ message) (acknowledge ∷ acknowledges) every enough (suc i) less =
+    each-acknowledged message acknowledges
+    (both (eqb acknowledge 0) (allAcknowledged message acknowledges) every .1) (le-of-suc-le-suc enough) i
     (le-of-suc-le-suc less)
 
 pub all-acknowledged : (message acknowledges : List ℕ)
     → ((i : ℕ) → i < length message → getD acknowledges i 1 ≡ 0) → allAcknowledged message acknowledges ≡ true
 all-acknowledged [] acknowledges each = refl
-all-acknowledged (byte ∷ bytes) [] each = refl
-all-acknowledged (byte ∷ bytes) (acknowledge ∷ acknowledges) each =
+all-acknowledged (sent ∷ message) [] each = absurd (omega (arith, each 0 (omega arith)))
+all-acknowledged (sent ∷ message) (acknowledge ∷ acknowledges) each =
     let first : acknowledge ≡ 0 = each 0 (omega arith) in
     rw (eq-eqb acknowledge 0 first)
-    (all-acknowledged bytes acknowledges (λ i less. each (suc i) (omega (arith, less))))
+    (all-acknowledged message acknowledges (λ i less. each (suc i) (omega (arith, less))))
+
+-- past the acknowledges all are acknowledged
+pub none-left : (message : List ℕ) → allAcknowledged message [] ≡ true
+none-left [] = refl
+none-left (sent ∷ message) = none-left message
 
 -- where it fails there is a first
 pub some-refused : (message : List ℕ) {acknowledges : List ℕ} → Everyone (λ acknowledge. acknowledge ≤ 1) acknowledges
     → allAcknowledged message acknowledges ≡ false
     → FirstRefused message acknowledges (carriedCount message acknowledges)
 some-refused [] bits fails = absurd (false≢true (sym fails))
-some-refused (byte ∷ bytes) nobody fails = absurd (false≢true (sym fails))
-some-refused (byte ∷ bytes) (also {a = zero} {l = acknowledges} bit bits) fails = go (some-refused bytes bits fails)
+some-refused (sent ∷ message) nobody fails = absurd (false≢true (sym fails ∙ none-left message))
+some-refused (sent ∷ message) (also {a = zero} {l = acknowledges} bit bits) fails =
+    go (some-refused message bits fails)
   where
-    go : FirstRefused bytes acknowledges (carriedCount bytes acknowledges)
-        → FirstRefused (byte ∷ bytes) (0 ∷ acknowledges) (suc (carriedCount bytes acknowledges))
+    go : FirstRefused message acknowledges (carriedCount message acknowledges)
+        → FirstRefused (sent ∷ message) (0 ∷ acknowledges) (suc (carriedCount message acknowledges))
     go later =
         record {
           last = suc (later .last);
@@ -68,7 +74,7 @@ some-refused (byte ∷ bytes) (also {a = zero} {l = acknowledges} bit bits) fail
         earlier : (i : ℕ) → i < suc (later .last) → getD (0 ∷ acknowledges) i 1 ≡ 0
         earlier zero less = refl
         earlier (suc i) less = later .before i (le-of-suc-le-suc less)
-some-refused (byte ∷ bytes) (also {a = suc zero} bit bits) fails =
+some-refused (sent ∷ message) (also {a = suc zero} bit bits) fails =
     record {
       last = 0;
       carried = refl;
@@ -76,18 +82,18 @@ some-refused (byte ∷ bytes) (also {a = suc zero} bit bits) fails =
       refused = refl;
       before = λ i less. absurd (not-suc-le-zero less);
     }
-some-refused (byte ∷ bytes) (also {a = suc (suc acknowledge)} bit bits) fails = absurd (omega arith)
+some-refused (sent ∷ message) (also {a = suc (suc acknowledge)} bit bits) fails = absurd (omega arith)
 
 -- and where there is a first, the test fails and that many are carried
 counted : (message acknowledges : List ℕ) (last : ℕ) → last < length message → getD acknowledges last 0 ≡ 1
     → ((i : ℕ) → i < last → getD acknowledges i 1 ≡ 0)
     → (carriedCount message acknowledges ≡ suc last) × (allAcknowledged message acknowledges ≡ false)
 counted [] acknowledges last inside refused before = absurd (not-suc-le-zero inside)
-counted (byte ∷ bytes) [] last inside refused before = absurd (omega (arith, refused))
-counted (byte ∷ bytes) (acknowledge ∷ acknowledges) zero inside refused before = rw refused (refl, refl)
-counted (byte ∷ bytes) (acknowledge ∷ acknowledges) (suc last) inside refused before =
+counted (sent ∷ message) [] last inside refused before = absurd (omega (arith, refused))
+counted (sent ∷ message) (acknowledge ∷ acknowledges) zero inside refused before = rw refused (refl, refl)
+counted (sent ∷ message) (acknowledge ∷ acknowledges) (suc last) inside refused before =
     let first : acknowledge ≡ 0 = before 0 (omega arith) in
-    let rest = counted bytes acknowledges last (le-of-suc-le-suc inside) refused
+    let rest = counted message acknowledges last (le-of-suc-le-suc inside) refused
     (λ i less. before (suc i) (omega (arith, less))) in
     rw first (ap suc (rest .0), rest .1)
 
@@ -101,13 +107,13 @@ first-refused message acknowledges count found =
 pub not-cut : (message acknowledges : List ℕ) (last : ℕ) → allAcknowledged message acknowledges ≡ true
     → carriedCount message acknowledges ≡ suc last → getD acknowledges last 0 ≡ 1 → ⊥
 not-cut [] acknowledges last every count refused = omega (arith, count)
-not-cut (byte ∷ bytes) [] last every count refused = omega (arith, refused)
-not-cut (byte ∷ bytes) (acknowledge ∷ acknowledges) zero every count refused =
-    let two = both (eqb acknowledge 0) (allAcknowledged bytes acknowledges) every in
+not-cut (sent ∷ message) [] last every count refused = omega (arith, refused)
+not-cut (sent ∷ message) (acknowledge ∷ acknowledges) zero every count refused =
+    let two = both (eqb acknowledge 0) (allAcknowledged message acknowledges) every in
     omega (arith, eqb-true acknowledge 0 (two .0), refused)
-not-cut (byte ∷ bytes) (acknowledge ∷ acknowledges) (suc last) every count refused =
-    let two = both (eqb acknowledge 0) (allAcknowledged bytes acknowledges) every in
+not-cut (sent ∷ message) (acknowledge ∷ acknowledges) (suc last) every count refused =
+    let two = both (eqb acknowledge 0) (allAcknowledged message acknowledges) every in
     let first : acknowledge ≡ 0 = eqb-true acknowledge 0 (two .0) in
-    let later : suc (carriedCount bytes acknowledges) ≡ suc (suc last) = rw first at count in
-    let rest : carriedCount bytes acknowledges ≡ suc last = omega (arith, later) in
-    not-cut bytes acknowledges last (two .1) rest refused
+    let later : suc (carriedCount message acknowledges) ≡ suc (suc last) = rw first at count in
+    let rest : carriedCount message acknowledges ≡ suc last = omega (arith, later) in
+    not-cut message acknowledges last (two .1) rest refused

@@ -9,9 +9,9 @@ use lib.ListN.{length, getD, take, drop}
 use Rattle.laws.specs.Search.{first, all}
 use Rattle.arbitration_rules.specs.declared.Seat.{Seat}
 use Rattle.arbitration_rules.specs.Limits.{maxMasters}
-use Rattle.arbitration_rules.specs.Reply.{messagesOf}
-use Rattle.arbitration_rules.proofs.Accepted.{cut-count}
-use Rattle.arbitration_checks.proofs.Walk.{At, at-start, at-more, message-is}
+use Rattle.arbitration_rules.specs.Reply.{cut}
+use Rattle.arbitration_rules.proofs.Cut.{cut-count}
+use Rattle.arbitration_messages.proofs.Walk.{At, at-start, at-more, message-is}
 use Rattle.verdict.specs.declared.Verdict.the-variants.{Undecided}
 use Rattle.laws.specs.Same.{same}
 use Rattle.verdict.specs.Verdict.{stillIn, contenders, ended, decided}
@@ -41,42 +41,42 @@ none-seated : (message : List ℕ) (seats : List Seat) → agreed message seats 
 none-seated message [] = refl
 none-seated message (seat ∷ seats) = refl
 
-module _ (message : List ℕ) (seats : List Seat) (lengths bytes : List ℕ) where
+module _ (message : List ℕ) (seats : List Seat) (lengths sent : List ℕ) where
   abbrev messages : List (List ℕ)
-  messages = messagesOf lengths bytes
+  messages = cut lengths sent
 
-  -- the first i boards agree, and their messages end at an index of the bytes
+  -- the first i boards agree, and their messages end at an index of what is sent
   pub record Agreeing (i from : ℕ) : Type 0 where
-    pub at : At lengths bytes i from
+    pub at : At lengths sent i from
     pub through : Through (agreed message) (agrees message) (agreed-step message) seats messages i
 
   pub agreeing-start : Agreeing 0 0
   agreeing-start =
       record {
-        at = at-start lengths bytes;
+        at = at-start lengths sent;
         through = through-start (agreed message) (agrees message) (agreed-step message) seats messages;
       }
 
   module _ (i from to : ℕ) (empty : Seat) (result : Bool) (agreeing : Agreeing i from)
-      (end : to ≡ min (from + getD lengths i 0) (length bytes))
-      (is : result ≡ same message (take (to - from) (drop from bytes)))
+      (end : to ≡ min (from + getD lengths i 0) (length sent))
+      (is : result ≡ same message (take (to - from) (drop from sent)))
       (seated : length seats ≡ maxMasters) (less : i < min (length lengths) maxMasters) where
     less-length : i < length lengths
     less-length = omega (arith, less)
 
     here : result ≡ same message (getD messages i [])
-    here = is ∙ ap (same message) (message-is lengths bytes i from to (agreeing .at) less-length end)
+    here = is ∙ ap (same message) (message-is lengths sent i from to (agreeing .at) less-length end)
 
     in-seats : i < length seats
     in-seats = omega (arith, less, seated)
 
     inside : i < length messages
-    inside = omega (arith, less, cut-count lengths bytes)
+    inside = omega (arith, less, cut-count lengths sent)
 
     pub agreeing-more : stillIn (getD seats i empty) && not result ≡ false → Agreeing (i + 1) to
     agreeing-more goes-on =
         record {
-          at = at-more lengths bytes i from to (agreeing .at) less-length end;
+          at = at-more lengths sent i from to (agreeing .at) less-length end;
           through =
               through-more (agreed message) (agrees message) (agreed-step message) seats messages i empty []
               (agreeing .through) in-seats inside (ap not (rw here at goes-on));
@@ -91,7 +91,7 @@ module _ (message : List ℕ) (seats : List Seat) (lengths bytes : List ℕ) whe
       → min (length lengths) maxMasters ≤ i → true ≡ agreed message seats messages
   agreeing-done i from agreeing seated past =
       through-one (agreed message) (agrees message) (agreed-step message) seats messages i (agreeing .through)
-      (λ rest. refl) (none-seated message) (omega (arith, past, seated, cut-count lengths bytes))
+      (λ rest. refl) (none-seated message) (omega (arith, past, seated, cut-count lengths sent))
 
 -- nobody is in where the first still in has no seat or no message
 pub nobody-in : (seats : List Seat) (messages : List (List ℕ))

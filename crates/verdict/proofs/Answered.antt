@@ -7,24 +7,25 @@ use mathlib.Core.Option.{Option, none, some}
 use native.Mathlib.Omega.{arith}
 use borrow.Author.Tests.{eq-eqb, eqb-true}
 use lib.Dec.{eqb}
-use lib.ListN.{length, take}
+use lib.ListN.{length, take, length-map}
 use Rattle.laws.specs.Everyone.{Everyone, nobody, also, Someone, this, another}
+use Rattle.laws.specs.declared.Refusal.{Refusal}
 use Rattle.laws.specs.Refusals.{Check, check}
 use Rattle.laws.proofs.Lists.{someone-so}
-use Rattle.laws.proofs.Refusals.{Numbered, passed, passed-first, numbered-both}
+use Rattle.laws.proofs.Refusals.{Numbered, passed, numbered-both}
 use Rattle.arbitration_rules.specs.declared.Arbitrated.{Arbitrated}
 use Rattle.arbitration_rules.specs.declared.Seat.{Seat}
 use Rattle.arbitration_rules.specs.Final.{finalMaster}
-use Rattle.arbitration_rules.specs.Outcome.{least, carriedCount, carriedOf, lossFrom, fate, undecided}
-use Rattle.arbitration_rules.specs.Reply.{messagesOf, messageChecks, shortSlice, refusal, refused, absent, seatOf}
-use Rattle.arbitration_rules.specs.Reply.{padded, answered, arbitrated}
-use Rattle.arbitration_rules.specs.Run.{Bus, run}
+use Rattle.arbitration_rules.specs.Outcome.{byteOf, least, carriedCount, carriedOf, lossFrom, fate}
+use Rattle.arbitration_rules.specs.Reply.{Request, messagesOf, requestChecks, shortSlice, refusal, refused}
+use Rattle.arbitration_rules.specs.Reply.{absent, seatOf, padded, answered, arbitrated, runOf}
 use Rattle.arbitration_rules.specs.Cleared.{clearedBy}
-use Rattle.arbitration_rules.proofs.Accepted.{accepted, message-numbered}
-use Rattle.arbitration_rules.proofs.Carry.{Bytes}
+use Rattle.arbitration_rules.proofs.Accepted.{accepted, request-numbered}
+use Rattle.arbitration_rules.proofs.Pieces.{Bytes}
 use Rattle.arbitration_rules.proofs.Demand.{Arbitration, ended, contest, carried-length}
 use Rattle.arbitration_rules.proofs.FinalMasters.{final-masters}
 use Rattle.arbitration_rules.proofs.ClearedFlags.{run-clears}
+use Rattle.arbitration_messages.specs.Gathered.{passing}
 use Rattle.verdict.specs.Verdict.{contenders}
 
 -- the messages that lose nothing against the carried bytes, in their order
@@ -51,8 +52,8 @@ seats-in carried (message ∷ messages) seats =
 own-start : (index count : ℕ) (message : List ℕ) → lossFrom index (take count message) message ≡ none
 own-start index zero message = refl
 own-start index (suc count) [] = refl
-own-start index (suc count) (byte ∷ message) =
-    rw (eq-eqb byte byte refl) (own-start (suc index) count message)
+own-start index (suc count) (sent ∷ message) =
+    rw (eq-eqb (byteOf sent) (byteOf sent) refl) (own-start (suc index) count message)
 
 -- what holds of someone who loses nothing holds of someone unbeaten
 unbeaten-some : {P : List ℕ → Type 0} {messages : List (List ℕ)} (carried : List ℕ)
@@ -78,47 +79,47 @@ unbeaten-every {P} carried (also {a} {l} holds more) = go (lossFrom 0 carried a)
     go (some position) holds rest = rest
 
 -- a reply that is not refused
-module _ (bytes lengths acknowledges : List ℕ) (tableRoom carriedRoom levelRoom : ℕ) where
+module _ (request : Request) (tableRoom carriedRoom levelRoom : ℕ) where
   abbrev pub replyTo : Arbitrated
-  replyTo = arbitrated bytes lengths acknowledges tableRoom carriedRoom levelRoom
+  replyTo = arbitrated request tableRoom carriedRoom levelRoom
+
+  abbrev found : Refusal
+  found = refusal request tableRoom carriedRoom levelRoom
+
+  abbrev acknowledges : List ℕ
+  acknowledges = request .acknowledges
 
   abbrev messages : List (List ℕ)
-  messages = messagesOf lengths bytes
-
-  abbrev bus : Bus
-  bus = run messages acknowledges
+  messages = messagesOf request
 
   abbrev carried : List ℕ
   carried = carriedOf messages acknowledges
 
-  module _ (small : Bytes bytes) (unrefused : replyTo .refusal .number ≡ 0) where
-    none-applies : refusal bytes lengths acknowledges tableRoom carriedRoom levelRoom .number ≡ 0
+  module _ (small : Bytes (request .bytes)) (unrefused : replyTo .refusal .number ≡ 0) where
+    none-applies : found .number ≡ 0
     unfolding arbitrated refused
-    none-applies = go (eqb (refusal bytes lengths acknowledges tableRoom carriedRoom levelRoom .number) 0) refl
+    none-applies = go (eqb (found .number) 0) refl
       where
-        go : (none-so : Bool) → eqb (refusal bytes lengths acknowledges tableRoom carriedRoom levelRoom .number) 0 ≡ none-so
-            → refusal bytes lengths acknowledges tableRoom carriedRoom levelRoom .number ≡ 0
-        go true is = eqb-true (refusal bytes lengths acknowledges tableRoom carriedRoom levelRoom .number) 0 is
+        go : (none-so : Bool) → eqb (found .number) 0 ≡ none-so → found .number ≡ 0
+        go true is = eqb-true (found .number) 0 is
         go false is = rw is at unrefused
 
-    reply-is : replyTo ≡ answered (clearedBy messages acknowledges) bus
+    reply-is : replyTo ≡ answered (clearedBy messages acknowledges) (runOf request)
     unfolding arbitrated
-    reply-is = rw (eq-eqb (refusal bytes lengths acknowledges tableRoom carriedRoom levelRoom .number) 0 none-applies)
+    reply-is = rw (eq-eqb (found .number) 0 none-applies)
 
     pub given : Arbitration messages acknowledges
-    given = accepted bytes lengths acknowledges tableRoom carriedRoom levelRoom small none-applies
+    given = accepted request tableRoom carriedRoom levelRoom small none-applies
 
-    -- refusal 16 does not apply
-    pub decides : undecided messages acknowledges ≡ false
-    unfolding refusal
-    decides =
-        let room : List Check = check 8 (shortSlice lengths bus tableRoom carriedRoom levelRoom) ∷ [] in
-        let numbered : Numbered (messageChecks bytes lengths acknowledges ++ room) =
-        numbered-both (messageChecks bytes lengths acknowledges) room
-        (message-numbered bytes lengths acknowledges) ((λ e. omega arith), tt) in
-        let all = passed-first (messageChecks bytes lengths acknowledges) room
-        (passed (messageChecks bytes lengths acknowledges ++ room) numbered none-applies) in
-        all .1 .1 .1 .1 .0
+    -- 12 and 13 do not apply, so all messages are there
+    pub all-there : passing request ≡ messages
+    unfolding refusal passing
+    all-there =
+        let room : List Check = check 8 (shortSlice request tableRoom carriedRoom levelRoom) ∷ [] in
+        let numbered : Numbered (requestChecks request ++ room) =
+        numbered-both (requestChecks request) room (request-numbered request) ((λ e. omega arith), tt) in
+        let all = passed (requestChecks request ++ room) numbered none-applies in
+        rw (all .0, all .1 .0)
 
     -- those still in are those that lose nothing against the carried bytes
     pub those-in : contenders (replyTo .seats) messages ≡ unbeaten carried messages
@@ -135,6 +136,7 @@ module _ (bytes lengths acknowledges : List ℕ) (tableRoom carriedRoom levelRoo
     count-is =
         ap (λ (r : Arbitrated). r .count) reply-is
         ∙ ap length (ended messages acknowledges given .bytes)
+        ∙ length-map carried byteOf
         ∙ carried-length messages acknowledges
 
     -- someone still in has the least message

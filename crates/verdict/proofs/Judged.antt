@@ -12,8 +12,8 @@ use Rattle.laws.proofs.Bools.{neither}
 use Rattle.arbitration_rules.specs.declared.Seat.{Seat}
 use Rattle.arbitration_rules.specs.Limits.{maxMasters}
 use Rattle.arbitration_rules.specs.Outcome.{allAcknowledged}
-use Rattle.arbitration_rules.specs.Reply.{messagesOf}
-use Rattle.arbitration_rules.proofs.Accepted.{cut-count}
+use Rattle.arbitration_rules.specs.Reply.{cut}
+use Rattle.arbitration_rules.proofs.Cut.{cut-count}
 use Rattle.verdict.specs.declared.Verdict.{Verdict}
 use Rattle.verdict.specs.declared.Verdict.the-variants.{Undecided, Cut, Sent}
 use Rattle.verdict.specs.Verdict.{stillIn, contenders, ended, decided}
@@ -27,10 +27,10 @@ past-one i seats boards test = go (leb seats i) refl
     go true is = omega (arith, leb-true seats i is)
     go false is = omega (arith, leb-true boards i (rw is at test))
 
-module _ (seats : List Seat) (count : ℕ) (lengths bytes acknowledges : List ℕ) (winner : ℕ)
+module _ (seats : List Seat) (count : ℕ) (lengths sent acknowledges : List ℕ) (winner : ℕ)
     (is : winner ≡ first stillIn seats) (seated : length seats ≡ maxMasters) where
   abbrev messages : List (List ℕ)
-  messages = messagesOf lengths bytes
+  messages = cut lengths sent
 
   abbrev verdict : Verdict
   verdict = decided (contenders seats messages) count acknowledges
@@ -38,7 +38,7 @@ module _ (seats : List Seat) (count : ℕ) (lengths bytes acknowledges : List �
   pub judged-nobody : leb maxMasters winner || leb (length lengths) winner ≡ true → Undecided ≡ verdict
   judged-nobody test =
       let past = past-one winner maxMasters (length lengths) test in
-      let none = nobody-in seats messages (omega (arith, past, seated, is, cut-count lengths bytes)) in
+      let none = nobody-in seats messages (omega (arith, past, seated, is, cut-count lengths sent)) in
       sym (ap (λ (l : List (List ℕ)). decided l count acknowledges) none)
 
   -- someone is in
@@ -53,7 +53,7 @@ module _ (seats : List Seat) (count : ℕ) (lengths bytes acknowledges : List �
     by-agreement : verdict ≡ cond agree (ended message count acknowledges) Undecided
     by-agreement =
         let less : first stillIn seats < length seats = omega (arith, two .0, seated, is) in
-        let less-other : first stillIn seats < length messages = omega (arith, two .1, is, cut-count lengths bytes) in
+        let less-other : first stillIn seats < length messages = omega (arith, two .1, is, cut-count lengths sent) in
         decided-by seats messages message count acknowledges
         (same-message ∙ ap (λ (i : ℕ). getD messages i []) is) less less-other
         ∙ ap (λ (b : Bool). cond b (ended message count acknowledges) Undecided) (sym agree-is)
@@ -70,4 +70,4 @@ module _ (seats : List Seat) (count : ℕ) (lengths bytes acknowledges : List �
       judged-sent whole = sym (rw whole at by-end)
 
       pub judged-cut : eqb count (length message) && all ≡ false → Cut count ≡ verdict
-      judged-cut cut = sym (rw cut at by-end)
+      judged-cut short = sym (rw short at by-end)

@@ -15,18 +15,18 @@ use Rattle.laws.specs.Everyone.{Everyone}
 use Rattle.laws.specs.Search.{all}
 use Rattle.arbitration_rules.specs.declared.Arbitrated.{Arbitrated}
 use Rattle.arbitration_rules.specs.Outcome.{least, carriedCount, carriedOf, lossFrom, allAcknowledged}
-use Rattle.arbitration_rules.specs.Reply.{messagesOf, arbitrated}
+use Rattle.arbitration_rules.specs.Reply.{Request, messagesOf, arbitrated}
 use Rattle.arbitration_rules.proofs.Carried.{carried-count}
-use Rattle.arbitration_rules.proofs.Carry.{Bytes}
 use Rattle.arbitration_rules.proofs.Demand.{least-sendable}
+use Rattle.arbitration_rules.proofs.Pieces.{Bytes}
 use Rattle.arbitration_rules.proofs.Undecided.{CutShort, whole, ends-together}
 use Rattle.verdict.specs.declared.Verdict.{Verdict}
 use Rattle.verdict.specs.declared.Verdict.the-variants.{Refused, Undecided, Cut, Sent}
 use Rattle.laws.specs.Same.{same}
-use Rattle.verdict.specs.Verdict.{contenders, ended, decided, verdictOf}
+use Rattle.verdict.specs.Verdict.{contenders, ended, decided, verdictOf, verdictFor}
 use Rattle.verdict.proofs.Acknowledged.{Whole, FirstRefused, each-acknowledged, all-acknowledged, not-cut}
 use Rattle.verdict.proofs.Acknowledged.{some-refused, first-refused}
-use Rattle.verdict.proofs.Answered.{unbeaten-every, given, decides, those-in, count-is, winner-in}
+use Rattle.verdict.proofs.Answered.{unbeaten-every, given, all-there, those-in, count-is, winner-in}
 use Rattle.verdict.proofs.Decision.{Differ, Decision, together, apart, decision, not-both}
 
 -- one claim holds exactly when another does
@@ -85,13 +85,16 @@ refused-exactly reply messages acknowledges number = (to, from)
     from (is, some) = rw (ne-eqb (reply .refusal .number) 0 (λ zero. some (sym is ∙ zero))) (ap Refused is)
 
 -- a reply of arbitrate that is not refused; the bytes lent are bytes
-module _ (bytes lengths acknowledges : List ℕ) (tableRoom carriedRoom levelRoom : ℕ) (small : Bytes bytes)
-    (unrefused : arbitrated bytes lengths acknowledges tableRoom carriedRoom levelRoom .refusal .number ≡ 0) where
+module _ (request : Request) (tableRoom carriedRoom levelRoom : ℕ) (small : Bytes (request .bytes))
+    (unrefused : arbitrated request tableRoom carriedRoom levelRoom .refusal .number ≡ 0) where
   abbrev reply : Arbitrated
-  reply = arbitrated bytes lengths acknowledges tableRoom carriedRoom levelRoom
+  reply = arbitrated request tableRoom carriedRoom levelRoom
+
+  abbrev acknowledges : List ℕ
+  acknowledges = request .acknowledges
 
   abbrev messages : List (List ℕ)
-  messages = messagesOf lengths bytes
+  messages = messagesOf request
 
   -- the winner's message, and the messages of those still in
   abbrev winner : List ℕ
@@ -101,12 +104,12 @@ module _ (bytes lengths acknowledges : List ℕ) (tableRoom carriedRoom levelRoo
   remaining = contenders (reply .seats) messages
 
   abbrev verdict : Verdict
-  verdict = verdictOf reply messages acknowledges
+  verdict = verdictFor reply request
 
   -- where every byte is acknowledged every byte is carried, and all of those still in end together
   count-whole : allAcknowledged winner acknowledges ≡ true → reply .count ≡ length winner
   count-whole every =
-      count-is bytes lengths acknowledges tableRoom carriedRoom levelRoom small unrefused
+      count-is request tableRoom carriedRoom levelRoom small unrefused
       ∙ sym (carried-count winner acknowledges)
       ∙ ap length (whole winner acknowledges every)
 
@@ -114,9 +117,7 @@ module _ (bytes lengths acknowledges : List ℕ) (tableRoom carriedRoom levelRoo
   unfolding carriedOf
   all-together every =
       go
-      (ends-together messages acknowledges
-      (given bytes lengths acknowledges tableRoom carriedRoom levelRoom small unrefused .bits)
-      (decides bytes lengths acknowledges tableRoom carriedRoom levelRoom small unrefused))
+      (ends-together messages acknowledges (given request tableRoom carriedRoom levelRoom small unrefused))
     where
       go : CutShort winner acknowledges
           ⊎ ((allAcknowledged winner acknowledges ≡ true)
@@ -125,7 +126,7 @@ module _ (bytes lengths acknowledges : List ℕ) (tableRoom carriedRoom levelRoo
       go (inl cut) = absurd (not-cut winner acknowledges (cut .last) every (cut .count) (cut .refused))
       go (inr (all-so, ends)) =
           rw (
-            those-in bytes lengths acknowledges tableRoom carriedRoom levelRoom small unrefused,
+            those-in request tableRoom carriedRoom levelRoom small unrefused,
             whole winner acknowledges every,
           )
           (unbeaten-every winner ends)
@@ -150,9 +151,12 @@ module _ (bytes lengths acknowledges : List ℕ) (tableRoom carriedRoom levelRoo
   unfolding verdictOf
   way =
       go
-      (rw (eq-eqb (reply .refusal .number) 0 unrefused)
+      (rw (
+        all-there request tableRoom carriedRoom levelRoom small unrefused,
+        eq-eqb (reply .refusal .number) 0 unrefused,
+      )
       (decision remaining winner (reply .count) acknowledges
-      (winner-in bytes lengths acknowledges tableRoom carriedRoom levelRoom small unrefused)))
+      (winner-in request tableRoom carriedRoom levelRoom small unrefused)))
     where
       go : Decision winner remaining verdict (ended winner (reply .count) acknowledges) → Way
       go (together every is) = by-end every is
@@ -166,7 +170,7 @@ module _ (bytes lengths acknowledges : List ℕ) (tableRoom carriedRoom levelRoo
       to : Way → verdict ≡ Sent m → Whole winner acknowledges (reply .count) × (m ≡ length winner)
       to (sent all-so is) says =
           let sendable = least-sendable messages
-          (given bytes lengths acknowledges tableRoom carriedRoom levelRoom small unrefused) in (
+          (given request tableRoom carriedRoom levelRoom small unrefused) in (
             record {
               carried = count-whole all-so;
               acknowledged = each-acknowledged winner acknowledges all-so (sendable .answered);
@@ -190,7 +194,7 @@ module _ (bytes lengths acknowledges : List ℕ) (tableRoom carriedRoom levelRoo
   cut-exactly k = (to way, from way)
     where
       counted : reply .count ≡ carriedCount winner acknowledges
-      counted = count-is bytes lengths acknowledges tableRoom carriedRoom levelRoom small unrefused
+      counted = count-is request tableRoom carriedRoom levelRoom small unrefused
 
       to : Way → verdict ≡ Cut k → Everyone (λ own. own ≡ winner) remaining × FirstRefused winner acknowledges k
       to (sent all-so is) says = absurd (omega (arith, ap kind (sym is ∙ says)))
@@ -199,7 +203,7 @@ module _ (bytes lengths acknowledges : List ℕ) (tableRoom carriedRoom levelRoo
             every,
             rw (← k-is)
                 (some-refused winner
-                (given bytes lengths acknowledges tableRoom carriedRoom levelRoom small unrefused .bits) some-so),
+                (given request tableRoom carriedRoom levelRoom small unrefused .bits) some-so),
           )
       to (differs differ is) says = absurd (omega (arith, ap kind (sym is ∙ says)))
 

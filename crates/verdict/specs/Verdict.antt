@@ -9,6 +9,8 @@ use Rattle.laws.specs.Same.{same}
 use Rattle.arbitration_rules.specs.declared.Arbitrated.{Arbitrated}
 use Rattle.arbitration_rules.specs.declared.Seat.{Seat}
 use Rattle.arbitration_rules.specs.Outcome.{allAcknowledged}
+use Rattle.arbitration_rules.specs.Reply.{Request}
+use Rattle.arbitration_messages.specs.Gathered.{passing}
 use Rattle.verdict.specs.declared.Verdict.{Verdict}
 use Rattle.verdict.specs.declared.Verdict.the-variants.{Refused, Undecided, Cut, Sent}
 
@@ -40,3 +42,7 @@ verdictOf reply messages acknowledges =
     cond (eqb (reply .refusal .number) 0)
     (decided (contenders (reply .seats) messages) (reply .count) acknowledges)
     (Refused (reply .refusal .number))
+
+-- That of a reply to a request. Where 12 or 13 applies there is no message.
+abbrev pub verdictFor : Arbitrated → Request → Verdict
+verdictFor reply request = verdictOf reply (passing request) (request .acknowledges)

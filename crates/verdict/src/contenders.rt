@@ -1,7 +1,7 @@
 // The boards that are still in: the first of them, and whether all of them have one message.
 ghost use mathlib.Core.Path.{_≡_};
 ghost use Rattle.laws.specs.Search.{first as firstOf, all};
-ghost use Rattle.arbitration_rules.specs.Reply.{messagesOf};
+ghost use Rattle.arbitration_rules.specs.Reply.{cut};
 ghost use Rattle.laws.specs.Same.{same as sameOf};
 ghost use Rattle.verdict.specs.Verdict.{stillIn, contenders};
 use crate::messages;
@@ -25,20 +25,20 @@ pub(crate) fn first(seats: [Seat; MAX_MASTERS]) -> usize
 
 // Every board that is still in has this message.
 pub(crate) fn agree(
-    message: &[u8],
+    message: &[u16],
     seats: [Seat; MAX_MASTERS],
-    bytes: &[u8],
+    sent: &[u16],
     lengths: &[u32],
 ) -> bool
     ensures { λ r. ⌜ r ≡ all (sameOf (now (message .entry)))
-        (contenders seats (messagesOf (now (lengths .entry)) (now (bytes .entry)))) ⌝ }
+        (contenders seats (cut (now (lengths .entry)) (now (sent .entry)))) ⌝ }
 {
     let mut from: usize = 0;
     let mut i: usize = 0;
     while (i < lengths.len()) & (i < MAX_MASTERS) {
-        let to = arbitration_checks::end_of(bytes.len(), from, lengths[i]);
+        let to = arbitration_messages::end_of(sent.len(), from, lengths[i]);
         let seat = seats[i];
-        if seat.contending & !messages::same(message, &bytes[from..to]) {
+        if seat.contending & !messages::same(message, &sent[from..to]) {
             return false;
         }
         from = to;

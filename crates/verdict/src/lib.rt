@@ -1,7 +1,7 @@
 // The verdict of a load: from arbitrate's reply, the messages and the acknowledges.
 ghost use mathlib.Core.Path.{_≡_};
-ghost use Rattle.arbitration_rules.specs.Reply.{messagesOf};
-ghost use Rattle.verdict.specs.Verdict.{contenders as contendersOf, decided, verdictOf};
+ghost use Rattle.arbitration_rules.specs.Reply.{asked, cut};
+ghost use Rattle.verdict.specs.Verdict.{contenders as contendersOf, decided, verdictFor};
 
 mod contenders; // contenders.rt: the boards that are still in, and whether their messages are the same
 mod messages; // messages.rt: where a message lies, two compared, and whether every byte is acknowledged
@@ -9,8 +9,6 @@ mod messages; // messages.rt: where a message lies, two compared, and whether ev
 use arbitration_rules::Arbitrated;
 use arbitration_rules::MAX_MASTERS;
 use arbitration_rules::Seat;
-pub use messages::Span;
-pub use messages::message_at;
 
 // What a rehearsal says of a load.
 pub enum Verdict {
@@ -28,22 +26,22 @@ pub enum Verdict {
 fn decide(
     seats: [Seat; MAX_MASTERS],
     count: usize,
-    bytes: &[u8],
+    sent: &[u16],
     lengths: &[u32],
     acks: &[u8],
 ) -> Verdict
-    ensures { λ r. ⌜ r ≡ decided (contendersOf seats (messagesOf (now (lengths .entry)) (now (bytes .entry)))) count
+    ensures { λ r. ⌜ r ≡ decided (contendersOf seats (cut (now (lengths .entry)) (now (sent .entry)))) count
         (now (acks .entry)) ⌝ }
 {
     let winner = contenders::first(seats);
     if (winner >= MAX_MASTERS) | (winner >= lengths.len()) {
         return Verdict::Undecided;
     }
-    let span = message_at(bytes, lengths, winner);
+    let span = messages::message_at(sent, lengths, winner);
     let from = span.from;
     let to = span.to;
-    let message = &bytes[from..to];
-    if !contenders::agree(message, seats, bytes, lengths) {
+    let message = &sent[from..to];
+    if !contenders::agree(message, seats, sent, lengths) {
         return Verdict::Undecided;
     }
     if (count == message.len()) & messages::acknowledged(message, acks) {
@@ -52,15 +50,20 @@ fn decide(
     Verdict::Cut(count)
 }
 
-// The verdict of a reply to the messages that lie in bytes one after the other, each of its length.
-pub fn judge(reply: Arbitrated, bytes: &[u8], lengths: &[u32], acks: &[u8]) -> Verdict
-    ensures { λ r. ⌜ r ≡ verdictOf reply (messagesOf (now (lengths .entry)) (now (bytes .entry)))
-        (now (acks .entry)) ⌝ }
+// The verdict of a reply to the messages that lie in bytes one after the other, in parts as in arbitrate.
+pub fn judge(reply: Arbitrated, bytes: &[u8], parts: &[u32], counts: &[u32], acks: &[u8]) -> Verdict
+    ensures { λ r. ⌜ r ≡ verdictFor reply
+        (asked (now (bytes .entry)) (now (parts .entry)) (now (counts .entry)) (now (acks .entry))) ⌝ }
 {
     let refusal = reply.refusal;
     if refusal.number != 0 {
         return Verdict::Refused(refusal.number);
     }
+    let messages = arbitration_messages::gather(bytes, parts, counts);
+    let sent = messages.sent;
+    let size = messages.size;
+    let lengths = messages.lengths;
+    let masters = messages.count;
     let seats = reply.seats;
-    decide(seats, reply.count, bytes, lengths, acks)
+    decide(seats, reply.count, &sent[..size], &lengths[..masters], acks)
 }

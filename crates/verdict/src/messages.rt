@@ -1,18 +1,18 @@
-// Messages: where one lies in the bytes, whether two are the same, whether every byte is acknowledged.
+// Messages: where one lies in what is sent, whether two are the same, whether every byte is acknowledged.
 ghost use mathlib.Core.Path.{_≡_};
 ghost use Rattle.arbitration_rules.specs.Outcome.{allAcknowledged};
 ghost use Rattle.verdict.specs.Message.{MessageAt};
 ghost use Rattle.laws.specs.Same.{same as sameOf};
 
-// A part of the bytes: from one index to another.
-pub struct Span {
-    pub from: usize,
-    pub to: usize,
+// From one index to another.
+pub(crate) struct Span {
+    pub(crate) from: usize,
+    pub(crate) to: usize,
 }
 
-// Where a message lies in the bytes, by its index; an empty part past the last.
-pub fn message_at(bytes: &[u8], lengths: &[u32], index: usize) -> Span
-    ensures { λ r. ⌜ MessageAt (now (lengths .entry)) (now (bytes .entry)) index r ⌝ }
+// Where a message lies in what is sent, by its index; nothing past the last.
+pub(crate) fn message_at(sent: &[u16], lengths: &[u32], index: usize) -> Span
+    ensures { λ r. ⌜ MessageAt (now (lengths .entry)) (now (sent .entry)) index r ⌝ }
 {
     if index >= lengths.len() {
         return Span { from: 0, to: 0 };
@@ -20,15 +20,15 @@ pub fn message_at(bytes: &[u8], lengths: &[u32], index: usize) -> Span
     let mut from: usize = 0;
     let mut i: usize = 0;
     while i < index {
-        from = arbitration_checks::end_of(bytes.len(), from, lengths[i]);
+        from = arbitration_messages::end_of(sent.len(), from, lengths[i]);
         i += 1;
     }
-    let to = arbitration_checks::end_of(bytes.len(), from, lengths[index]);
+    let to = arbitration_messages::end_of(sent.len(), from, lengths[index]);
     Span { from, to }
 }
 
-// Two messages are the same, byte by byte.
-pub(crate) fn same(message: &[u8], other: &[u8]) -> bool
+// Two messages are the same: the same bytes in the same parts.
+pub(crate) fn same(message: &[u16], other: &[u16]) -> bool
     ensures { λ r. ⌜ r ≡ sameOf (now (message .entry)) (now (other .entry)) ⌝ }
 {
     if message.len() != other.len() {
@@ -45,7 +45,7 @@ pub(crate) fn same(message: &[u8], other: &[u8]) -> bool
 }
 
 // Every byte of a message is acknowledged.
-pub(crate) fn acknowledged(message: &[u8], acks: &[u8]) -> bool
+pub(crate) fn acknowledged(message: &[u16], acks: &[u8]) -> bool
     ensures { λ r. ⌜ r ≡ allAcknowledged (now (message .entry)) (now (acks .entry)) ⌝ }
 {
     let mut i: usize = 0;

@@ -21,9 +21,12 @@ use Rattle.arbitration_rules.specs.declared.Arbitrated.{Arbitrated}
 use Rattle.arbitration_rules.specs.Masters.{applied, judged}
 use Rattle.arbitration_rules.specs.Outcome.{undecided}
 use Rattle.arbitration_rules.specs.Reply as reply
-use Rattle.arbitration_rules.specs.Reply.{refusal, refused, answered}
-use Rattle.arbitration_rules.specs.Run.{wire, performed, through, run}
+use Rattle.arbitration_rules.specs.Reply.{Request, refusal, refused, answered}
+use Rattle.arbitration_rules.specs.Run.{wire, performed, through, restarting, run}
 use Rattle.arbitration_rules.specs.Cleared.{clearedAt, clearedIn, clearedBy}
+use Rattle.arbitration_messages.specs.Gathered.{passing}
+use Rattle.arbitration_checks.specs.declared.order.Least.{Least}
+use Rattle.arbitration_checks.specs.Order.{leastOf}
 
 -- a register read and written, a word read and written, a sample, a tick
 unfoldable pub read : Usi → ℕ → Read
@@ -68,24 +71,31 @@ unfolding starts stops takes withBit next cut lists
 read-into answer levels buffer = decode.eventsAfter answer levels buffer
 
 -- what arbitrate replies, and the table and the buffers after it
-unfoldable pub arbitrated : List ℕ → List ℕ → List ℕ → ℕ → ℕ → ℕ → Arbitrated
+unfoldable pub arbitrated : Request → ℕ → ℕ → ℕ → Arbitrated
 unfolding countFlags conditionFlags conditionCount lossControl lossFlags endFlags phaseAfter followed settled writeByte
     edged fallen risen step.sample step.tick zipWith applied judged undecided refusal refused answered wire performed
-    through run clearedAt clearedIn clearedBy reply.arbitrated
-arbitrated bytes lengths acknowledges tableRoom carriedRoom levelRoom =
-    reply.arbitrated bytes lengths acknowledges tableRoom carriedRoom levelRoom
+    through restarting run clearedAt clearedIn clearedBy reply.arbitrated
+arbitrated request tableRoom carriedRoom levelRoom = reply.arbitrated request tableRoom carriedRoom levelRoom
 
-unfoldable pub tableAfter : List ℕ → List ℕ → List ℕ → Refusal → List Usi → List Usi
+unfoldable pub tableAfter : Request → Refusal → List Usi → List Usi
 unfolding countFlags conditionFlags conditionCount lossControl lossFlags endFlags phaseAfter followed settled writeByte
-    edged fallen risen step.sample step.tick zipWith applied judged wire performed through run reply.tableAfter
-tableAfter bytes lengths acknowledges found table = reply.tableAfter bytes lengths acknowledges found table
+    edged fallen risen step.sample step.tick zipWith applied judged wire performed through restarting run
+    reply.tableAfter
+tableAfter request found table = reply.tableAfter request found table
 
-unfoldable pub carriedAfter : List ℕ → List ℕ → List ℕ → Refusal → List ℕ → List ℕ
+unfoldable pub carriedAfter : Request → Refusal → List ℕ → List ℕ
 unfolding countFlags conditionFlags conditionCount lossControl lossFlags endFlags phaseAfter followed settled writeByte
-    edged fallen risen step.sample step.tick zipWith applied judged wire performed through run reply.carriedAfter
-carriedAfter bytes lengths acknowledges found buffer = reply.carriedAfter bytes lengths acknowledges found buffer
+    edged fallen risen step.sample step.tick zipWith applied judged wire performed through restarting run
+    reply.carriedAfter
+carriedAfter request found buffer = reply.carriedAfter request found buffer
 
-unfoldable pub levelsAfter : List ℕ → List ℕ → List ℕ → Refusal → List ℕ → List ℕ
+unfoldable pub levelsAfter : Request → Refusal → List ℕ → List ℕ
 unfolding countFlags conditionFlags conditionCount lossControl lossFlags endFlags phaseAfter followed settled writeByte
-    edged fallen risen step.sample step.tick zipWith applied judged wire performed through run reply.levelsAfter
-levelsAfter bytes lengths acknowledges found buffer = reply.levelsAfter bytes lengths acknowledges found buffer
+    edged fallen risen step.sample step.tick zipWith applied judged wire performed through restarting run
+    reply.levelsAfter
+levelsAfter request found buffer = reply.levelsAfter request found buffer
+
+-- what least_message answers
+unfoldable pub least : Request → Least
+unfolding zipWith passing
+least request = leastOf request

@@ -3,3 +3,4 @@ pub mod Worked
 pub mod ModuleRules
 pub mod TraceRules
 pub mod ArbitrationRules
+pub mod RestartRules

@@ -1,10 +1,9 @@
--- Document 01's worked numbers P1 to P12, each of the reply.
+-- Document 01's worked numbers P1 to P12, each of the reply; messages have one part each.
 use mathlib.Core.Path.{_≡_, refl}
 use mathlib.Core.Bool.{Bool, true, false}
 use mathlib.Core.List.{List, [], _∷_, _++_}
 use Prim.Native.Nat.{ℕ}
-use lib.ListN.{length, replicate}
-use Rattle.laws.specs.declared.Refusal.{Refusal}
+use lib.ListN.{replicate}
 use Rattle.laws.specs.Refusals.{none, refusedAt}
 use Rattle.usi_registers.specs.Registers.{USICTL0, USICTL1, USICKCTL, USICNT, USISRL}
 use Rattle.usi.specs.declared.Usi.{Usi}
@@ -19,8 +18,10 @@ use Rattle.decode.specs.DecodeReply as decode
 use Rattle.arbitration_rules.specs.declared.Arbitrated.{Arbitrated}
 use Rattle.arbitration_rules.specs.declared.Seat.{Seat}
 use Rattle.arbitration_rules.specs.Reply as reply
-use Rattle.worked_numbers.proofs.Computed.{read, write, writeWord, sample, encoded, drawn, decoded, read-into, arbitrated, tableAfter}
-use Rattle.worked_numbers.proofs.Computed.{carriedAfter, levelsAfter}
+use Rattle.arbitration_rules.specs.Reply.{Request}
+use Rattle.arbitration_rules.proofs.OnePartRequest.{single}
+use Rattle.worked_numbers.proofs.Computed.{read, write, writeWord, sample, encoded, drawn, decoded, read-into}
+use Rattle.worked_numbers.proofs.Computed.{arbitrated, tableAfter, carriedAfter, levelsAfter}
 
 abbrev written : ℕ → ℕ → Usi → Usi
 written address value u = moduleOf (step.writeByte u address value)
@@ -108,13 +109,15 @@ seventhLevels =
     3 ∷ 1 ∷ 2 ∷ 3 ∷ 0 ∷ 1 ∷ 2 ∷ 3 ∷ 0 ∷ 1 ∷ 0 ∷ 1 ∷ 0 ∷ 1 ∷ 0 ∷ 1 ∷ 0 ∷ 1 ∷ 0 ∷ 1 ∷ 0 ∷ 1 ∷ 3 ∷ []
 
 abbrev seventhStamps : List ℕ
-seventhStamps = 0 ∷ 1 ∷ 2 ∷ 3 ∷ 4 ∷ 5 ∷ 6 ∷ 7 ∷ 8 ∷ 9 ∷ 10 ∷ 11 ∷ 12 ∷ 13 ∷ 14 ∷ 15 ∷ 16 ∷ 17 ∷ 18 ∷ 19 ∷ 20 ∷ 21 ∷ 22 ∷ []
+seventhStamps =
+    0 ∷ 1 ∷ 2 ∷ 3 ∷ 4 ∷ 5 ∷ 6 ∷ 7 ∷ 8 ∷ 9 ∷ 10 ∷ 11 ∷ 12 ∷ 13 ∷ 14 ∷ 15 ∷ 16 ∷ 17 ∷ 18 ∷ 19 ∷ 20 ∷ 21 ∷ 22 ∷ []
 
 pub P7-count : encode.encoded seventh 0 1 23 23 ≡ Drawn 23
 unfolding encoded
 P7-count = refl
 
-pub P7-levels : encode.levelsAfter (encode.encoded seventh 0 1 23 24) seventh (replicate 24 7) ≡ seventhLevels ++ 7 ∷ []
+pub P7-levels : encode.levelsAfter (encode.encoded seventh 0 1 23 24) seventh (replicate 24 7)
+    ≡ seventhLevels ++ 7 ∷ []
 unfolding encoded drawn
 P7-levels = refl
 
@@ -172,113 +175,113 @@ stopped number place = record { refusal = refusedAt number place; count = 0; sea
 
 -- P8: messages 90 12 and 90 0F, acknowledges 0 0: carried 90 0F; the first master lost at position 12. It ends with
 -- C0 4D 22 80 and USISRL 0F; the other with C8 45 22 00 and FF
-abbrev eighth : List ℕ
-eighth = 0x90 ∷ 0x12 ∷ 0x90 ∷ 0x0f ∷ []
+abbrev eighth : List ℕ → Request
+eighth acknowledges = single (0x90 ∷ 0x12 ∷ 0x90 ∷ 0x0f ∷ []) (2 ∷ 2 ∷ []) acknowledges
 
-pub P8 : reply.arbitrated eighth (2 ∷ 2 ∷ []) (0 ∷ 0 ∷ []) 2 2 41
+pub P8 : reply.arbitrated (eighth (0 ∷ 0 ∷ [])) 2 2 41
     ≡ answer 2 (lost-at 12 ∷ in-seat ∷ replicate 14 no-seat)
 unfolding arbitrated
 P8 = refl
 
 -- whatever the table held, and what is past the two stays
-pub P8-table : (a b c : Usi) → reply.tableAfter eighth (2 ∷ 2 ∷ []) (0 ∷ 0 ∷ []) none (a ∷ b ∷ c ∷ [])
+pub P8-table : (a b c : Usi) → reply.tableAfter (eighth (0 ∷ 0 ∷ [])) none (a ∷ b ∷ c ∷ [])
     ≡ ended 0xc0 0x4d 0x80 0x0f false false ∷ winner ∷ c ∷ []
 unfolding tableAfter
 P8-table a b c = refl
 
-pub P8-carried : reply.carriedAfter eighth (2 ∷ 2 ∷ []) (0 ∷ 0 ∷ []) none (7 ∷ 7 ∷ 7 ∷ []) ≡ 0x90 ∷ 0x0f ∷ 7 ∷ []
+pub P8-carried : reply.carriedAfter (eighth (0 ∷ 0 ∷ [])) none (7 ∷ 7 ∷ 7 ∷ []) ≡ 0x90 ∷ 0x0f ∷ 7 ∷ []
 unfolding carriedAfter
 P8-carried = refl
 
-pub P8-levels : reply.levelsAfter eighth (2 ∷ 2 ∷ []) (0 ∷ 0 ∷ []) none (replicate 42 7)
+pub P8-levels : reply.levelsAfter (eighth (0 ∷ 0 ∷ [])) none (replicate 42 7)
     ≡ 3 ∷ 1 ∷ 2 ∷ 3 ∷ 0 ∷ 1 ∷ 0 ∷ 1 ∷ 2 ∷ 3 ∷ 0 ∷ 1 ∷ 0 ∷ 1 ∷ 0 ∷ 1 ∷ 0 ∷ 1 ∷ 0 ∷ 1
     ∷ 0 ∷ 1 ∷ 0 ∷ 1 ∷ 0 ∷ 1 ∷ 0 ∷ 1 ∷ 2 ∷ 3 ∷ 2 ∷ 3 ∷ 2 ∷ 3 ∷ 2 ∷ 3 ∷ 0 ∷ 1 ∷ 0 ∷ 1 ∷ 3 ∷ 7 ∷ []
 unfolding levelsAfter
 P8-levels = refl
 
 -- P9: the same messages, acknowledges 1 0: carried 90, none lost
-pub P9 : reply.arbitrated eighth (2 ∷ 2 ∷ []) (1 ∷ 0 ∷ []) 2 1 23
+pub P9 : reply.arbitrated (eighth (1 ∷ 0 ∷ [])) 2 1 23
     ≡ answer 1 (in-seat ∷ in-seat ∷ replicate 14 no-seat)
 unfolding arbitrated
 P9 = refl
 
-pub P9-table : (a b c : Usi) → reply.tableAfter eighth (2 ∷ 2 ∷ []) (1 ∷ 0 ∷ []) none (a ∷ b ∷ c ∷ [])
+pub P9-table : (a b c : Usi) → reply.tableAfter (eighth (1 ∷ 0 ∷ [])) none (a ∷ b ∷ c ∷ [])
     ≡ winner ∷ winner ∷ c ∷ []
 unfolding tableAfter
 P9-table a b c = refl
 
-pub P9-carried : reply.carriedAfter eighth (2 ∷ 2 ∷ []) (1 ∷ 0 ∷ []) none (7 ∷ 7 ∷ []) ≡ 0x90 ∷ 7 ∷ []
+pub P9-carried : reply.carriedAfter (eighth (1 ∷ 0 ∷ [])) none (7 ∷ 7 ∷ []) ≡ 0x90 ∷ 7 ∷ []
 unfolding carriedAfter
 P9-carried = refl
 
-pub P9-levels : reply.levelsAfter eighth (2 ∷ 2 ∷ []) (1 ∷ 0 ∷ []) none (replicate 24 7)
+pub P9-levels : reply.levelsAfter (eighth (1 ∷ 0 ∷ [])) none (replicate 24 7)
     ≡ 3 ∷ 1 ∷ 2 ∷ 3 ∷ 0 ∷ 1 ∷ 0 ∷ 1 ∷ 2 ∷ 3 ∷ 0 ∷ 1 ∷ 0 ∷ 1 ∷ 0 ∷ 1 ∷ 0 ∷ 1 ∷ 2 ∷ 3 ∷ 0 ∷ 1 ∷ 3 ∷ 7 ∷ []
 unfolding levelsAfter
 P9-levels = refl
 
 -- P10: messages 90 and 90 00, acknowledges 0 0: refusal 16, whatever table and buffers are, and they stay
-abbrev tenth : List ℕ
-tenth = 0x90 ∷ 0x90 ∷ 0x00 ∷ []
+abbrev tenth : List ℕ → Request
+tenth acknowledges = single (0x90 ∷ 0x90 ∷ 0x00 ∷ []) (1 ∷ 2 ∷ []) acknowledges
 
 pub P10 : (tableRoom carriedRoom levelRoom : ℕ)
-    → reply.arbitrated tenth (1 ∷ 2 ∷ []) (0 ∷ 0 ∷ []) tableRoom carriedRoom levelRoom ≡ stopped 16 0
+    → reply.arbitrated (tenth (0 ∷ 0 ∷ [])) tableRoom carriedRoom levelRoom ≡ stopped 16 0
 unfolding arbitrated
 P10 tableRoom carriedRoom levelRoom = refl
 
 pub P10-table : (table : List Usi)
-    → reply.tableAfter tenth (1 ∷ 2 ∷ []) (0 ∷ 0 ∷ []) (refusedAt 16 0) table ≡ table
+    → reply.tableAfter (tenth (0 ∷ 0 ∷ [])) (refusedAt 16 0) table ≡ table
 unfolding tableAfter
 P10-table table = refl
 
 pub P10-carried : (buffer : List ℕ)
-    → reply.carriedAfter tenth (1 ∷ 2 ∷ []) (0 ∷ 0 ∷ []) (refusedAt 16 0) buffer ≡ buffer
+    → reply.carriedAfter (tenth (0 ∷ 0 ∷ [])) (refusedAt 16 0) buffer ≡ buffer
 unfolding carriedAfter
 P10-carried buffer = refl
 
 pub P10-levels : (buffer : List ℕ)
-    → reply.levelsAfter tenth (1 ∷ 2 ∷ []) (0 ∷ 0 ∷ []) (refusedAt 16 0) buffer ≡ buffer
+    → reply.levelsAfter (tenth (0 ∷ 0 ∷ [])) (refusedAt 16 0) buffer ≡ buffer
 unfolding levelsAfter
 P10-levels buffer = refl
 
 -- P11: acknowledges 1 0: carried 90
-pub P11 : reply.arbitrated tenth (1 ∷ 2 ∷ []) (1 ∷ 0 ∷ []) 2 1 23
+pub P11 : reply.arbitrated (tenth (1 ∷ 0 ∷ [])) 2 1 23
     ≡ answer 1 (in-seat ∷ in-seat ∷ replicate 14 no-seat)
 unfolding arbitrated
 P11 = refl
 
-pub P11-table : (a b : Usi) → reply.tableAfter tenth (1 ∷ 2 ∷ []) (1 ∷ 0 ∷ []) none (a ∷ b ∷ [])
+pub P11-table : (a b : Usi) → reply.tableAfter (tenth (1 ∷ 0 ∷ [])) none (a ∷ b ∷ [])
     ≡ winner ∷ winner ∷ []
 unfolding tableAfter
 P11-table a b = refl
 
-pub P11-carried : reply.carriedAfter tenth (1 ∷ 2 ∷ []) (1 ∷ 0 ∷ []) none (7 ∷ 7 ∷ []) ≡ 0x90 ∷ 7 ∷ []
+pub P11-carried : reply.carriedAfter (tenth (1 ∷ 0 ∷ [])) none (7 ∷ 7 ∷ []) ≡ 0x90 ∷ 7 ∷ []
 unfolding carriedAfter
 P11-carried = refl
 
-pub P11-levels : reply.levelsAfter tenth (1 ∷ 2 ∷ []) (1 ∷ 0 ∷ []) none (replicate 24 7)
+pub P11-levels : reply.levelsAfter (tenth (1 ∷ 0 ∷ [])) none (replicate 24 7)
     ≡ 3 ∷ 1 ∷ 2 ∷ 3 ∷ 0 ∷ 1 ∷ 0 ∷ 1 ∷ 2 ∷ 3 ∷ 0 ∷ 1 ∷ 0 ∷ 1 ∷ 0 ∷ 1 ∷ 0 ∷ 1 ∷ 2 ∷ 3 ∷ 0 ∷ 1 ∷ 3 ∷ 7 ∷ []
 unfolding levelsAfter
 P11-levels = refl
 
 -- P12: messages 90, 90 00, 50, acknowledges 0 0: carried 50, two lost at position 0
-abbrev twelfth : List ℕ
-twelfth = 0x90 ∷ 0x90 ∷ 0x00 ∷ 0x50 ∷ []
+abbrev twelfth : Request
+twelfth = single (0x90 ∷ 0x90 ∷ 0x00 ∷ 0x50 ∷ []) (1 ∷ 2 ∷ 1 ∷ []) (0 ∷ 0 ∷ [])
 
-pub P12 : reply.arbitrated twelfth (1 ∷ 2 ∷ 1 ∷ []) (0 ∷ 0 ∷ []) 3 1 23
+pub P12 : reply.arbitrated twelfth 3 1 23
     ≡ answer 1 (lost-at 0 ∷ lost-at 0 ∷ in-seat ∷ replicate 13 no-seat)
 unfolding arbitrated
 P12 = refl
 
-pub P12-table : (a b c : Usi) → reply.tableAfter twelfth (1 ∷ 2 ∷ 1 ∷ []) (0 ∷ 0 ∷ []) none (a ∷ b ∷ c ∷ [])
+pub P12-table : (a b c : Usi) → reply.tableAfter twelfth none (a ∷ b ∷ c ∷ [])
     ≡ ended 0xc0 0x4d 0x80 0x50 false false ∷ ended 0xc0 0x4d 0x80 0x50 false false ∷ winner ∷ []
 unfolding tableAfter
 P12-table a b c = refl
 
-pub P12-carried : reply.carriedAfter twelfth (1 ∷ 2 ∷ 1 ∷ []) (0 ∷ 0 ∷ []) none (7 ∷ 7 ∷ []) ≡ 0x50 ∷ 7 ∷ []
+pub P12-carried : reply.carriedAfter twelfth none (7 ∷ 7 ∷ []) ≡ 0x50 ∷ 7 ∷ []
 unfolding carriedAfter
 P12-carried = refl
 
-pub P12-levels : reply.levelsAfter twelfth (1 ∷ 2 ∷ 1 ∷ []) (0 ∷ 0 ∷ []) none (replicate 24 7)
+pub P12-levels : reply.levelsAfter twelfth none (replicate 24 7)
     ≡ 3 ∷ 1 ∷ 0 ∷ 1 ∷ 2 ∷ 3 ∷ 0 ∷ 1 ∷ 2 ∷ 3 ∷ 0 ∷ 1 ∷ 0 ∷ 1 ∷ 0 ∷ 1 ∷ 0 ∷ 1 ∷ 0 ∷ 1 ∷ 0 ∷ 1 ∷ 3 ∷ 7 ∷ []
 unfolding levelsAfter
 P12-levels = refl

@@ -45,7 +45,7 @@ use Rattle.arbitration_rules.specs.Limits.{maxMasters}
 use Rattle.arbitration_rules.specs.Reply.{Request, asked}
 use Rattle.arbitration_run.specs.declared.sequencer.Sequencer.{Sequencer}
 use Rattle.arbitration_messages.specs.Gathered.{passing}
-use Rattle.arbitration_run.specs.Rows.{rowsOf}
+use Rattle.arbitration_members.specs.Rows.{rowsOf}
 use Rattle.arbitration_turns.specs.Turns.{Turn, Reached}
 use Rattle.arbitration.specs.declared.prepare.Prepared.{Prepared}
 use Rattle.arbitration.specs.Shown.{Lent, Arbitrates}

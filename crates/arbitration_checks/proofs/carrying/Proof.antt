@@ -4,7 +4,7 @@ use mathlib.Core.Path.{sym}
 use native.Mathlib.Omega.{arith}
 use lib.ListN.{length, length-take}
 use lib.Seq.{length-take-le}
-use Rattle.arbitration_checks.proofs.Carried.{carried-within}
+use Rattle.arbitration_rules.proofs.Carried.{carried-within}
 use borrow.Author.Needs.{needs}
 use Rattle.arbitration_checks.proofs.carrying.Statement.{statement}
 use Rattle.arbitration_checks.proofs.carrying.Tie as tie

@@ -17,11 +17,14 @@ first-requires c κs = search needs
 returns : tie.Need-returns
 returns c =
     let a = c .before .before .before .before .before .args in
-    judged-nobody (a .seats) (a .count) (a .lengths .now) (a .bytes .now) (a .acks .now) _ (c .before .first .ensures)
+    judged-nobody (a .seats) (a .count) (a .lengths .now) (a .sent .now) (a .acks .now) _ (c .before .first .ensures)
     (seated (c .before)) (c .if1 .taken)
 
 message-at-requires : tie.Need-message-at-requires
 message-at-requires c κs = search needs
+
+mul-message : tie.Need-mul-message
+mul-message c = search needs
 
 sub-message : tie.Need-sub-message
 sub-message c = search needs
@@ -40,7 +43,7 @@ returns-2 c =
     let at3 = c .before .before .before in
     let at5 = at3 .before .before in
     let a = at5 .before .before .before .before .args in
-    judged-apart (a .seats) (a .count) (a .lengths .now) (a .bytes .now) (a .acks .now) _ (at5 .first .ensures)
+    judged-apart (a .seats) (a .count) (a .lengths .now) (a .sent .now) (a .acks .now) _ (at5 .first .ensures)
     (seated at5) _
     _ (at3 .message-at .ensures .same) (c .before .agree .ensures) (at3 .before .if1 .left) (c .if2 .taken)
 
@@ -53,7 +56,7 @@ returns-3 c =
     let at5 = at2 .before .before .before in
     let at7 = at5 .before .before in
     let a = at7 .before .before .before .before .args in
-    judged-sent (a .seats) (a .count) (a .lengths .now) (a .bytes .now) (a .acks .now) _ (at7 .first .ensures)
+    judged-sent (a .seats) (a .count) (a .lengths .now) (a .sent .now) (a .acks .now) _ (at7 .first .ensures)
     (seated at7) _
     _ (at5 .message-at .ensures .same) (at2 .before .agree .ensures) (at5 .before .if1 .left) _
     (c .before .acknowledged .ensures) (at2 .if2 .left) (c .if3 .taken)
@@ -64,7 +67,7 @@ returns-4 c =
     let at5 = at2 .before .before .before in
     let at7 = at5 .before .before in
     let a = at7 .before .before .before .before .args in
-    judged-cut (a .seats) (a .count) (a .lengths .now) (a .bytes .now) (a .acks .now) _ (at7 .first .ensures)
+    judged-cut (a .seats) (a .count) (a .lengths .now) (a .sent .now) (a .acks .now) _ (at7 .first .ensures)
     (seated at7) _
     _ (at5 .message-at .ensures .same) (at2 .before .agree .ensures) (at5 .before .if1 .left) _
     (c .before .acknowledged .ensures) (at2 .if2 .left) (c .if3 .left)
@@ -76,6 +79,7 @@ decide-spec =
     first-requires
     returns
     message-at-requires
+    mul-message
     sub-message
     part-message-start
     part-message-end

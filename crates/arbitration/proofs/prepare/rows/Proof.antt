@@ -2,7 +2,7 @@
 use mathlib.Core.Path.{sym, ap, _∙_}
 use lib.Seq.{length-take-le}
 use Rattle.arbitration_messages.proofs.Whole.{size-within, count-within, whole}
-use Rattle.arbitration_run.specs.Rows.{rowsOf}
+use Rattle.arbitration_members.specs.Rows.{rowsOf}
 use borrow.Author.Needs.{needs}
 use Rattle.arbitration.proofs.prepare.rows.Statement.{statement}
 use Rattle.arbitration.proofs.prepare.rows.Tie as tie

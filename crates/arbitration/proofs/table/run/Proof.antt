@@ -45,10 +45,10 @@ use denote.Triple.Walked.{goes-none-slice, goes-slice, ends-at, walked, walk-mee
 use denote.Exit.{yes}
 use Rattle.usi.specs.declared.Usi.{Usi}
 use Rattle.arbitration_rules.specs.Limits.{maxMasters}
-use Rattle.arbitration_run.specs.declared.pass.Pass.{Pass}
-use Rattle.arbitration_run.specs.declared.pass.Seen.{Seen}
+use Rattle.arbitration_pass.specs.declared.pass.Pass.{Pass}
+use Rattle.arbitration_pass.specs.declared.pass.Seen.{Seen}
 use Rattle.arbitration_run.specs.declared.sequencer.Sequencer.{Sequencer}
-use Rattle.arbitration_run.specs.Pass.{passed, seen as seenBy}
+use Rattle.arbitration_pass.specs.Pass.{passed, seen as seenBy}
 use Rattle.arbitration_run.specs.Sequence.{passOf, loaded, turned, carriedAfter, levelsAfter}
 use Rattle.arbitration_turns.specs.Turns.{Turn, ready, turnAfter, Reached, ended, more}
 use Rattle.arbitration_run.proofs.sequencer.Sequencer.loaded as loaded′

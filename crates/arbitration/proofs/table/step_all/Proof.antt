@@ -42,17 +42,17 @@ use denote.Triple.Walked.{walk-meets}
 use denote.Exit.{yes}
 use Rattle.usi.specs.declared.Usi.{Usi}
 use Rattle.arbitration_rules.specs.Limits.{maxMasters}
-use Rattle.arbitration_run.specs.declared.pass.Pass.{Pass}
-use Rattle.arbitration_run.specs.declared.pass.Sampling.{Sampling}
-use Rattle.arbitration_run.specs.declared.pass.Seen.{Seen}
-use Rattle.arbitration_run.specs.Instants.{samples}
-use Rattle.arbitration_run.specs.Pass.{passed, sampling as samplingOf, samplingPass, seen as seenBy}
-use Rattle.arbitration_run.proofs.pass.Pass.samples as samples′
-use Rattle.arbitration_run.proofs.pass.Pass.samples.Symbol as samples-def
-use Rattle.arbitration_run.proofs.pass.Pass.samples.Met as samples-met
-use Rattle.arbitration_run.proofs.pass.Pass.sampling as sampling′
-use Rattle.arbitration_run.proofs.pass.Pass.sampling.Symbol as sampling-def
-use Rattle.arbitration_run.proofs.pass.Pass.sampling.Met as sampling-met
+use Rattle.arbitration_pass.specs.declared.pass.Pass.{Pass}
+use Rattle.arbitration_pass.specs.declared.pass.Sampling.{Sampling}
+use Rattle.arbitration_pass.specs.declared.pass.Seen.{Seen}
+use Rattle.arbitration_pass.specs.Instants.{samples}
+use Rattle.arbitration_pass.specs.Pass.{passed, sampling as samplingOf, samplingPass, seen as seenBy}
+use Rattle.arbitration_pass.proofs.pass.Pass.samples as samples′
+use Rattle.arbitration_pass.proofs.pass.Pass.samples.Symbol as samples-def
+use Rattle.arbitration_pass.proofs.pass.Pass.samples.Met as samples-met
+use Rattle.arbitration_pass.proofs.pass.Pass.sampling as sampling′
+use Rattle.arbitration_pass.proofs.pass.Pass.sampling.Symbol as sampling-def
+use Rattle.arbitration_pass.proofs.pass.Pass.sampling.Met as sampling-met
 use Rattle.arbitration.proofs.table.sample_all as sample-all
 use Rattle.arbitration.proofs.table.sample_all.Symbol as sample-all-def
 use Rattle.arbitration.proofs.table.sample_all.Met as sample-all-met
@@ -393,9 +393,9 @@ step-all-spec 𝓤 H 𝓜 𝓖 𝓡 =
     (tables 𝓤 H 𝓜 𝓡 code.env .C) (tables 𝓤 H 𝓜 𝓡 code.env .Λ) key.name code.function (code.unfolded 𝓤 H 𝓜 𝓡)
     (meets 𝓤 H (𝓖 .A) (givenOf 𝓤 H 𝓜 𝓖) (𝓜 .mem) (𝓡 .run) (tablesOf 𝓤 H 𝓜 (tables 𝓤 H 𝓜 𝓡 code.env))
     (cited 𝓤 H (Samples 𝓤 H (𝓖 .A) (𝓜 .mem) (𝓡 .run)) 𝓜 𝓡 code.env samples-def.name samples-def.routine
-    code.calls-arbitration-run·pass·Pass·samples (samples-met.met 𝓤 H 𝓜 𝓖 𝓡))
+    code.calls-arbitration-pass·pass·Pass·samples (samples-met.met 𝓤 H 𝓜 𝓖 𝓡))
     (cited 𝓤 H (SamplingOf 𝓤 H (𝓖 .A) (𝓜 .mem) (𝓡 .run)) 𝓜 𝓡 code.env sampling-def.name sampling-def.routine
-    code.calls-arbitration-run·pass·Pass·sampling (sampling-met.met 𝓤 H 𝓜 𝓖 𝓡))
+    code.calls-arbitration-pass·pass·Pass·sampling (sampling-met.met 𝓤 H 𝓜 𝓖 𝓡))
     (cited 𝓤 H (SampleAll 𝓤 H (𝓖 .A) (𝓜 .mem) (𝓡 .run)) 𝓜 𝓡 code.env sample-all-def.name sample-all-def.routine
     code.calls-arbitration·table·sample-all (sample-all-met.met 𝓤 H 𝓜 𝓖 𝓡))
     (cited 𝓤 H (WriteAll 𝓤 H (𝓖 .A) (𝓜 .mem) (𝓡 .run)) 𝓜 𝓡 code.env write-all-def.name write-all-def.routine

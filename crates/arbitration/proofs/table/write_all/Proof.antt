@@ -36,16 +36,16 @@ use denote.Triple.Walked.{walk-meets}
 use denote.Exit.{yes}
 use Rattle.usi.specs.declared.Usi.{Usi}
 use Rattle.arbitration_rules.specs.Limits.{maxMasters}
-use Rattle.arbitration_run.specs.declared.pass.Pass.{Pass}
-use Rattle.arbitration_run.specs.Instants.{samples}
-use Rattle.arbitration_run.specs.Pass.{wroteAt}
-use Rattle.arbitration_run.proofs.unseen.Symbol as unseen-def
-use Rattle.arbitration_run.proofs.unseen.Met as unseen-met
-use Rattle.arbitration_run.proofs.noted.Symbol as noted-def
-use Rattle.arbitration_run.proofs.noted.Met as noted-met
-use Rattle.arbitration_run.proofs.wrote_at as wrote-at′
-use Rattle.arbitration_run.proofs.wrote_at.Symbol as wrote-at-def
-use Rattle.arbitration_run.proofs.wrote_at.Met as wrote-at-met
+use Rattle.arbitration_pass.specs.declared.pass.Pass.{Pass}
+use Rattle.arbitration_pass.specs.Instants.{samples}
+use Rattle.arbitration_pass.specs.Pass.{wroteAt}
+use Rattle.arbitration_pass.proofs.unseen.Symbol as unseen-def
+use Rattle.arbitration_pass.proofs.unseen.Met as unseen-met
+use Rattle.arbitration_pass.proofs.noted.Symbol as noted-def
+use Rattle.arbitration_pass.proofs.noted.Met as noted-met
+use Rattle.arbitration_pass.proofs.wrote_at as wrote-at′
+use Rattle.arbitration_pass.proofs.wrote_at.Symbol as wrote-at-def
+use Rattle.arbitration_pass.proofs.wrote_at.Met as wrote-at-met
 use Rattle.arbitration.proofs.Walk.{uint, have, typed, Meant, by-value}
 use Rattle.arbitration.proofs.Lent.{word, Borrowed, token, Fits}
 use Rattle.arbitration.proofs.Module.{usi-row, usi, pass-row, pass-mir, pass, seen-row, seen}
@@ -180,8 +180,8 @@ write-all-spec 𝓤 H 𝓜 𝓖 𝓡 =
     (tables 𝓤 H 𝓜 𝓡 code.env .C) (tables 𝓤 H 𝓜 𝓡 code.env .Λ) key.name code.function (code.unfolded 𝓤 H 𝓜 𝓡)
     (meets 𝓤 H (𝓖 .A) (givenOf 𝓤 H 𝓜 𝓖) (𝓜 .mem) (𝓡 .run) (tablesOf 𝓤 H 𝓜 (tables 𝓤 H 𝓜 𝓡 code.env))
     (cited 𝓤 H (Unseen 𝓤 H (𝓖 .A) (𝓜 .mem) (𝓡 .run)) 𝓜 𝓡 code.env unseen-def.name unseen-def.routine
-    code.calls-arbitration-run·unseen (unseen-met.met 𝓤 H 𝓜 𝓖 𝓡))
+    code.calls-arbitration-pass·unseen (unseen-met.met 𝓤 H 𝓜 𝓖 𝓡))
     (cited 𝓤 H (Noted 𝓤 H (𝓖 .A) (𝓜 .mem) (𝓡 .run)) 𝓜 𝓡 code.env noted-def.name noted-def.routine
-    code.calls-arbitration-run·noted (noted-met.met 𝓤 H 𝓜 𝓖 𝓡))
+    code.calls-arbitration-pass·noted (noted-met.met 𝓤 H 𝓜 𝓖 𝓡))
     (cited 𝓤 H (WroteAt 𝓤 H (𝓖 .A) (𝓜 .mem) (𝓡 .run)) 𝓜 𝓡 code.env wrote-at-def.name wrote-at-def.routine
-    code.calls-arbitration-run·wrote-at (wrote-at-met.met 𝓤 H 𝓜 𝓖 𝓡)))
+    code.calls-arbitration-pass·wrote-at (wrote-at-met.met 𝓤 H 𝓜 𝓖 𝓡)))

@@ -9,14 +9,15 @@ use borrow.Author.Needs.{needs}
 use borrow.Author.Tests.{ltb-false}
 use Rattle.laws.specs.declared.Refusal.{Refusal}
 use Rattle.laws.proofs.Bools.{neither}
-use Rattle.arbitration_rules.proofs.Carry.{Bytes}
+use Rattle.arbitration_rules.specs.Reply.{asked}
+use Rattle.arbitration_rules.proofs.Pieces.{Bytes}
 use Rattle.arbitration_checks.specs.declared.Settled.{Settled}
-use Rattle.arbitration.proofs.Given.{bytes-below, settled-some, settled-none}
+use Rattle.arbitration.proofs.Given.{found, bytes-below, settled-some, settled-none}
 use Rattle.usi.specs.Module.{powerUp}
 use Rattle.arbitration_rules.specs.Limits.{maxMasters}
 use Rattle.arbitration.specs.Shown.{Arbitrates}
 use Rattle.export.specs.Arbitration.{Lent}
-use Rattle.export.proofs.Contract.{found, short, shortTable, found-placed, refused-before, refused-short}
+use Rattle.export.proofs.Contract.{short, shortTable, found-placed, refused-before, refused-short}
 use Rattle.export.proofs.Contract.{libraryReply, refused-place, masters-few, answered-small, refused-by-library}
 use Rattle.export.proofs.Contract.{answered-by-library}
 use Rattle.export.proofs.arbitration_calls.arbitrate.Statement.{statement}
@@ -25,33 +26,31 @@ use Rattle.export.proofs.arbitration_calls.arbitrate.Tie as tie
 -- what was lent
 abbrev lentAt : tie.After-slice-known4 → Lent
 lentAt s =
-    let a = s .before .before .before .before .before .before .before .args in
+    let a = s .before .before .before .before .before .before .before .before .args in
     record {
-      bytes = a .bytes .now;
-      lengths = a .lengths .now;
-      acks = a .acks .now;
+      request = asked (a .bytes .now) (a .parts .now) (a .counts .now) (a .acks .now);
       carried = a .carried .now;
       levels = a .levels .now;
       modules = a .modules .now;
       seats = a .seats .now;
     }
 
-small : (s : tie.After-slice-known4) → Bytes (lentAt s .bytes)
+small : (s : tie.After-slice-known4) → Bytes (lentAt s .request .bytes)
 small s =
-    let known = s .before .before .before .before .before .before in
-    bytes-below (lentAt s .bytes) (λ i. omega (arith, known .shared-slice-known .given i))
+    let known = s .before .before .before .before .before .before .before in
+    bytes-below (lentAt s .request .bytes) (λ i. omega (arith, known .shared-slice-known .given i))
 
 settle-requires : tie.Need-settle-requires
 settle-requires c κs = search needs
 
 -- the refusal of 12 to 16 that settle found
 stopped : (c : tie.Then2) → c .before .before .before .settle .result .refusal
-    ≡ found (lentAt (c .before .before .before .before .before))
+    ≡ found (lentAt (c .before .before .before .before .before) .request)
 stopped c =
     let settled = c .before .before .before .settle in
     let lent = lentAt (c .before .before .before .before .before) in
     ap (λ (s : Settled). s .refusal) (settled .ensures)
-    ∙ settled-some (lent .bytes) (lent .lengths) (lent .acks) (rw (settled .ensures) at (c .if2 .taken))
+    ∙ settled-some (lent .request) (rw (settled .ensures) at (c .if2 .taken))
 
 refused-requires : tie.Need-refused-requires
 refused-requires c κs = rw (stopped c) (found-placed (lentAt (c .before .before .before .before .before)))
@@ -67,7 +66,7 @@ returns-2 : tie.Need-returns-2
 returns-2 c =
     let settled = c .before .before .before .settle in
     let lent = lentAt (c .before .before .before .before .before) in
-    let passes = settled-none (lent .bytes) (lent .lengths) (lent .acks) (rw (settled .ensures) at (c .if2 .left)) .0 in
+    let passes = settled-none (lent .request) (rw (settled .ensures) at (c .if2 .left)) .0 in
     let tight : short lent || shortTable lent ≡ true =
     rw (c .before .before .before .before .if1 .taken) (or-true (short lent)) in
     let all = refused-short lent 8 passes tight refl in
@@ -86,12 +85,12 @@ lentAgain s = lentAt (s .before .before .before .before .before)
 roomy : (s : tie.After-rehearse) → shortTable (lentAgain s) ≡ false
 roomy s = s .before .before .before .before .if1 .left
 
-smallAgain : (s : tie.After-rehearse) → Bytes (lentAgain s .bytes)
+smallAgain : (s : tie.After-rehearse) → Bytes (lentAgain s .request .bytes)
 smallAgain s = small (s .before .before .before .before .before)
 
 -- what the library promises of modules that are powered up
 promise : (s : tie.After-rehearse)
-    → Arbitrates (lentAgain s .bytes) (lentAgain s .lengths) (lentAgain s .acks)
+    → Arbitrates (lentAgain s .request)
     (record {
       table = replicate maxMasters (powerUp 0 0);
       carried = lentAgain s .carried;
@@ -99,8 +98,8 @@ promise : (s : tie.After-rehearse)
     })
     (record {
       table = s .rehearse .result .modules;
-      carried = s .rehearse .last .1 .1 .1 .1 .0;
-      levels = s .rehearse .last .1 .1 .1 .1 .1 .0;
+      carried = s .rehearse .last .1 .1 .1 .1 .1 .0;
+      levels = s .rehearse .last .1 .1 .1 .1 .1 .1 .0;
     })
     (s .rehearse .result .reply)
 promise s = rw (s .before .before .before .power-up .ensures) at (s .rehearse .ensures)
@@ -130,11 +129,11 @@ returns-3 c =
     (all .returns, all .follows)
 
 long-enough : (s : tie.After-rehearse)
-    → (length (lentAgain s .lengths) ≤ length (lentAgain s .modules))
-    × (length (lentAgain s .lengths) ≤ length (lentAgain s .seats))
+    → (length (lentAgain s .request .counts) ≤ length (lentAgain s .modules))
+    × (length (lentAgain s .request .counts) ≤ length (lentAgain s .seats))
 long-enough s =
     let lent = lentAgain s in
-    let masters = length (lent .lengths) in
+    let masters = length (lent .request .counts) in
     let two = neither (ltb (length (lent .modules)) masters) (ltb (length (lent .seats)) masters) (roomy s) in
     (ltb-false (length (lent .modules)) masters (two .0), ltb-false (length (lent .seats)) masters (two .1))
 

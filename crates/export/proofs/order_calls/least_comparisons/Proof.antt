@@ -1,5 +1,6 @@
 -- The count of what was compared.
-use borrow.Author.Needs.{needs}
+use mathlib.Core.Path.{ap}
+use Rattle.arbitration_checks.specs.declared.order.Least.{Least}
 use Rattle.export.proofs.order_calls.least_comparisons.Statement.{statement}
 use Rattle.export.proofs.order_calls.least_comparisons.Tie as tie
 
@@ -7,7 +8,7 @@ least-message-requires : tie.Need-least-message-requires
 least-message-requires c κs = tt
 
 returns : tie.Need-returns
-returns c = c .least-message .ensures .counted
+returns c = ap (λ (l : Least). l .comparisons) (c .least-message .ensures)
 
 pub least-comparisons-spec : {M : Type 1} → statement M
 least-comparisons-spec = tie.close (tie.spec least-message-requires returns)

@@ -11,10 +11,10 @@ use Rattle.verdict.proofs.contenders.agree.Statement.{statement}
 use Rattle.verdict.proofs.contenders.agree.Tie as tie
 
 abbrev Inv-loop : tie.InvT-loop
-Inv-loop message bytes lengths seats from₀ i₀ from i = Agreeing message seats lengths bytes i from
+Inv-loop message sent lengths seats from₀ i₀ from i = Agreeing message seats lengths sent i from
 
 abbrev μ-loop : tie.MeasureT-loop
-μ-loop message bytes lengths seats from₀ i₀ from i = maxMasters - i
+μ-loop message sent lengths seats from₀ i₀ from i = maxMasters - i
 
 -- a turn's board has a message and a seat
 inside : (s : tie.In-loop Inv-loop μ-loop)
@@ -41,6 +41,9 @@ mul-seat c = omega (arith, inside (c .before .before))
 array-copy-out-seat : tie.Need-array-copy-out-seat Inv-loop μ-loop
 array-copy-out-seat c = omega (arith, inside (c .before .before))
 
+mul-same : tie.Need-mul-same Inv-loop μ-loop
+mul-same c = omega (arith, c .before .before .before .before .loop .inv .at .within)
+
 sub-same : tie.Need-sub-same Inv-loop μ-loop
 sub-same c = omega (arith, c .before .end-of .ensures, c .before .before .before .before .loop .inv .at .within)
 
@@ -60,7 +63,7 @@ returns c =
     let head = at7 .before .loop in
     let a = at7 .before .before .before .before .before .args in
     let seated : length (a .t2) ≡ maxMasters = search needs in
-    agreeing-fails (a .message .now) (a .t2) (a .lengths .now) (a .bytes .now) (head .i) (head .from) _ _ _ (head .inv)
+    agreeing-fails (a .message .now) (a .t2) (a .lengths .now) (a .sent .now) (head .i) (head .from) _ _ _ (head .inv)
     (at5 .end-of .ensures) (c .before .before .same .ensures) seated (inside at7) (c .if1 .taken)
 
 add-i : tie.Need-add-i Inv-loop μ-loop
@@ -76,7 +79,7 @@ loop-again c =
     let head = at7 .before .loop in
     let a = at7 .before .before .before .before .before .args in
     let seated : length (a .t2) ≡ maxMasters = search needs in
-    agreeing-more (a .message .now) (a .t2) (a .lengths .now) (a .bytes .now) (head .i) (head .from) _ _ _ (head .inv)
+    agreeing-more (a .message .now) (a .t2) (a .lengths .now) (a .sent .now) (head .i) (head .from) _ _ _ (head .inv)
     (at5 .end-of .ensures) (c .before .before .same .ensures) seated (inside at7) (c .if1 .left)
 
 returns-2 : tie.Need-returns-2 Inv-loop μ-loop
@@ -84,7 +87,7 @@ returns-2 c =
     let a = c .before .before .before .before .before .args in
     let head = c .before .loop in
     let seated : length (a .t2) ≡ maxMasters = search needs in
-    agreeing-done (a .message .now) (a .t2) (a .lengths .now) (a .bytes .now) (head .i) (head .from) (head .inv) seated
+    agreeing-done (a .message .now) (a .t2) (a .lengths .now) (a .sent .now) (head .i) (head .from) (head .inv) seated
     (past-either (head .i) (length (a .lengths .now)) maxMasters (c .loop-test .left))
 
 pub agree-spec : {M : Type 1} → statement M
@@ -99,6 +102,7 @@ agree-spec =
     end-of-requires
     mul-seat
     array-copy-out-seat
+    mul-same
     sub-same
     part-same-start
     part-same-end

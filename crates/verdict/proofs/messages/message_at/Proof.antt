@@ -3,17 +3,17 @@ use native.Mathlib.Omega.{arith}
 use Prim.Native.Nat.{_<_, _≤_, _-_}
 use mathlib.Core.Path.{_≡_}
 use lib.ListN.{length}
-use Rattle.arbitration_checks.proofs.Walk.{At, at-start, at-more}
+use Rattle.arbitration_messages.proofs.Walk.{At, at-start, at-more}
 use Rattle.verdict.proofs.Compared.{message-past, message-found}
 use borrow.Author.Needs.{needs}
 use Rattle.verdict.proofs.messages.message_at.Statement.{statement}
 use Rattle.verdict.proofs.messages.message_at.Tie as tie
 
 abbrev Inv-loop : tie.InvT-loop
-Inv-loop bytes lengths index from₀ i₀ from i = (i ≤ index) × At lengths bytes i from
+Inv-loop sent lengths index from₀ i₀ from i = (i ≤ index) × At lengths sent i from
 
 abbrev μ-loop : tie.MeasureT-loop
-μ-loop bytes lengths index from₀ i₀ from i = index - i
+μ-loop sent lengths index from₀ i₀ from i = index - i
 
 returns : tie.Need-returns Inv-loop μ-loop
 returns c = message-past _ _ _ (c .if1 .taken)

@@ -1,4 +1,4 @@
--- Messages of different lengths differ; of equal lengths, the bytes compared so far are equal.
+-- Messages of different lengths differ; of equal lengths, what is compared so far is equal.
 use native.Mathlib.Omega.{arith}
 use Prim.Native.Nat.{_-_}
 use mathlib.Core.Path.{refl}
@@ -26,8 +26,14 @@ returns c =
 loop-holds : tie.Need-loop-holds Inv-loop μ-loop
 loop-holds c = through-start _ _ _ _ _
 
+mul-if2 : tie.Need-mul-if2 Inv-loop μ-loop
+mul-if2 c = search needs
+
 shared-slice-read-if2 : tie.Need-shared-slice-read-if2 Inv-loop μ-loop
 shared-slice-read-if2 c = search needs
+
+mul-if2-2 : tie.Need-mul-if2-2 Inv-loop μ-loop
+mul-if2-2 c = search needs
 
 shared-slice-read-if2-2 : tie.Need-shared-slice-read-if2-2 Inv-loop μ-loop
 shared-slice-read-if2-2 c =
@@ -70,7 +76,9 @@ same-spec =
     μ-loop
     returns
     loop-holds
+    mul-if2
     shared-slice-read-if2
+    mul-if2-2
     shared-slice-read-if2-2
     returns-2
     add-i

@@ -1,5 +1,5 @@
 -- Step 4, or the next byte.
-use Rattle.arbitration_run.specs.Members.{through}
+use Rattle.arbitration_members.specs.Members.{through}
 use lib.ListN.{getD}
 use lib.Dec.{eqb}
 use mathlib.Core.Bool.{true, false, _||_}

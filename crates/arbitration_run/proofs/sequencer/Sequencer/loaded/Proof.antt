@@ -1,7 +1,7 @@
 -- The restart comes first, or not.
 use mathlib.Core.Bool.{false}
 use mathlib.Core.Path.{ap, _∙_}
-use Rattle.arbitration_run.specs.declared.instants.Part.the-variants.{Restart}
+use Rattle.arbitration_pass.specs.declared.instants.Part.the-variants.{Restart}
 use Rattle.arbitration_run.specs.Sequence.{entering, loaded}
 use borrow.Author.Needs.{needs}
 use Rattle.arbitration_run.proofs.sequencer.Sequencer.loaded.Statement.{statement}

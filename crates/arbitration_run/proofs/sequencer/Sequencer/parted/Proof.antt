@@ -1,5 +1,5 @@
 -- Each part its next.
-use Rattle.arbitration_run.specs.declared.instants.Part.{Part}
+use Rattle.arbitration_pass.specs.declared.instants.Part.{Part}
 use Rattle.arbitration_run.specs.Sequence.{partedFrom, parted}
 use mathlib.Core.Path.{sym, ap, _∙_}
 use borrow.Author.Needs.{needs}

@@ -1,5 +1,5 @@
 -- A sample is of the level shown before it.
-use Rattle.arbitration_run.proofs.Cases.{no-sample}
+use Rattle.arbitration_pass.proofs.Cases.{no-sample}
 -- A sample, or not.
 use borrow.Author.Needs.{needs}
 use Rattle.arbitration_run.proofs.wire.Wire.saw.Statement.{statement}

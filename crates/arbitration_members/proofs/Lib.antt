@@ -1,0 +1,4 @@
+pub mod Cases
+pub mod Judging
+pub mod Columns
+pub mod Someone
