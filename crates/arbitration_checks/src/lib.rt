@@ -9,9 +9,9 @@ ghost use Rattle.arbitration_checks.specs.Settled.{stoppedAt, carrying a
 
 mod acknowledges; // acknowledges.rt: one above 1, how many bytes are carried
 mod lengths; // lengths.rt: the longest message
-mod levels; // levels.rt: how many levels the bus records of what it carries
 mod messages; // messages.rt: messages that lie one after the other in what is sent, searched
 mod order; // order.rt: two messages compared, and the least of several
+mod recorded; // recorded.rt: how many levels the bus records of what it carries
 
 pub use arbitration_messages::end_of;
 use laws::Refusal;
@@ -42,7 +42,7 @@ fn carrying(message: &[u16], acks: &[u8]) -> Settled
     ensures { λ r. ⌜ r ≡ carryingOf (now (message .entry)) (now (acks .entry)) ⌝ }
 {
     let count = acknowledges::carried_count(message, acks);
-    let levels = levels::level_count(&message[..count]);
+    let levels = recorded::level_count(&message[..count]);
     Settled {
         refusal: Refusal {
             number: 0,

@@ -9,8 +9,8 @@ use lib.ListN.{length, getD, drop}
 use Rattle.arbitration_rules.specs.Outcome.{restarts, restartCount}
 use Rattle.arbitration_checks.proofs.Carried.{counted-more, counted-all}
 use borrow.Author.Needs.{needs}
-use Rattle.arbitration_checks.proofs.levels.restart_count.Statement.{statement}
-use Rattle.arbitration_checks.proofs.levels.restart_count.Tie as tie
+use Rattle.arbitration_checks.proofs.recorded.restart_count.Statement.{statement}
+use Rattle.arbitration_checks.proofs.recorded.restart_count.Tie as tie
 
 abbrev Inv-loop : tie.InvT-loop
 Inv-loop carried count₀ i₀ count i =

@@ -2,8 +2,8 @@
 use native.Mathlib.Omega.{arith}
 use Rattle.arbitration_checks.proofs.Carried.{restarts-few}
 use borrow.Author.Needs.{needs}
-use Rattle.arbitration_checks.proofs.levels.level_count.Statement.{statement}
-use Rattle.arbitration_checks.proofs.levels.level_count.Tie as tie
+use Rattle.arbitration_checks.proofs.recorded.level_count.Statement.{statement}
+use Rattle.arbitration_checks.proofs.recorded.level_count.Tie as tie
 
 mul-result : tie.Need-mul-result
 mul-result c = search needs
