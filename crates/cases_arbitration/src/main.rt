@@ -12,7 +12,7 @@ use script::within;
 use text::after_word;
 use text::first_word;
 
-// Room for the digits, the bytes and the messages of a line, and for both buffers.
+// Room for the digits, bytes, parts and messages of a line, and for both buffers.
 const ROOM: usize = 2048;
 
 // What both buffers hold before a run.

@@ -78,6 +78,7 @@ pub fn read_bytes(text: &[u8], out: &mut [u8]) -> usize
     join(out, n)
 }
 
+// A number of 32 bits; a larger one counts as the largest.
 fn short(n: u64) -> u32 {
     if n <= 0xffff_ffff { n as u32 } else { u32::MAX }
 }

@@ -124,8 +124,8 @@ returns-3 c =
     let s = c .before .before .before .before .before .before .before .before .before in
     let done = promise s in
     let all = refused-by-library (lentAgain s) (smallAgain s) (roomy s) (s .rehearse .result .reply)
-    (c .refused2 .result) _ _ (replied s) (c .before .if3 .taken) (c .refused2 .ensures) (done .carried) (done .recorded)
-    in
+    (c .refused2 .result) _ _ (replied s) (c .before .if3 .taken) (c .refused2 .ensures) (done .carried)
+    (done .recorded) in
     (all .returns, all .follows)
 
 long-enough : (s : tie.After-rehearse)
