@@ -12,9 +12,10 @@ pub use arbitration_rules::Seat;
 use usi::Usi;
 
 // Runs the arbitration of the messages that lie in bytes one after the other, with the length of every part, message
-// after message, how many parts each message has, and an acknowledge for each byte of the longest. The reply is that of 01's steps 1 to 4, or the first refusal that applies. The table's
-// first entries, one for each message, are the modules: what they held is not read, and they are stepped in place. The
-// buffers take the carried bytes and the recorded levels. The rest of all three stays, and at a refusal all of them.
+// after message, how many parts each message has, and an acknowledge for each byte of the longest. The reply is that of
+// 01's steps 1 to 4, or the first refusal that applies. The table's first entries, one for each message, are the
+// modules: what they held is not read, and they are stepped in place. The buffers take the carried bytes and the
+// recorded levels. The rest of all three stays, and at a refusal all of them.
 pub fn arbitrate(
     table: &mut [Usi],
     bytes: &[u8],

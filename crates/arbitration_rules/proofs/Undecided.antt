@@ -124,14 +124,15 @@ pub record CutShort (message acknowledges : List ℕ) : Type 0 where
   pub count : carriedCount message acknowledges ≡ suc last
   pub refused : getD acknowledges last 0 ≡ 1
 
+-- past the acknowledges all are acknowledged
+pub none-left : (message : List ℕ) → allAcknowledged message [] ≡ true
+none-left [] = refl
+none-left (sent ∷ message) = none-left message
+
 cut-short : {acknowledges : List ℕ} (message : List ℕ) → Everyone (λ acknowledge. acknowledge ≤ 1) acknowledges
     → allAcknowledged message acknowledges ≡ false → CutShort message acknowledges
 cut-short [] bits refused = absurd (false≢true (sym refused))
 cut-short (sent ∷ message) nobody refused = absurd (false≢true (sym refused ∙ none-left message))
-  where
-    none-left : (message : List ℕ) → allAcknowledged message [] ≡ true
-    none-left [] = refl
-    none-left (sent ∷ message) = none-left message
 cut-short (sent ∷ message) (also {a = zero} bit bits) refused =
     let later = cut-short message bits refused in
     record { last = suc (later .last); count = ap suc (later .count); refused = later .refused }

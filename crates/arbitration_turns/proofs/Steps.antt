@@ -150,7 +150,8 @@ module _ (given : Given) where
       unfolding sequence.passOf sequence.affected sequence.carriedAfter sequence.levelsAfter
       acted-kept =
           kept-turned count (given .table₀) (given .few) (given .enough) (members.sizesOf (given .lengths))
-          (given .carried₀) (given .levels₀) (sequence.passOf s) (here .effect) (here .operation) (s .index) (eqb acknowledge 0) (s .members) (s .wire) (s .sent) (t .table) (t .carried) (t .levels)
+          (given .carried₀) (given .levels₀) (sequence.passOf s) (here .effect) (here .operation) (s .index)
+          (eqb acknowledge 0) (s .members) (s .wire) (s .sent) (t .table) (t .carried) (t .levels)
           (sequence.wireAfter 0 acknowledges (seen count after) s .byte) (standing .kept .long) (standing .kept .rest)
           (standing .kept .sized) (standing .kept .counted) (standing .kept .of-carried) (standing .kept .of-levels)
 

@@ -34,6 +34,11 @@ module _ {A : Type 0} where
   someone-so step (this {a} p) = this (step a p)
   someone-so step (another some) = another (someone-so step some)
 
+  -- there is someone only where there are some
+  pub someone-length : {P : A → Type 0} {l : List A} → Someone P l → 0 < length l
+  someone-length (this p) = omega arith
+  someone-length (another some) = omega arith
+
   -- someone of whom a claim holds, where another claim holds of everyone
   pub someone-both : {P Q : A → Type 0} {l : List A} → Everyone P l → Someone Q l → Someone (λ a. P a × Q a) l
   someone-both (also p more) (this q) = this (p, q)

@@ -9,10 +9,10 @@ use lib.Dec.{eqb, leb}
 use lib.ListN.{length, getD}
 use borrow.Author.Tests.{eq-eqb, ne-eqb, eqb-true, eqb-false, leb-true, leb-false, le-leb, lt-leb}
 use Rattle.usi.specs.declared.Usi.{Usi}
-use Rattle.laws.specs.Everyone.{Everyone, Someone, this, another}
+use Rattle.laws.specs.Everyone.{Everyone, Someone}
 use Rattle.laws.specs.Search.{any}
 use Rattle.laws.proofs.Lists.{everyone, everyone-so, everyone-both, everyone-map, someone-so, someone-map, map-alike}
-use Rattle.laws.proofs.Lists.{any-one, any-none}
+use Rattle.laws.proofs.Lists.{any-one, any-none, someone-length}
 use Rattle.arbitration_rules.specs.Outcome.{least, lossFrom}
 use Rattle.arbitration_rules.specs.Run.{run}
 use Rattle.arbitration_rules.specs.Reply.{longest}
@@ -158,11 +158,7 @@ module _ (messages : List (List ℕ)) (acknowledges : List ℕ) (given : Admitte
     pub contenders-arbitration : Arbitration contenders (needed contenders acknowledges)
     contenders-arbitration =
         round-arbitration contenders acknowledges (waiting-admitted (map (reached messages k) messages) given)
-        (some-there winner-waits)
-      where
-        some-there : {P : List ℕ → Type 0} {l : List (List ℕ)} → Someone P l → 0 < length l
-        some-there (this p) = omega arith
-        some-there (another more) = omega arith
+        (someone-length winner-waits)
 
     -- it carries the winner, whole
     pub contenders-carry : Carries contenders (needed contenders acknowledges) winner

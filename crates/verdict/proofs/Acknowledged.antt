@@ -11,6 +11,7 @@ use lib.ListN.{length, getD}
 use Rattle.laws.specs.Everyone.{Everyone, nobody, also}
 use Rattle.laws.proofs.Bools.{both}
 use Rattle.arbitration_rules.specs.Outcome.{carriedCount, allAcknowledged}
+use Rattle.arbitration_rules.proofs.Undecided.{none-left}
 
 -- every byte of a message was carried, and acknowledged
 pub record Whole (message acknowledges : List ℕ) (count : ℕ) : Type 0 where
@@ -45,11 +46,6 @@ all-acknowledged (sent ∷ message) (acknowledge ∷ acknowledges) each =
     let first : acknowledge ≡ 0 = each 0 (omega arith) in
     rw (eq-eqb acknowledge 0 first)
     (all-acknowledged message acknowledges (λ i less. each (suc i) (omega (arith, less))))
-
--- past the acknowledges all are acknowledged
-pub none-left : (message : List ℕ) → allAcknowledged message [] ≡ true
-none-left [] = refl
-none-left (sent ∷ message) = none-left message
 
 -- where it fails there is a first
 pub some-refused : (message : List ℕ) {acknowledges : List ℕ} → Everyone (λ acknowledge. acknowledge ≤ 1) acknowledges

@@ -7,7 +7,7 @@ use native.Mathlib.Omega.{arith}
 use lib.ListN.{length}
 use Rattle.laws.specs.Everyone.{Everyone, nobody, also, Someone, this, another}
 use Rattle.laws.specs.Search.{all}
-use Rattle.laws.proofs.Lists.{everyone-so, someone-both}
+use Rattle.laws.proofs.Lists.{everyone-so, someone-length, someone-both}
 use Rattle.laws.proofs.Bools.{both}
 use Rattle.verdict.specs.declared.Verdict.{Verdict}
 use Rattle.verdict.specs.declared.Verdict.the-variants.{Undecided}
@@ -54,11 +54,6 @@ pub not-both : {winner : List ℕ} {messages : List (List ℕ)} → Everyone (λ
 not-both every differ =
     differ .unequal (of-each every (differ .one-in) ∙ sym (of-each every (differ .other-in)))
 
--- there is someone only where there are some
-some-length : {P : List ℕ → Type 0} {messages : List (List ℕ)} → Someone P messages → 0 < length messages
-some-length (this holds) = omega arith
-some-length (another rest) = omega arith
-
 -- whoever is not the same as the first differs from it
 differing : (first : List ℕ) {messages : List (List ℕ)} → Someone (λ own. same first own ≡ false) messages
     → Differ (first ∷ messages)
@@ -93,7 +88,7 @@ pub data Decision (winner : List ℕ) (contenders : List (List ℕ)) (verdict en
 pub decision : (contenders : List (List ℕ)) (winner : List ℕ) (count : ℕ) (acknowledges : List ℕ)
     → Someone (λ own. own ≡ winner) contenders
     → Decision winner contenders (decided contenders count acknowledges) (ended winner count acknowledges)
-decision [] winner count acknowledges some-one = absurd (omega (arith, some-length some-one))
+decision [] winner count acknowledges some-one = absurd (omega (arith, someone-length some-one))
 decision (first ∷ others) winner count acknowledges some-one = go (all (same first) others) refl
   where
     go : (alike : Bool) → all (same first) others ≡ alike
