@@ -5,7 +5,7 @@ use mathlib.Core.Path.{refl}
 use lib.ListN.{length}
 use borrow.Author.Tests.{eq-eqb, ne-eqb}
 use Rattle.laws.proofs.Bools.{below-both, past-either}
-use Rattle.verdict.proofs.Acknowledged.{none-left}
+use Rattle.arbitration_rules.proofs.Undecided.{none-left}
 use Rattle.verdict.proofs.Compared.{Taken}
 use Rattle.verdict.proofs.Pairs.{through-start, through-more, through-fails, through-one}
 use Rattle.verdict.proofs.messages.acknowledged.Statement.{statement}
