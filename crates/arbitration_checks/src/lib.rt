@@ -15,6 +15,8 @@ mod order; // order.rt: two messages compared, and the least of several
 
 pub use arbitration_messages::end_of;
 use laws::Refusal;
+pub use lengths::longest;
+pub use messages::any_ending_differs;
 pub use order::Least;
 pub use order::least_message;
 

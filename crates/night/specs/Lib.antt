@@ -1,0 +1,2 @@
+-- Document 02, Ask 14, as code: the messages that wait, a round, and what a caller sees.
+pub mod Waiting

@@ -1,0 +1,4 @@
+// The night run (02: Ask 14), over a table of modules by value: rounds of arbitrations of the messages not yet carried,
+// until none is left.
+mod refusals; // refusals.rt: the first refusal of a night that applies
+mod waiting; // waiting.rt: the messages that wait, put together anew
