@@ -1,3 +1,4 @@
 pub mod Gathered
 pub mod Refused
 pub mod Again
+pub mod Contests

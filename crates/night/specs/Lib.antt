@@ -1,2 +1,3 @@
 -- Document 02, Ask 14, as code: the messages that wait, a round, and what a caller sees.
 pub mod Waiting
+pub mod Round
