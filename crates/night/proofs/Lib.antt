@@ -2,3 +2,5 @@ pub mod Gathered
 pub mod Refused
 pub mod Again
 pub mod Contests
+pub mod Entering
+pub mod Nights
