@@ -4,3 +4,4 @@ pub mod Again
 pub mod Contests
 pub mod Entering
 pub mod Nights
+pub mod Rehearsed

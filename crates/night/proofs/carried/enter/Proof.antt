@@ -97,8 +97,7 @@ loop-again c =
     let all-seats : length (a .t3) ≡ maxMasters = search (needs, length-mapped) in
     let all-left : length (a .t4) ≡ maxMasters = search (needs, length-mapped) in
     let in-seats : head .seat < length (a .t3) = omega (arith, head .inv .1, less, most, all-seats) in
-    let in-left : head .seat < length (a .t4) = omega (arith, head .inv .1, less, most, all-left) in
-    (
+    let in-left : head .seat < length (a .t4) = omega (arith, head .inv .1, less, most, all-left) in (
       search needs,
       seat-within (waits (getD (head .rounds) (head .i) 0)) (head .seat) (c .seat-after .result) (head .i) (c .seat-after .ensures) (head .inv .1),
       length-set (head .rounds) (head .i) (c .before .round-of .result) ∙ head .inv .2,

@@ -93,8 +93,7 @@ round-requires c κs =
     let small = bytes-below (a .bytes .now) below in
     let passes = start .pre .0 in
     let some = sym (c .before .any-waits .ensures) ∙ not-false _ (c .if1 .left) in
-    let inside = stands-inside request small passes (a .modules) (head .standing) (head .inv .0) (head .inv .1) some in
-    (
+    let inside = stands-inside request small passes (a .modules) (head .standing) (head .inv .0) (head .inv .1) some in (
       record { unrefused = passes; someone = some; long = start .pre .1 },
       omega (arith, inside, most-few request small passes (a .modules)),
     )
