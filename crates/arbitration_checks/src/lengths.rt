@@ -3,7 +3,7 @@ ghost use mathlib.Core.Path.{_≡_};
 ghost use Rattle.arbitration_rules.specs.Reply.{longest as longestOf};
 
 // The greatest of the lengths.
-pub(crate) fn longest(lengths: &[u32]) -> usize
+pub fn longest(lengths: &[u32]) -> usize
     ensures { λ r. ⌜ r ≡ longestOf (now (lengths .entry)) ⌝ }
 {
     let mut most: usize = 0;

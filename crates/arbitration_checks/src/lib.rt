@@ -15,6 +15,8 @@ mod recorded; // recorded.rt: how many levels the bus records of what it carries
 
 pub use arbitration_messages::end_of;
 use laws::Refusal;
+pub use lengths::longest;
+pub use messages::any_ending_differs;
 pub use order::Least;
 pub use order::least_message;
 

@@ -72,12 +72,7 @@ fn ending_differs(message: &[u16], other: &[u16], acks: &[u8]) -> bool
 }
 
 // A message does so from some message (16). These comparisons are not counted.
-pub(crate) fn any_ending_differs(
-    message: &[u16],
-    sent: &[u16],
-    lengths: &[u32],
-    acks: &[u8],
-) -> bool
+pub fn any_ending_differs(message: &[u16], sent: &[u16], lengths: &[u32], acks: &[u8]) -> bool
     ensures { λ r. ⌜ r
         ≡ any (endingDiffers (now (acks .entry)) (now (message .entry)))
         (cut (now (lengths .entry)) (now (sent .entry))) ⌝ }

@@ -49,12 +49,12 @@ pieces-sendable acknowledges bytes (also {a = parts} good more) enough long smal
     (left-over small count))
 
 -- what 13 leaves: counts that sum to the parts, parts that sum to the bytes, and each message good
-record Shaped (request : Request) : Type 0 where
-  counted : total (request .counts) ≡ length (request .parts)
-  summed : total (request .parts) ≡ length (request .bytes)
-  good : Everyone Good (partsOf request)
+pub record Shaped (request : Request) : Type 0 where
+  pub counted : total (request .counts) ≡ length (request .parts)
+  pub summed : total (request .parts) ≡ length (request .bytes)
+  pub good : Everyone Good (partsOf request)
 
-shaped : (request : Request) → badLengths request ≡ false → Shaped request
+pub shaped : (request : Request) → badLengths request ≡ false → Shaped request
 shaped request sizes =
     let counts = request .counts in
     let sized =
@@ -89,11 +89,11 @@ sound-lengths request sizes =
     (omega (arith, parts-total request (so .counted), so .summed))
 
 -- and as many acknowledges as the longest are no more than a message may have
-longest-good : {all : List (List ℕ)} → Everyone Good all → longest (map total all) ≤ maxLength
+pub longest-good : {all : List (List ℕ)} → Everyone Good all → longest (map total all) ≤ maxLength
 longest-good nobody = omega arith
 longest-good (also good more) = omega (arith, good .short, longest-good more)
 
-as-many : (request : Request) → badAcknowledges request ≡ false
+pub as-many : (request : Request) → badAcknowledges request ≡ false
     → (length (request .acknowledges) ≡ longest (lengthsOf request))
     × (any aboveOne (request .acknowledges) ≡ false)
 as-many request answers =

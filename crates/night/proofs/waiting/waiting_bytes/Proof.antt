@@ -1,0 +1,174 @@
+-- The lists passed that wait lie one after the other.
+use Prim.Native.Nat.{ℕ, _+_, _-_, _≤_, _<_}
+use mathlib.Core.Path.{_≡_}
+use native.Mathlib.Omega.{arith}
+use lib.ListN.{length, replicate}
+use Rattle.arbitration_messages.specs.Marks.{maxSent}
+use Rattle.night.proofs.Gathered.{Gathering, gathering-none, gathering-done, Turn, turn}
+use borrow.Author.Needs.{needs}
+use Rattle.night.proofs.waiting.waiting_bytes.Statement.{statement}
+use Rattle.night.proofs.waiting.waiting_bytes.Tie as tie
+
+abbrev Inv-loop : tie.InvT-loop
+Inv-loop lengths list rounds out₀ size₀ from₀ i₀ out size from i =
+    (i ≤ length lengths) × Gathering rounds lengths list (replicate maxSent 0) out i from size
+
+abbrev μ-loop : tie.MeasureT-loop
+μ-loop lengths list rounds out₀ size₀ from₀ i₀ out size from i = length lengths - i
+
+loop-holds : tie.Need-loop-holds Inv-loop μ-loop
+loop-holds c = (search needs, gathering-none _ _ _ _)
+
+mul-end-of : tie.Need-mul-end-of Inv-loop μ-loop
+mul-end-of c = search needs
+
+shared-slice-read-end-of : tie.Need-shared-slice-read-end-of Inv-loop μ-loop
+shared-slice-read-end-of c = search needs
+
+end-of-requires : tie.Need-end-of-requires Inv-loop μ-loop
+end-of-requires c κs = search needs
+
+mul-stop-of : tie.Need-mul-stop-of Inv-loop μ-loop
+mul-stop-of c = search needs
+
+array-read-stop-of : tie.Need-array-read-stop-of Inv-loop μ-loop
+array-read-stop-of c = search needs
+
+stop-of-requires : tie.Need-stop-of-requires Inv-loop μ-loop
+stop-of-requires c κs = search needs
+
+sub-put-bytes : tie.Need-sub-put-bytes Inv-loop μ-loop
+sub-put-bytes c =
+    let stopped = c .before in
+    let inside = stopped .before .before .before in
+    let head = inside .before .loop in
+    let a = inside .before .before .before .before .args in
+    let enough : length (a .list .now) ≤ maxSent = omega (arith, inside .before .before .before .before .pre .1) in
+    let a-length : length (a .t1) ≡ 16 = search needs in
+    let known : head .i < length (a .t1) = omega (arith, a-length, inside .before .before .before .before .pre .0) in
+    let one = turn (a .t1) (a .lengths .now) (a .list .now) (replicate maxSent 0) (head .out) (head .i) (head .from)
+    (head .size) (stopped .before .end-of .result) (stopped .stop-of .result) (head .inv .1)
+    (stopped .before .end-of .ensures) (stopped .stop-of .ensures) (inside .loop-test .taken) known enough in
+    one .after
+
+part-put-bytes-start : tie.Need-part-put-bytes-start Inv-loop μ-loop
+part-put-bytes-start c =
+    let stopped = c .before in
+    let inside = stopped .before .before .before in
+    let head = inside .before .loop in
+    let a = inside .before .before .before .before .args in
+    let enough : length (a .list .now) ≤ maxSent = omega (arith, inside .before .before .before .before .pre .1) in
+    let a-length : length (a .t1) ≡ 16 = search needs in
+    let known : head .i < length (a .t1) = omega (arith, a-length, inside .before .before .before .before .pre .0) in
+    let one = turn (a .t1) (a .lengths .now) (a .list .now) (replicate maxSent 0) (head .out) (head .i) (head .from)
+    (head .size) (stopped .before .end-of .result) (stopped .stop-of .result) (head .inv .1)
+    (stopped .before .end-of .ensures) (stopped .stop-of .ensures) (inside .loop-test .taken) known enough in
+    omega (arith, one .after, one .within)
+
+part-put-bytes-end : tie.Need-part-put-bytes-end Inv-loop μ-loop
+part-put-bytes-end c =
+    let stopped = c .before in
+    let inside = stopped .before .before .before in
+    let head = inside .before .loop in
+    let a = inside .before .before .before .before .args in
+    let enough : length (a .list .now) ≤ maxSent = omega (arith, inside .before .before .before .before .pre .1) in
+    let a-length : length (a .t1) ≡ 16 = search needs in
+    let known : head .i < length (a .t1) = omega (arith, a-length, inside .before .before .before .before .pre .0) in
+    let one = turn (a .t1) (a .lengths .now) (a .list .now) (replicate maxSent 0) (head .out) (head .i) (head .from)
+    (head .size) (stopped .before .end-of .result) (stopped .stop-of .result) (head .inv .1)
+    (stopped .before .end-of .ensures) (stopped .stop-of .ensures) (inside .loop-test .taken) known enough in
+    omega (arith, one .within)
+
+put-bytes-requires : tie.Need-put-bytes-requires Inv-loop μ-loop
+put-bytes-requires c κs =
+    let stopped = c .before .before in
+    let inside = stopped .before .before .before in
+    let head = inside .before .loop in
+    let a = inside .before .before .before .before .args in
+    let enough : length (a .list .now) ≤ maxSent = omega (arith, inside .before .before .before .before .pre .1) in
+    let a-length : length (a .t1) ≡ 16 = search needs in
+    let known : head .i < length (a .t1) = omega (arith, a-length, inside .before .before .before .before .pre .0) in
+    let one = turn (a .t1) (a .lengths .now) (a .list .now) (replicate maxSent 0) (head .out) (head .i) (head .from)
+    (head .size) (stopped .before .end-of .result) (stopped .stop-of .result) (head .inv .1)
+    (stopped .before .end-of .ensures) (stopped .stop-of .ensures) (inside .loop-test .taken) known enough in
+    (omega (arith, one .room, one .sized), one .long)
+
+sub-size : tie.Need-sub-size Inv-loop μ-loop
+sub-size c =
+    let stopped = c .before .before .before in
+    let inside = stopped .before .before .before in
+    let head = inside .before .loop in
+    let a = inside .before .before .before .before .args in
+    let enough : length (a .list .now) ≤ maxSent = omega (arith, inside .before .before .before .before .pre .1) in
+    let a-length : length (a .t1) ≡ 16 = search needs in
+    let known : head .i < length (a .t1) = omega (arith, a-length, inside .before .before .before .before .pre .0) in
+    let one = turn (a .t1) (a .lengths .now) (a .list .now) (replicate maxSent 0) (head .out) (head .i) (head .from)
+    (head .size) (stopped .before .end-of .result) (stopped .stop-of .result) (head .inv .1)
+    (stopped .before .end-of .ensures) (stopped .stop-of .ensures) (inside .loop-test .taken) known enough in
+    one .after
+
+add-size : tie.Need-add-size Inv-loop μ-loop
+add-size c =
+    let stopped = c .before .before .before in
+    let inside = stopped .before .before .before in
+    let head = inside .before .loop in
+    let a = inside .before .before .before .before .args in
+    let enough : length (a .list .now) ≤ maxSent = omega (arith, inside .before .before .before .before .pre .1) in
+    let a-length : length (a .t1) ≡ 16 = search needs in
+    let known : head .i < length (a .t1) = omega (arith, a-length, inside .before .before .before .before .pre .0) in
+    let one = turn (a .t1) (a .lengths .now) (a .list .now) (replicate maxSent 0) (head .out) (head .i) (head .from)
+    (head .size) (stopped .before .end-of .result) (stopped .stop-of .result) (head .inv .1)
+    (stopped .before .end-of .ensures) (stopped .stop-of .ensures) (inside .loop-test .taken) known enough in
+    omega (arith, one .room)
+
+add-i : tie.Need-add-i Inv-loop μ-loop
+add-i c = search needs
+
+loop-less : tie.Need-loop-less Inv-loop μ-loop
+loop-less c = search needs
+
+loop-again : tie.Need-loop-again Inv-loop μ-loop
+loop-again c =
+    let stopped = c .before .before .before in
+    let inside = stopped .before .before .before in
+    let head = inside .before .loop in
+    let a = inside .before .before .before .before .args in
+    let enough : length (a .list .now) ≤ maxSent = omega (arith, inside .before .before .before .before .pre .1) in
+    let a-length : length (a .t1) ≡ 16 = search needs in
+    let known : head .i < length (a .t1) = omega (arith, a-length, inside .before .before .before .before .pre .0) in
+    let one = turn (a .t1) (a .lengths .now) (a .list .now) (replicate maxSent 0) (head .out) (head .i) (head .from)
+    (head .size) (stopped .before .end-of .result) (stopped .stop-of .result) (head .inv .1)
+    (stopped .before .end-of .ensures) (stopped .stop-of .ensures) (inside .loop-test .taken) known enough in
+    (search needs, one .next-holds _ (c .put-bytes .ensures))
+
+returns : tie.Need-returns Inv-loop μ-loop
+returns c =
+    let head = c .before .loop in
+    let start = c .before .before .before .before in
+    let enough : length (start .args .list .now) ≤ maxSent = omega (arith, start .pre .1) in
+    gathering-done _ _ _ (replicate maxSent 0) (head .out) (head .i) (head .from) (head .size) (head .inv .1)
+    (c .loop-test .left) enough
+
+pub waiting-bytes-spec : {M : Type 1} → statement M
+waiting-bytes-spec =
+    tie.close
+    (tie.spec
+    Inv-loop
+    μ-loop
+    loop-holds
+    mul-end-of
+    shared-slice-read-end-of
+    end-of-requires
+    mul-stop-of
+    array-read-stop-of
+    stop-of-requires
+    sub-put-bytes
+    part-put-bytes-start
+    part-put-bytes-end
+    put-bytes-requires
+    sub-size
+    add-size
+    add-i
+    loop-less
+    loop-again
+    returns)

@@ -1,0 +1,21 @@
+-- The lists that wait, put together anew, for contracts inside the crate.
+use Prim.Native.Nat.{ℕ, _≤_}
+use mathlib.Core.Path.{_≡_}
+use mathlib.Core.List.{List, [], _∷_, _++_}
+use lib.ListN.{length, take}
+use Rattle.arbitration_rules.specs.Reply.{cut}
+use Rattle.night_rules.specs.Night.{waiting}
+
+-- lists one after the other in one
+abbrev pub joined : List (List ℕ) → List ℕ
+joined [] = []
+joined (list ∷ lists) = list ++ joined lists
+
+-- of lists that lie so in one, each of its length, those that wait
+abbrev pub waitingIn : List ℕ → List ℕ → List ℕ → List ℕ
+waitingIn rounds lengths list = joined (waiting rounds (cut lengths list))
+
+-- an array starts with a list, as many as size says
+pub record Holds (whole array : List ℕ) (size : ℕ) : Type 0 where
+  pub within : size ≤ length array
+  pub front : take size array ≡ whole
