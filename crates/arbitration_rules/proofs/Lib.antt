@@ -31,5 +31,6 @@ pub mod ClearedFlags
 pub mod Pieces
 pub mod Accepted
 pub mod Undecided
+pub mod Single
 pub mod OnePart
 pub mod OnePartRequest

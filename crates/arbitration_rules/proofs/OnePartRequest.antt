@@ -37,6 +37,7 @@ use Rattle.arbitration_rules.proofs.FinalMasters.{final-masters}
 use Rattle.arbitration_rules.proofs.RecordedLevels.{byte-count, levels-count}
 use Rattle.arbitration_rules.proofs.ClearedFlags.{run-clears}
 use Rattle.arbitration_rules.proofs.Accepted.{passes, accepted}
+use Rattle.arbitration_rules.proofs.Single.{ones, single}
 use Rattle.arbitration_rules.proofs.OnePart.{least₀, carriedOf₀, outcome₀, undecided₀, finalMaster₀, plain}
 use Rattle.arbitration_rules.proofs.OnePart.{no-restart, one-part-count, one-part-carried, one-part-outcome}
 use Rattle.arbitration_rules.proofs.OnePart.{one-part-final, one-part-levels, one-part-undecided}
@@ -99,14 +100,6 @@ abbrev pub arbitrated₀ : List ℕ → List ℕ → List ℕ → ℕ → ℕ �
 arbitrated₀ bytes lengths acknowledges tableRoom carriedRoom levelRoom =
     let found = refusal₀ bytes lengths acknowledges tableRoom carriedRoom levelRoom in
     cond (eqb (found .number) 0) (answered₀ (cut lengths bytes) acknowledges) (refused found)
-
--- a request whose messages have one part each: a count of 1 for each length
-abbrev pub ones : List ℕ → List ℕ
-ones lengths = map (λ part. 1) lengths
-
-abbrev pub single : List ℕ → List ℕ → List ℕ → Request
-single bytes lengths acknowledges =
-    record { bytes = bytes; parts = lengths; counts = ones lengths; acknowledges = acknowledges }
 
 abbrev alone : ℕ → List ℕ
 alone part = part ∷ []

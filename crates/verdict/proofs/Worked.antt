@@ -11,7 +11,7 @@ use Rattle.arbitration_rules.specs.Outcome.{undecided}
 use Rattle.arbitration_rules.specs.Reply.{Request, asked, refusal, refused, answered, arbitrated}
 use Rattle.arbitration_rules.specs.Run.{wire, performed, through, restarting, run}
 use Rattle.arbitration_rules.specs.Cleared.{clearedAt, clearedIn, clearedBy}
-use Rattle.arbitration_rules.proofs.OnePartRequest.{single}
+use Rattle.arbitration_rules.proofs.Single.{single}
 use Rattle.arbitration_messages.specs.Gathered.{passing}
 use Rattle.verdict.specs.declared.Verdict.{Verdict}
 use Rattle.verdict.specs.declared.Verdict.the-variants.{Refused, Undecided, Cut, Sent}

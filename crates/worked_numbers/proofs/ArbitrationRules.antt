@@ -7,7 +7,7 @@ use lib.ListN.{replicate}
 use Rattle.laws.specs.Refusals.{none}
 use Rattle.usi.specs.declared.Usi.{Usi}
 use Rattle.arbitration_rules.specs.Reply.{arbitrated, tableAfter}
-use Rattle.arbitration_rules.proofs.OnePartRequest.{single}
+use Rattle.arbitration_rules.proofs.Single.{single}
 use Rattle.arbitration_checks.specs.declared.order.Least.{Least}
 use Rattle.arbitration_checks.specs.Order.{leastOf}
 use Rattle.worked_numbers.proofs.Computed as computed

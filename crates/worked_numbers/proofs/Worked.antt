@@ -19,7 +19,7 @@ use Rattle.arbitration_rules.specs.declared.Arbitrated.{Arbitrated}
 use Rattle.arbitration_rules.specs.declared.Seat.{Seat}
 use Rattle.arbitration_rules.specs.Reply as reply
 use Rattle.arbitration_rules.specs.Reply.{Request}
-use Rattle.arbitration_rules.proofs.OnePartRequest.{single}
+use Rattle.arbitration_rules.proofs.Single.{single}
 use Rattle.worked_numbers.proofs.Computed.{read, write, writeWord, sample, encoded, drawn, decoded, read-into}
 use Rattle.worked_numbers.proofs.Computed.{arbitrated, tableAfter, carriedAfter, levelsAfter}
 
