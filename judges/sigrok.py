@@ -106,15 +106,21 @@ def read(folder, levels):
 
 
 def load(rng):
-    """Two to sixteen boards with a long shared beginning, and all acknowledged but perhaps one byte."""
+    """Two to sixteen boards with a long shared beginning, in alike parts, and all acknowledged but perhaps one byte."""
     shared = [rng.randrange(0, 256, 2)] + [rng.randrange(256) for _ in range(rng.randint(0, 4))]
     size = len(shared) + rng.randint(1, 4)
     boards = [shared + [rng.randrange(256) for _ in range(size - len(shared))] for _ in range(rng.randint(2, 16))]
+    starts = rng.sample(range(1, size), rng.randint(0, min(3, size - 1)))
     acks = [0] * size
     if rng.randrange(3) == 0:
         acks[rng.randrange(size)] = 1
-    lines = ["load judged"] + ["board " + " ".join(f"{b:02X}" for b in board) for board in boards]
+    lines = ["load judged"] + ["board " + " ".join(words(board, starts)) for board in boards]
     return "\n".join(lines + ["ack " + " ".join(map(str, acks))]) + "\n"
+
+
+def words(board, starts):
+    """A message as a file of loads has it: a slash before each byte that a repeated START precedes, a write."""
+    return [f"/ {byte & 0xFE:02X}" if i in starts else f"{byte:02X}" for i, byte in enumerate(board)]
 
 
 def shown(block):
@@ -122,8 +128,12 @@ def shown(block):
     wave = {w: re.search(rf"^  {w}:(.*)$", block, re.M).group(1) for w in ("scl", "sda")}
     high = {w: [c in '"/' for c in wave[w]] for w in wave}
     levels = [s + 2 * d for s, d in zip(high["scl"], high["sda"])]
-    bytes_ = re.search(r"^  carried (.*)$", block, re.M).group(1).split(", ")
-    return levels, [512] + [int(b[:2], 16) + 256 * b.endswith("NACK") for b in bytes_] + [514]
+    parts = re.search(r"^  carried (.*)$", block, re.M).group(1).split(" / ")
+    events = [512]
+    for i, part in enumerate(parts):
+        events += [513] * (i > 0)
+        events += [int(byte[:2], 16) + 256 * byte.endswith("NACK") for byte in part.split(", ")]
+    return levels, events + [514]
 
 
 def same(what, ours, theirs):
