@@ -1,21 +1,19 @@
 -- The request of a round: the messages that wait, lent anew, are its messages, and it has the form of one that 12 to
 -- 15 pass.
-use Prim.Native.Nat.{ℕ, zero, suc, _+_, _≤_, _<_, min, max}
+use Prim.Native.Nat.{ℕ, zero, suc, _+_, _≤_}
 use native.Mathlib.Omega.{arith}
-use mathlib.Core.Path.{_≡_, refl, sym, ap, ap₂, subst, _∙_}
-use mathlib.Core.Bool.{Bool, true, false, _||_}
+use mathlib.Core.Path.{_≡_, refl, sym, ap, ap₂, _∙_}
+use mathlib.Core.Bool.{false}
 use mathlib.Core.List.{List, [], _∷_, _++_, map, zipWith}
-use lib.Dec.{eqb, ltb}
-use lib.ListN.{length, take, drop, replicate, length-append, length-take, length-drop, length-map}
-use lib.Seq.{take-at, drop-at, take-append-seam, drop-append-seam, length-take-le}
-use borrow.Author.Tests.{eq-eqb, ne-eqb, le-ltb}
+use lib.ListN.{length, take, drop, replicate, length-append, length-drop, length-map}
+use lib.Seq.{take-append-seam, drop-append-seam, length-take-le}
+use borrow.Author.Tests.{ne-eqb, le-ltb}
 use Rattle.laws.specs.Everyone.{Everyone, nobody, also}
 use Rattle.laws.specs.Search.{any}
-use Rattle.laws.proofs.Lists.{any-none}
 use Rattle.arbitration_rules.specs.Limits.{maxLength}
 use Rattle.arbitration_rules.specs.Reply.{Request, asked, cut, total, partsOf, lengthsOf, messagesOf, marksOf}
-use Rattle.arbitration_rules.specs.Reply.{badMessage, itself, isEmpty, longest}
-use Rattle.arbitration_rules.proofs.Pieces.{pieces, messages-are, Good, piece-some}
+use Rattle.arbitration_rules.specs.Reply.{badMessage, itself}
+use Rattle.arbitration_rules.proofs.Pieces.{pieces, messages-are, Good}
 use Rattle.night_rules.specs.Night.{waiting}
 use Rattle.night.specs.Waiting.{joined, waitingIn}
 

@@ -1,35 +1,33 @@
 -- A round that is due: its request is refused by nothing, so its arbitration is that of the messages that wait.
-use Prim.Native.Nat.{ℕ, zero, suc, _+_, _*_, _≤_, _<_, min, max}
+use Prim.Native.Nat.{ℕ, zero, suc, _+_, _*_, _≤_, _<_}
 use native.Mathlib.Omega.{arith}
 use mathlib.Core.Path.{_≡_, refl, sym, ap, ap₂, subst, _∙_}
-use mathlib.Core.Bool.{Bool, cond, true, false, not, _||_, false≢true}
+use mathlib.Core.Bool.{Bool, cond, true, false, false≢true}
 use mathlib.Core.List.{List, [], _∷_, _++_, map, zipWith}
 use lib.Dec.{eqb, ltb}
-use lib.ListN.{length, getD, take, drop, replicate, length-take, length-map}
+use lib.ListN.{length, take, replicate, length-take}
 use lib.Seq.{length-take-le}
-use borrow.Author.Tests.{eq-eqb, ne-eqb, le-ltb, ltb-false, eqb-false}
-use Rattle.laws.specs.declared.Refusal.{Refusal}
-use Rattle.laws.specs.Buffer.{filled}
+use borrow.Author.Tests.{eq-eqb, ne-eqb, le-ltb, ltb-false}
 use Rattle.laws.specs.Everyone.{Everyone, nobody, also}
-use Rattle.laws.specs.Refusals.{check, none, given}
+use Rattle.laws.specs.Refusals.{check, none}
 use Rattle.laws.specs.Search.{any}
 use Rattle.laws.proofs.Bools.{neither}
 use Rattle.laws.proofs.Lists.{everyone-so, any-none, any-false}
-use Rattle.laws.proofs.Refusals.{Passed, passed, passed-both, unrefused}
+use Rattle.laws.proofs.Refusals.{Passed, passed, unrefused}
 use Rattle.usi.specs.declared.Usi.{Usi}
 use Rattle.arbitration_rules.specs.declared.Arbitrated.{Arbitrated}
 use Rattle.arbitration_rules.specs.Limits.{maxMasters, maxLength}
 use Rattle.arbitration_rules.specs.Cleared.{clearedBy}
-use Rattle.arbitration_rules.specs.Masters.{Master}
 use Rattle.arbitration_rules.specs.Outcome.{restarts, sentAt, least, carriedCount, carriedOf, restartCount, levelCount}
 use Rattle.arbitration_rules.specs.Outcome.{undecided}
-use Rattle.arbitration_rules.specs.Run.{Bus, run}
-use Rattle.arbitration_rules.specs.Reply.{Request, asked, cut, total, partsOf, lengthsOf, messagesOf, badCount, badLengths}
+use Rattle.arbitration_rules.specs.Run.{run}
+use Rattle.arbitration_rules.specs.Reply.{Request, asked, cut, total, partsOf, lengthsOf, messagesOf, badCount}
+use Rattle.arbitration_rules.specs.Reply.{badLengths}
 use Rattle.arbitration_rules.specs.Reply.{badMessage, badMessages, itself, isEmpty, reads, longest, aboveOne}
 use Rattle.arbitration_rules.specs.Reply.{badAcknowledges, requestChecks, runOf, shortSlice, refusal, answered}
-use Rattle.arbitration_rules.specs.Reply.{arbitrated, tableAfter, padded, absent, seatOf}
+use Rattle.arbitration_rules.specs.Reply.{arbitrated, tableAfter}
 use Rattle.arbitration_rules.proofs.Cut.{messages-count, lengths-count, cut-count}
-use Rattle.arbitration_rules.proofs.Pieces.{Bytes, Good, taken, parts-total}
+use Rattle.arbitration_rules.proofs.Pieces.{Bytes, Good, parts-total}
 use Rattle.arbitration_rules.proofs.Accepted.{Shaped, shaped, as-many, sound-lengths, few-acknowledges}
 use Rattle.arbitration_rules.proofs.Demand.{Arbitration, least-sendable}
 use Rattle.arbitration_rules.proofs.Carried.{carried-count}
@@ -37,11 +35,11 @@ use Rattle.arbitration_rules.proofs.RecordedLevels.{byte-count, levels-count}
 use Rattle.arbitration_messages.specs.Marks.{maxSent}
 use Rattle.arbitration.specs.declared.Rehearsed.{Rehearsed}
 use Rattle.arbitration.specs.Shown.{Lent, Arbitrates}
-use Rattle.night_rules.specs.Night.{waiting, needed, waits, nightChecks, nightRefusal}
+use Rattle.night_rules.specs.Night.{waiting, waits, nightChecks, nightRefusal}
 use Rattle.night_rules.proofs.Accepted.{night-numbered, admitted}
 use Rattle.night_rules.proofs.Round.{waiting-so, waiting-admitted, round-arbitration}
 use Rattle.night.specs.Waiting.{waitingIn}
-use Rattle.night.specs.Round.{contenders, heard, contestOf, Due, Contested}
+use Rattle.night.specs.Round.{contenders, heard, contestOf, Contested}
 use Rattle.night.proofs.Again.{again, again-counts, again-parts, again-messages, bodies-lengths, owned}
 use Rattle.night.proofs.Again.{waiting-ones, waiting-sizes, cut-lengths, none-bad, joined-length, joined-total}
 
@@ -315,7 +313,8 @@ module _ (request : Request) (passes : nightRefusal request maxMasters maxMaster
             (form-12, (form-13, (form-14, (form-15, (form-16, (form-8, tt))))))
 
         -- what it shows
-        pub contested : (entry exit : Lent) (modules : List Usi) (shown : Rehearsed) → length (entry .table) ≡ maxMasters
+        pub contested : (entry exit : Lent) (modules : List Usi) (shown : Rehearsed) → length (entry .table) ≡
+            maxMasters
             → length (entry .carried) ≡ maxLength → length (entry .levels) ≡ 1346 → entry .table ≡ modules
             → exit .table ≡ shown .modules → Arbitrates asks entry exit (shown .reply)
             → Contested request rounds modules shown
@@ -343,7 +342,8 @@ module _ (request : Request) (passes : nightRefusal request maxMasters maxMaster
         lent-anew bytes parts counts acknowledges entry exit modules shown table carried levels held given-back
             one two three four promise =
             contested entry exit modules shown table carried levels held given-back
-            (subst (λ (l : List ℕ). Arbitrates (asked l (asks .parts) (asks .counts) answers) entry exit (shown .reply)) one
+            (subst (λ (l : List ℕ). Arbitrates (asked l (asks .parts) (asks .counts) answers) entry exit (shown
+            .reply)) one
             (subst (λ (l : List ℕ). Arbitrates (asked bytes l (asks .counts) answers) entry exit (shown .reply)) two
             (subst (λ (l : List ℕ). Arbitrates (asked bytes parts l answers) entry exit (shown .reply)) three
             (subst (λ (l : List ℕ). Arbitrates (asked bytes parts counts l) entry exit (shown .reply)) four promise))))

@@ -7,13 +7,13 @@ use mathlib.Core.Bool.{cond}
 use mathlib.Core.List.{List, [], _∷_, _++_}
 use borrow.Author.Tests.{ne-eqb}
 use lib.ListN.{length, getD, take, drop, length-append, length-take, length-drop, drop-of-length-le}
-use lib.Seq.{sets, sets-eq, paste, paste-zero, paste-suc, drop-cons, take-append-seam, take-length}
-use Rattle.laws.specs.Buffer.{filled}
-use Rattle.laws.proofs.Buffer.{Writing, writing-none, writing-long, writing-room, writing-more, writing-done, progress-done}
+use lib.Seq.{sets, sets-eq, paste, paste-suc, drop-cons, take-append-seam, take-length}
+use Rattle.laws.proofs.Buffer.{Writing, writing-none, writing-long, writing-room, writing-more, writing-done}
+use Rattle.laws.proofs.Buffer.{progress-done}
 use Rattle.laws.proofs.Buffer.{length-filled}
 use Rattle.arbitration_rules.specs.Reply.{cut}
 use Rattle.arbitration_rules.proofs.Cut.{cut-count}
-use Rattle.arbitration_messages.proofs.Walk.{At, at-start, at-more, in-messages, message-is, end-within}
+use Rattle.arbitration_messages.proofs.Walk.{At, at-start, at-more, in-messages, message-is}
 use Rattle.night_rules.specs.Night.{waiting, waits}
 use Rattle.night.specs.Waiting.{joined, waitingIn, Holds}
 

@@ -19,8 +19,8 @@ use Rattle.arbitration_rules.specs.Cleared.{clearedBy}
 use Rattle.arbitration_rules.specs.Final.{finalMaster}
 use Rattle.arbitration_rules.specs.Masters.{Master}
 use Rattle.arbitration_rules.specs.Outcome.{carriedOf}
-use Rattle.arbitration_rules.specs.Run.{Bus, run}
-use Rattle.arbitration_rules.specs.Reply.{Request, messagesOf, lengthsOf, padded, absent, seatOf}
+use Rattle.arbitration_rules.specs.Run.{run}
+use Rattle.arbitration_rules.specs.Reply.{Request, messagesOf, padded, absent, seatOf}
 use Rattle.arbitration_rules.proofs.Cut.{messages-count}
 use Rattle.arbitration_rules.proofs.Pieces.{Bytes}
 use Rattle.arbitration_rules.proofs.Demand.{Arbitration}
@@ -29,7 +29,7 @@ use Rattle.arbitration_rules.proofs.FinalMasters.{final-masters}
 use Rattle.arbitration.specs.declared.Rehearsed.{Rehearsed}
 use Rattle.night_rules.specs.Different.{different}
 use Rattle.night_rules.specs.Night.{Night, waiting, needed, arbitration, carriedBy, roundBy, entered, afterRound, waits}
-use Rattle.night_rules.specs.Night.{nightAfter, nightOf, nightRefusal, nightFor}
+use Rattle.night_rules.specs.Night.{nightOf, nightRefusal, nightFor}
 use Rattle.night_rules.proofs.Different.{different-length}
 use Rattle.night_rules.proofs.Round.{Admitted}
 use Rattle.night_rules.proofs.Rounds.{reached, nightAt, someone-waits, nobody-waits, night-at, night-over}

@@ -2,11 +2,11 @@
 use Prim.Native.Nat.{ℕ, _<_}
 use native.Mathlib.Omega.{arith}
 use mathlib.Core.Path.{_≡_, refl, sym, ap, _∙_}
-use mathlib.Core.Bool.{Bool, cond, true, false}
+use mathlib.Core.Bool.{Bool, true, false}
 use mathlib.Core.List.{List, [], _∷_}
 use lib.Dec.{eqb}
 use lib.ListN.{take}
-use borrow.Author.Tests.{eqb-true, eqb-false, eq-eqb, ne-eqb}
+use borrow.Author.Tests.{eqb-true, eq-eqb, ne-eqb}
 use Rattle.laws.specs.declared.Refusal.{Refusal}
 use Rattle.laws.specs.Refusals.{Check, check, none, refusedAt, given, orElse}
 use Rattle.laws.specs.Search.{any}
@@ -17,7 +17,7 @@ use Rattle.arbitration_rules.proofs.Accepted.{request-numbered}
 use Rattle.arbitration_messages.specs.declared.Messages.{Messages}
 use Rattle.arbitration_messages.specs.Gathered.{gathered, passing}
 use Rattle.arbitration_messages.proofs.Whole.{whole}
-use Rattle.arbitration_checks.specs.Settled.{carrying, stoppedBy, settled}
+use Rattle.arbitration_checks.specs.Settled.{settled}
 use Rattle.night_rules.specs.Night.{formChecks, isOne, endApart, shortRoom, nightRefusal}
 
 module _ (request : Request) where

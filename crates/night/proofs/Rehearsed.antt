@@ -1,8 +1,7 @@
 -- The reply of a night: of a refusal, and of its rounds.
 use Prim.Native.Nat.{ℕ, _≤_}
-use native.Mathlib.Omega.{arith}
-use mathlib.Core.Path.{_≡_, refl, sym, ap, ap₂, _∙_}
-use mathlib.Core.Bool.{false, cond}
+use mathlib.Core.Path.{_≡_, sym, ap, _∙_}
+use mathlib.Core.Bool.{false}
 use mathlib.Core.List.{List, _++_, map}
 use lib.Dec.{eqb, ltb}
 use lib.ListN.{length, take, drop, replicate, length-map}
@@ -20,12 +19,11 @@ use Rattle.arbitration_rules.proofs.Pieces.{Bytes}
 use Rattle.arbitration_messages.specs.declared.Messages.{Messages}
 use Rattle.arbitration_messages.specs.Gathered.{gathered}
 use Rattle.arbitration_messages.proofs.Whole.{refusal-is, lengths-whole}
-use Rattle.night_rules.specs.Different.{different, roundOf}
+use Rattle.night_rules.specs.Different.{roundOf}
 use Rattle.night_rules.specs.Night.{Night, shortRoom, nightChecks, nightRefusal, nightFor, roundsCounted, roundsAfter}
 use Rattle.night_rules.specs.Night.{tableAfter}
 use Rattle.night_rules.proofs.Night.{night-rounds, night-count}
 use Rattle.night_rules.proofs.Accepted.{night-numbered, admitted}
-use Rattle.night.specs.declared.NightRun.{NightRun}
 use Rattle.night.specs.declared.carried.Standing.{Standing}
 use Rattle.night.specs.Carried.{standingOf}
 use Rattle.night.specs.Rehearsal.{Rehearses}

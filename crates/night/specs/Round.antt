@@ -1,21 +1,19 @@
 -- One round as the code makes it, for contracts inside the crate.
-use Prim.Native.Nat.{ℕ, zero, suc, _+_}
+use Prim.Native.Nat.{ℕ}
 use mathlib.Core.Path.{_≡_}
-use mathlib.Core.Bool.{cond, true}
-use mathlib.Core.List.{List, [], _∷_, _++_, map, zipWith}
-use mathlib.Core.Option.{Option, none, some}
-use lib.ListN.{length, take, drop}
+use mathlib.Core.Bool.{true}
+use mathlib.Core.List.{List, map, zipWith}
+use lib.ListN.{length, take}
 use Rattle.laws.specs.Buffer.{filled}
 use Rattle.laws.specs.Search.{any}
 use Rattle.usi.specs.declared.Usi.{Usi}
-use Rattle.arbitration_rules.specs.declared.Seat.{Seat}
 use Rattle.arbitration_rules.specs.Limits.{maxMasters}
 use Rattle.arbitration_rules.specs.Cleared.{clearedBy}
 use Rattle.arbitration_rules.specs.Masters.{Master}
 use Rattle.arbitration_rules.specs.Run.{Bus, run}
 use Rattle.arbitration_rules.specs.Reply.{Request, messagesOf, lengthsOf, padded, absent, seatOf}
 use Rattle.arbitration.specs.declared.Rehearsed.{Rehearsed}
-use Rattle.night_rules.specs.Night.{waiting, needed, waits, nightRefusal, roundBy, entered}
+use Rattle.night_rules.specs.Night.{waiting, needed, waits, nightRefusal}
 
 -- the messages that wait, the acknowledges they need, and their arbitration
 abbrev pub contenders : Request → List ℕ → List (List ℕ)

@@ -1,6 +1,6 @@
 -- A refusal, or the rounds.
 use Prim.Native.Nat.{ℕ, _<_}
-use mathlib.Core.Path.{_≡_, sym, ap, _∙_}
+use mathlib.Core.Path.{sym, ap, _∙_}
 use native.Mathlib.Omega.{arith}
 use lib.ListN.{getD}
 use lib.Seq.{length-take-le}
@@ -53,10 +53,15 @@ cast-t19 c = search needs
 
 returns-2 : tie.Need-returns-2
 returns-2 c =
-    let a = c .before .before .before .before .before .before .before .before .before .before .before .before .before .before .args in
+    let a = c .before .before .before .before .before .before .before .before .before .before .before .before .before
+    .before .args in
     let request = asked (a .bytes .now) (a .parts .now) (a .counts .now) (a .acks .now) in
     let below : (i : ℕ) → getD (a .bytes .now) i 0 < 256 =
-    λ i. omega (arith, c .before .before .before .before .before .before .before .before .before .before .before .before .before .shared-slice-known .given i) in
+    λ i. omega (
+      arith,
+      c .before .before .before .before .before .before .before .before .before .before .before
+          .before .before .shared-slice-known .given i,
+    ) in
     let small = bytes-below (a .bytes .now) below in
     let found = c .before .before .before .before .before .before .before .before .before .refusal in
     let ran = c .before .before .before .all-rounds in

@@ -91,7 +91,8 @@ loop-again c =
     let head = c .before .before .before .before .before .before .before .before .loop in
     let a = c .before .before .before .before .before .before .before .before .before .before .before .before .args in
     let less : head .i < a .count = c .before .before .before .before .before .before .before .loop-test .taken in
-    let most : a .count ≤ maxMasters = c .before .before .before .before .before .before .before .before .before .before .before .before .pre .0 in
+    let most : a .count ≤ maxMasters = c .before .before .before .before .before .before .before .before .before
+    .before .before .before .pre .0 in
     let in-rounds : head .i < length (head .rounds) = omega (arith, head .inv .2, less, most) in
     let in-modules : head .i < length (head .modules) = omega (arith, head .inv .3, less, most) in
     let all-seats : length (a .t3) ≡ maxMasters = search (needs, length-mapped) in
@@ -99,17 +100,20 @@ loop-again c =
     let in-seats : head .seat < length (a .t3) = omega (arith, head .inv .1, less, most, all-seats) in
     let in-left : head .seat < length (a .t4) = omega (arith, head .inv .1, less, most, all-left) in (
       search needs,
-      seat-within (waits (getD (head .rounds) (head .i) 0)) (head .seat) (c .seat-after .result) (head .i) (c .seat-after .ensures) (head .inv .1),
+      seat-within (waits (getD (head .rounds) (head .i) 0)) (head .seat) (c .seat-after .result) (head .i) (c
+          .seat-after .ensures) (head .inv .1),
       length-set (head .rounds) (head .i) (c .before .round-of .result) ∙ head .inv .2,
       length-set (head .modules) (head .i) (c .before .before .module-of .result) ∙ head .inv .3,
       head .inv .4
           ∙ rounds-more (a .count) (a .standing .count + 1) (a .t3) (a .t4) (head .rounds) (head .modules) (head .i)
-          (head .seat) (c .seat-after .result) _ _ (c .before .round-of .result) (c .before .before .module-of .result) _
+          (head .seat) (c .seat-after .result) _ _ (c .before .round-of .result) (c .before .before .module-of
+          .result) _
           refl (c .before .round-of .ensures) (c .before .before .module-of .ensures) (c .seat-after .ensures) less
           in-rounds in-modules in-seats in-left,
       head .inv .5
           ∙ modules-more (a .count) (a .standing .count + 1) (a .t3) (a .t4) (head .rounds) (head .modules) (head .i)
-          (head .seat) (c .seat-after .result) _ _ (c .before .round-of .result) (c .before .before .module-of .result) _
+          (head .seat) (c .seat-after .result) _ _ (c .before .round-of .result) (c .before .before .module-of
+          .result) _
           refl (c .before .round-of .ensures) (c .before .before .module-of .ensures) (c .seat-after .ensures) less
           in-rounds in-modules in-seats in-left,
     )

@@ -1,3 +1,4 @@
+-- The next seat where the message waits.
 use Rattle.laws.proofs.Branches.{branches}
 use borrow.Author.Needs.{needs}
 use Rattle.night.proofs.carried.seat_after.Statement.{statement}

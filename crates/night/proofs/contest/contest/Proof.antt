@@ -93,7 +93,8 @@ slice-aggregate-rehearse-3 c =
 
 slice-aggregate-rehearse-4 : tie.Need-slice-aggregate-rehearse-4
 slice-aggregate-rehearse-4 c =
-    let start = c .before .before .before .before .before .before .before .before .before .before .before .before .before .before .before .before .before in
+    let start = c .before .before .before .before .before .before .before .before .before .before .before .before
+    .before .before .before .before .before in
     let a = start .args in
     let request = asked (a .bytes .now) (a .parts .now) (a .counts .now) (a .acks .now) in
     let passes = start .pre .unrefused in
@@ -102,7 +103,12 @@ slice-aggregate-rehearse-4 c =
     heard .ensures
     ∙ ap longest (ap (λ (l : List ℕ). waitingIn (a .rounds) (replicate (length l) 1) l) (start .pre .long)
     ∙ needed-is request passes (a .rounds)) in
-    let within : heard .result ≤ length (a .acks .now) = omega (arith, many, needed-within request passes (a .rounds)) in
+    let within : heard .result ≤ length (a .acks .now) = omega (
+      arith,
+      many,
+      needed-within request passes (a
+          .rounds),
+    ) in
     sym (length-take-le (heard .result) (a .acks .now) within)
 
 slice-aggregate-rehearse-5 : tie.Need-slice-aggregate-rehearse-5
@@ -116,14 +122,21 @@ rehearse-requires c κs = search needs
 
 returns : tie.Need-returns
 returns c =
-    let start = c .before .before .before .before .before .before .before .before .before .before .before .before .before .before .before .before .before .before .before .before .before .before in
+    let start = c .before .before .before .before .before .before .before .before .before .before .before .before
+    .before .before .before .before .before .before .before .before .before .before in
     let a = start .args in
     let request = asked (a .bytes .now) (a .parts .now) (a .counts .now) (a .acks .now) in
     let passes = start .pre .unrefused in
     let below : (i : ℕ) → getD (a .bytes .now) i 0 < 256 =
-    λ i. omega (arith, c .before .before .before .before .before .before .before .before .before .before .before .before .before .before .before .before .before .before .before .before .before .shared-slice-known .given i) in
+    λ i. omega (
+      arith,
+      c .before .before .before .before .before .before .before .before .before .before .before
+          .before .before .before .before .before .before .before .before .before .before .shared-slice-known .given i,
+    )
+    in
     let small = bytes-below (a .bytes .now) below in
-    let heard = c .before .before .before .before .before .before .before .before .before .before .before .before .needed in
+    let heard = c .before .before .before .before .before .before .before .before .before .before .before .before
+    .needed in
     let many : heard .result ≡ longest (map length (contenders request (a .rounds))) =
     heard .ensures
     ∙ ap longest (ap (λ (l : List ℕ). waitingIn (a .rounds) (replicate (length l) 1) l) (start .pre .long)
@@ -131,10 +144,13 @@ returns c =
     let table : length (a .modules) ≡ maxMasters = search needs in
     lent-anew request passes (a .rounds) small (start .pre .someone) _ _ _ _ _ _ (a .modules)
     (c .before .before .rehearse .result) table refl refl refl refl
-    (c .before .before .before .before .before .before .before .before .before .before .before .before .before .waiting-bytes .ensures .front
+    (c .before .before .before .before .before .before .before .before .before .before .before .before .before
+    .waiting-bytes .ensures .front
     ∙ ap (λ (l : List ℕ). waitingIn (a .rounds) l (a .bytes .now)) (start .pre .long))
-    (c .before .before .before .before .before .before .before .before .before .before .before .before .before .before .waiting-numbers2 .ensures .front)
-    (c .before .before .before .before .before .before .before .before .before .before .before .before .before .before .before .waiting-numbers .ensures .front
+    (c .before .before .before .before .before .before .before .before .before .before .before .before .before
+    .before .waiting-numbers2 .ensures .front)
+    (c .before .before .before .before .before .before .before .before .before .before .before .before .before
+    .before .before .waiting-numbers .ensures .front
     ∙ ap (λ (l : List ℕ). waitingIn (a .rounds) l (a .counts .now))
     (take-ones (length (a .counts .now)) (few request passes)))
     (ap (λ (n : ℕ). take n (a .acks .now)) many)

@@ -1,5 +1,5 @@
 -- The longest of the lengths that wait.
-use Prim.Native.Nat.{ℕ, _≤_}
+use Prim.Native.Nat.{ℕ}
 use mathlib.Core.Path.{_≡_, sym, ap, _∙_}
 use mathlib.Core.List.{List}
 use native.Mathlib.Omega.{arith}
@@ -47,7 +47,8 @@ returns c =
     c .longest .ensures
     ∙ ap longest
     (c .before .before .before .waiting-numbers .ensures .front
-    ∙ ap (λ (l : List ℕ). waitingIn (a .rounds) l (a .lengths .now)) (take-ones (length (a .lengths .now)) (start .pre)))
+    ∙ ap (λ (l : List ℕ). waitingIn (a .rounds) l (a .lengths .now)) (take-ones (length (a .lengths .now)) (start
+    .pre)))
 
 pub needed-spec : {M : Type 1} → statement M
 needed-spec =

@@ -1,8 +1,7 @@
 -- 12 to 15, then 43, 16 and 8.
-use mathlib.Core.Path.{_≡_, sym, ap, _∙_}
+use mathlib.Core.Path.{sym, ap, _∙_}
 use Rattle.laws.specs.declared.Refusal.{Refusal}
 use lib.Seq.{length-take-le}
-use borrow.Author.Tests.{eq-eqb, ne-eqb}
 use Rattle.arbitration_rules.specs.Reply.{asked}
 use Rattle.arbitration_messages.proofs.Whole.{size-within, count-within, apart}
 use Rattle.night_rules.specs.Night.{endApart}
@@ -64,10 +63,13 @@ end-apart-requires c κs = search needs
 returns-3 : tie.Need-returns-3
 returns-3 c =
     let told = c .before .before .before .before .before .before .before .before .before .before .before .form in
-    let a = c .before .before .before .before .before .before .before .before .before .before .before .before .before .before .before .before .args in
+    let a = c .before .before .before .before .before .before .before .before .before .before .before .before .before
+    .before .before .before .args in
     let request = asked (a .bytes .now) (a .parts .now) (a .counts .now) (a .acks .now) in
-    let zero = ap (λ (r : Refusal). r .number) (sym (told .ensures)) ∙ c .before .before .before .before .before .before .before .before .before .if1 .left in
-    let one = sym (c .before .before .before .before .before .before .before .before .any-one .ensures) ∙ c .before .before .before .before .before .before .before .if2 .left in
+    let zero = ap (λ (r : Refusal). r .number) (sym (told .ensures)) ∙ c .before .before .before .before .before
+    .before .before .before .before .if1 .left in
+    let one = sym (c .before .before .before .before .before .before .before .before .any-one .ensures) ∙ c .before
+    .before .before .before .before .before .before .if2 .left in
     let got = c .before .before .before .before .before .before .gather in
     let is = got .ensures ∙ apart (a .bytes .now) (a .parts .now) (a .counts .now) (a .acks .now) in
     let differ =
@@ -77,11 +79,15 @@ returns-3 c =
 
 returns-4 : tie.Need-returns-4
 returns-4 c =
-    let told = c .before .before .before .before .before .before .before .before .before .before .before .before .form in
-    let a = c .before .before .before .before .before .before .before .before .before .before .before .before .before .before .before .before .before .args in
+    let told = c .before .before .before .before .before .before .before .before .before .before .before .before
+    .form in
+    let a = c .before .before .before .before .before .before .before .before .before .before .before .before .before
+    .before .before .before .before .args in
     let request = asked (a .bytes .now) (a .parts .now) (a .counts .now) (a .acks .now) in
-    let zero = ap (λ (r : Refusal). r .number) (sym (told .ensures)) ∙ c .before .before .before .before .before .before .before .before .before .before .if1 .left in
-    let one = sym (c .before .before .before .before .before .before .before .before .before .any-one .ensures) ∙ c .before .before .before .before .before .before .before .before .if2 .left in
+    let zero = ap (λ (r : Refusal). r .number) (sym (told .ensures)) ∙ c .before .before .before .before .before
+    .before .before .before .before .before .if1 .left in
+    let one = sym (c .before .before .before .before .before .before .before .before .before .any-one .ensures) ∙ c
+    .before .before .before .before .before .before .before .before .if2 .left in
     let got = c .before .before .before .before .before .before .before .gather in
     let is = got .ensures ∙ apart (a .bytes .now) (a .parts .now) (a .counts .now) (a .acks .now) in
     let differ =
@@ -91,11 +97,15 @@ returns-4 c =
 
 returns-5 : tie.Need-returns-5
 returns-5 c =
-    let told = c .before .before .before .before .before .before .before .before .before .before .before .before .form in
-    let a = c .before .before .before .before .before .before .before .before .before .before .before .before .before .before .before .before .before .args in
+    let told = c .before .before .before .before .before .before .before .before .before .before .before .before
+    .form in
+    let a = c .before .before .before .before .before .before .before .before .before .before .before .before .before
+    .before .before .before .before .args in
     let request = asked (a .bytes .now) (a .parts .now) (a .counts .now) (a .acks .now) in
-    let zero = ap (λ (r : Refusal). r .number) (sym (told .ensures)) ∙ c .before .before .before .before .before .before .before .before .before .before .if1 .left in
-    let one = sym (c .before .before .before .before .before .before .before .before .before .any-one .ensures) ∙ c .before .before .before .before .before .before .before .before .if2 .left in
+    let zero = ap (λ (r : Refusal). r .number) (sym (told .ensures)) ∙ c .before .before .before .before .before
+    .before .before .before .before .before .if1 .left in
+    let one = sym (c .before .before .before .before .before .before .before .before .before .any-one .ensures) ∙ c
+    .before .before .before .before .before .before .before .before .if2 .left in
     let got = c .before .before .before .before .before .before .before .gather in
     let is = got .ensures ∙ apart (a .bytes .now) (a .parts .now) (a .counts .now) (a .acks .now) in
     let differ =

@@ -1,6 +1,6 @@
 -- The night after as many rounds as there were.
 use Prim.Native.Nat.{ℕ, _-_, _≤_, _<_}
-use mathlib.Core.Path.{_≡_, sym, ap, _∙_}
+use mathlib.Core.Path.{_≡_, sym, _∙_}
 use native.Mathlib.Omega.{arith}
 use lib.ListN.{length, getD, replicate}
 use lib.Seq.{length-take-le}
@@ -76,7 +76,11 @@ returns c =
     let a = start .args in
     let request = asked (a .bytes .now) (a .parts .now) (a .counts .now) (a .acks .now) in
     let below : (i : ℕ) → getD (a .bytes .now) i 0 < 256 =
-    λ i. omega (arith, c .before .before .before .before .before .before .before .before .before .shared-slice-known .given i) in
+    λ i. omega (
+      arith,
+      c .before .before .before .before .before .before .before .before .before .shared-slice-known
+          .given i,
+    ) in
     let small = bytes-below (a .bytes .now) below in
     let passes = start .pre .0 in
     let nobody = sym (c .before .any-waits .ensures) ∙ not-true _ (c .if1 .taken) in
@@ -89,11 +93,16 @@ round-requires c κs =
     let a = start .args in
     let request = asked (a .bytes .now) (a .parts .now) (a .counts .now) (a .acks .now) in
     let below : (i : ℕ) → getD (a .bytes .now) i 0 < 256 =
-    λ i. omega (arith, c .before .before .before .before .before .before .before .before .before .shared-slice-known .given i) in
+    λ i. omega (
+      arith,
+      c .before .before .before .before .before .before .before .before .before .shared-slice-known
+          .given i,
+    ) in
     let small = bytes-below (a .bytes .now) below in
     let passes = start .pre .0 in
     let some = sym (c .before .any-waits .ensures) ∙ not-false _ (c .if1 .left) in
-    let inside = stands-inside request small passes (a .modules) (head .standing) (head .inv .0) (head .inv .1) some in (
+    let inside = stands-inside request small passes (a .modules) (head .standing) (head .inv .0) (head .inv .1) some
+    in (
       record { unrefused = passes; someone = some; long = start .pre .1 },
       omega (arith, inside, most-few request small passes (a .modules)),
     )
@@ -105,7 +114,11 @@ loop-less c =
     let a = start .args in
     let request = asked (a .bytes .now) (a .parts .now) (a .counts .now) (a .acks .now) in
     let below : (i : ℕ) → getD (a .bytes .now) i 0 < 256 =
-    λ i. omega (arith, c .before .before .before .before .before .before .before .before .before .before .shared-slice-known .given i) in
+    λ i. omega (
+      arith,
+      c .before .before .before .before .before .before .before .before .before .before
+          .shared-slice-known .given i,
+    ) in
     let small = bytes-below (a .bytes .now) below in
     let passes = start .pre .0 in
     let some = sym (c .before .before .any-waits .ensures) ∙ not-false _ (c .before .if1 .left) in
@@ -121,7 +134,11 @@ loop-again c =
     let a = start .args in
     let request = asked (a .bytes .now) (a .parts .now) (a .counts .now) (a .acks .now) in
     let below : (i : ℕ) → getD (a .bytes .now) i 0 < 256 =
-    λ i. omega (arith, c .before .before .before .before .before .before .before .before .before .before .shared-slice-known .given i) in
+    λ i. omega (
+      arith,
+      c .before .before .before .before .before .before .before .before .before .before
+          .shared-slice-known .given i,
+    ) in
     let small = bytes-below (a .bytes .now) below in
     let passes = start .pre .0 in
     let some = sym (c .before .before .any-waits .ensures) ∙ not-false _ (c .before .if1 .left) in

@@ -28,7 +28,11 @@ returns c =
     let a = start .args in
     let request = asked (a .bytes .now) (a .parts .now) (a .counts .now) (a .acks .now) in
     let below : (i : ℕ) → getD (a .bytes .now) i 0 < 256 =
-    λ i. omega (arith, c .before .before .before .before .before .before .before .before .before .before .before .shared-slice-known .given i) in
+    λ i. omega (
+      arith,
+      c .before .before .before .before .before .before .before .before .before .before .before
+          .shared-slice-known .given i,
+    ) in
     let small = bytes-below (a .bytes .now) below in
     let long : length (a .standing .rounds) ≡ maxMasters = search needs in
     let got = c .before .before .before .before .contest in

@@ -1,10 +1,10 @@
 -- The lists passed that wait lie one after the other.
-use Prim.Native.Nat.{ℕ, _+_, _-_, _≤_, _<_}
+use Prim.Native.Nat.{_-_, _≤_, _<_}
 use mathlib.Core.Path.{_≡_}
 use native.Mathlib.Omega.{arith}
 use lib.ListN.{length, replicate}
 use Rattle.arbitration_messages.specs.Marks.{maxSent}
-use Rattle.night.proofs.Gathered.{Gathering, gathering-none, gathering-done, Turn, turn}
+use Rattle.night.proofs.Gathered.{Gathering, gathering-none, gathering-done, turn}
 use borrow.Author.Needs.{needs}
 use Rattle.night.proofs.waiting.waiting_numbers.Statement.{statement}
 use Rattle.night.proofs.waiting.waiting_numbers.Tie as tie
