@@ -14,6 +14,7 @@ use Rattle.arbitration_rules.specs.Limits.{maxLength}
 use Rattle.arbitration_rules.specs.Reply.{Request, asked, cut, total, partsOf, lengthsOf, messagesOf, marksOf}
 use Rattle.arbitration_rules.specs.Reply.{badMessage, itself}
 use Rattle.arbitration_rules.proofs.Pieces.{pieces, messages-are, Good}
+use Rattle.arbitration_messages.proofs.Sums.{total-append}
 use Rattle.night_rules.specs.Night.{waiting}
 use Rattle.night.specs.Waiting.{joined, waitingIn}
 
@@ -27,10 +28,6 @@ cut-joined (list ∷ lists) =
 pub joined-length : (lists : List (List ℕ)) → total (map length lists) ≡ length (joined lists)
 joined-length [] = refl
 joined-length (list ∷ lists) = omega (arith, length-append list (joined lists), joined-length lists)
-
-total-append : (list more : List ℕ) → total (list ++ more) ≡ total list + total more
-total-append [] more = omega arith
-total-append (a ∷ list) more = omega (arith, total-append list more)
 
 pub joined-total : (lists : List (List ℕ)) → total (joined lists) ≡ total (map total lists)
 joined-total [] = refl

@@ -2,7 +2,7 @@
 use Prim.Native.Nat.{ℕ, zero, suc, _+_, _*_, _≤_, _<_}
 use native.Mathlib.Omega.{arith}
 use mathlib.Core.Path.{_≡_, refl, sym, ap, ap₂, subst, _∙_}
-use mathlib.Core.Bool.{Bool, cond, true, false, false≢true}
+use mathlib.Core.Bool.{true, false, false≢true}
 use mathlib.Core.List.{List, [], _∷_, _++_, map, zipWith}
 use lib.Dec.{eqb, ltb}
 use lib.ListN.{length, take, replicate, length-take}
@@ -18,7 +18,7 @@ use Rattle.usi.specs.declared.Usi.{Usi}
 use Rattle.arbitration_rules.specs.declared.Arbitrated.{Arbitrated}
 use Rattle.arbitration_rules.specs.Limits.{maxMasters, maxLength}
 use Rattle.arbitration_rules.specs.Cleared.{clearedBy}
-use Rattle.arbitration_rules.specs.Outcome.{restarts, sentAt, least, carriedCount, carriedOf, restartCount, levelCount}
+use Rattle.arbitration_rules.specs.Outcome.{restarts, sentAt, least, carriedCount, carriedOf, levelCount}
 use Rattle.arbitration_rules.specs.Outcome.{undecided}
 use Rattle.arbitration_rules.specs.Run.{run}
 use Rattle.arbitration_rules.specs.Reply.{Request, asked, cut, total, partsOf, lengthsOf, messagesOf, badCount}
@@ -33,6 +33,7 @@ use Rattle.arbitration_rules.proofs.Demand.{Arbitration, least-sendable}
 use Rattle.arbitration_rules.proofs.Carried.{carried-count}
 use Rattle.arbitration_rules.proofs.RecordedLevels.{byte-count, levels-count}
 use Rattle.arbitration_messages.specs.Marks.{maxSent}
+use Rattle.arbitration_checks.proofs.Carried.{restarts-few}
 use Rattle.arbitration.specs.declared.Rehearsed.{Rehearsed}
 use Rattle.arbitration.specs.Shown.{Lent, Arbitrates}
 use Rattle.night_rules.specs.Night.{waiting, waits, nightChecks, nightRefusal}
@@ -53,21 +54,12 @@ take-ones n few = go n maxMasters few
     go (suc n) (suc most) few = ap (λ (l : List ℕ). 1 ∷ l) (go n most (omega arith))
 
 -- the most levels
-restarts-within : (carried : List ℕ) → restartCount carried ≤ length carried
-restarts-within [] = omega arith
-restarts-within (sent ∷ carried) = go (restarts sent) (restarts-within carried)
-  where
-    go : (again : Bool) → restartCount carried ≤ length carried
-        → cond again 1 0 + restartCount carried ≤ suc (length carried)
-    go true rest = omega arith
-    go false rest = omega arith
-
 levels-within : (k : ℕ) (message : List ℕ) → length message ≤ maxLength → restarts (sentAt 0 message) ≡ false
     → levelCount (take k message) ≤ 1346
 levels-within zero message short first = omega arith
 levels-within (suc k) [] short first = omega arith
 levels-within (suc k) (sent ∷ message) short first =
-    rw first (omega (arith, restarts-within (take k message), length-take k message))
+    rw first (omega (arith, restarts-few (take k message), length-take k message))
 
 -- how much all messages have
 own-length : (parts : List ℕ) → any isEmpty parts ≡ false → length parts ≤ total parts
