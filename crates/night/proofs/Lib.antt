@@ -5,3 +5,6 @@ pub mod Contests
 pub mod Entering
 pub mod Nights
 pub mod Rehearsed
+pub mod Values
+pub mod Placed
+pub mod Lending

@@ -35,7 +35,7 @@ module _ (request : Request) (roundsRoom tableRoom : ℕ) where
     unfolding nightRefusal
     all-passed = passed (nightChecks request roundsRoom tableRoom) (night-numbered request roundsRoom tableRoom) passes
 
-    count-few : length (request .counts) ≤ maxMasters
+    pub count-few : length (request .counts) ≤ maxMasters
     count-few =
         ltb-false maxMasters (length (request .counts))
         (neither (eqb (length (request .counts)) 0) (ltb maxMasters (length (request .counts))) (all-passed .0) .1)

@@ -3,3 +3,4 @@ pub mod Waiting
 pub mod Round
 pub mod Carried
 pub mod Rehearsal
+pub mod Lent

@@ -1,10 +1,12 @@
-// The night run (02: Ask 14), over a table of modules by value: rounds of arbitrations of the messages not yet carried,
-// until none is left.
+// The night run (02: Ask 14), over what a caller lends and over a table of modules by value: rounds of arbitrations of
+// the messages not yet carried, until none is left.
 ghost use Rattle.arbitration_rules.specs.Reply.{asked};
+ghost use Rattle.night.specs.Lent.{Nights};
 ghost use Rattle.night.specs.Rehearsal.{Rehearses};
 
 mod carried; // carried.rt: what a round carries, entered
 mod contest; // contest.rt: one round, an arbitration of the messages that wait
+mod lent; // lent.rt: what is put into a slice and a table that a caller lends
 mod refusals; // refusals.rt: the first refusal of a night that applies
 mod rounds; // rounds.rt: the rounds, until none is left
 mod waiting; // waiting.rt: the messages that wait, put together anew
@@ -62,4 +64,29 @@ pub fn rehearse(
         rounds,
         modules,
     }
+}
+
+// What a night over a lent table answers: the refusal, and how many rounds there were, 0 at a refusal.
+pub struct Reply {
+    pub refusal: Refusal,
+    pub count: usize,
+}
+
+// The same over a lent slice of rounds and a lent table. The first entries of each, one for each message, get its round
+// from 1 and its module as that round left it; the rest stays, and at a refusal all of both. What the table held is not
+// read.
+pub fn night(
+    bytes: &[u8],
+    parts: &[u32],
+    counts: &[u32],
+    acks: &[u8],
+    rounds: &mut [u32],
+    table: &mut [Usi],
+) -> Reply
+    ensures { λ r. ⌜ Nights
+        (asked (now (bytes .entry)) (now (parts .entry)) (now (counts .entry)) (now (acks .entry)))
+        (now (rounds .entry)) (now (table .entry)) (now (rounds .exit)) (now (table .exit)) r ⌝ }
+{
+    let ended = lent::settle(bytes, parts, counts, acks, rounds, table.len());
+    lent::place(table, ended)
 }
