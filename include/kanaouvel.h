@@ -93,6 +93,16 @@ uint64_t least_message(const uint8_t *bytes, size_t bytes_length, const uint32_t
 uint64_t least_comparisons(const uint8_t *bytes, size_t bytes_length, const uint32_t *parts, size_t parts_length,
                            const uint32_t *counts, size_t counts_length);
 
+/* A night of such messages: the losers try again. Each round is an arbitration of all messages not yet carried, from
+ * power-up, until none is left. The answer: the refusal's number in byte 0, the place in bytes 1 and 2, the number of
+ * rounds from byte 3 on. An entry of rounds is the round that carried its message, from 1, one of modules the module of
+ * its master as that round left it, with bits 55 to 63 at 0; entries past the messages stay as they were. Refused in
+ * this order, before any round: 12, 13, 14, 15; 43, an acknowledge 1 anywhere; 16, two different messages that first
+ * differ at an ending of either; 8, rounds or modules shorter than the number of messages. */
+uint64_t night(const uint8_t *bytes, size_t bytes_length, const uint32_t *parts, size_t parts_length,
+               const uint32_t *counts, size_t counts_length, const uint8_t *acks, size_t acks_length, uint32_t *rounds,
+               size_t rounds_length, uint64_t *modules, size_t modules_length);
+
 /* A board's message among tonight's corrections and the standing catalogue: each a block in which the messages lie one
  * after the other, with a rising list of boards and a list of lengths. The number: 0 where the board is found, else 40,
  * 41 of the corrections, 40, 41 of the standing catalogue, 42, in this order. The message is a part of the caller's own

@@ -294,6 +294,44 @@ static void arbitrations(void)
     refusals();
 }
 
+/* a night with slices of so many entries; what follows the messages, or all of it at a refusal, is as it was */
+static void rounds(const struct load *load, size_t room, size_t modules, uint64_t answer, const uint32_t *expected)
+{
+    static struct guarded rounds, table;
+    uint32_t *r = lend(&rounds, 4 * room);
+    uint64_t *m = lend(&table, 8 * modules);
+    size_t masters = answer & 255 ? 0 : load->counts_length;
+    check(night(MESSAGES(load), load->acks, load->acks_length, r, room, m, modules) == answer, load->name);
+    check(kept_past(&rounds, 4 * masters) && kept_past(&table, 8 * masters), load->name);
+    for (size_t i = 0; i < masters; i++)
+        check(r[i] == expected[i] && (m[i] & 0xFFFFFFFFFFFF) == 0x00FF002245C8, load->name);
+}
+
+/* document 02, request 14: every message is carried in its round, and each master ends as a winner does */
+static void nights(void)
+{
+    const struct load three = {"three rounds", {2, 6, 2, 4, 2, 6, 0, 1}, 8, {1, 1, 1, 1, 1, 1, 2}, 7, {2, 2, 2, 1}, 4,
+                               {0, 0}, 2};
+    const struct load refused = {"43 before 16", {2, 2, 4}, 3, {1, 2}, 2, {1, 1}, 2, {0, 1}, 2};
+    const struct load last = {"43 at the last byte", {2, 4, 6, 8}, 4, {2, 2}, 2, {1, 1}, 2, {0, 1}, 2};
+    const struct load ends = {"16 of two that are not least", {0, 2, 2, 4}, 4, {1, 1, 1, 1}, 4, {1, 1, 2}, 3, {0, 0}, 2};
+    const struct load reads = {"14 before 43", {2, 3}, 2, {1, 1}, 2, {2}, 1, {1, 1}, 2};
+    const struct load acks = {"15 before 43", {2, 4}, 2, {1, 1}, 2, {2}, 1, {1}, 1};
+    for (size_t more = 0; more < 20; more++)
+        rounds(&three, 4 + more, 4 + (more + 7) % 20, (uint64_t)3 << 24, (const uint32_t[]){3, 2, 3, 1});
+    for (size_t few = 0; few < 4; few++) {
+        rounds(&three, few, 4, 8, NULL);
+        rounds(&three, 4, few, 8, NULL);
+    }
+    const struct load *all[] = {&refused, &last, &ends, &reads, &acks};
+    const uint64_t answers[] = {43, 43, 16, 14, 15};
+    for (int i = 0; i < 5; i++) {
+        rounds(all[i], 4, 4, answers[i], NULL);
+        rounds(all[i], 0, 0, answers[i], NULL);
+    }
+    check(night(NULL, 0, NULL, 0, NULL, 0, NULL, 0, NULL, 0, NULL, 0) == 12, "12: nothing lent");
+}
+
 static void traces(void)
 {
     static struct guarded stamps, levels, events;
@@ -505,6 +543,7 @@ int main(void)
     dumps();
     dump_texts();
     arbitrations();
+    nights();
     catalogues();
     printf("guards: %d checks, %d failed\n", checks, failures);
     return failures != 0;

@@ -11,6 +11,7 @@ pub mod catalogue;
 pub mod dump;
 pub mod dump_reader;
 pub mod lists;
+pub mod night;
 pub mod phases;
 pub mod traces;
 pub mod usi;
@@ -39,7 +40,7 @@ pub struct Comparison {
     pub case: Case,
 }
 
-pub const COMPARISONS: [Comparison; 8] = [
+pub const COMPARISONS: [Comparison; 9] = [
     Comparison { word: "usi", cases: "step sequences", count: 200_000, case: usi::case },
     Comparison { word: "bus", cases: "traces", count: 100_000, case: traces::case },
     Comparison { word: "bus", cases: "timed traces", count: 100_000, case: phases::case },
@@ -47,6 +48,7 @@ pub const COMPARISONS: [Comparison; 8] = [
     Comparison { word: "bus", cases: "dump texts", count: 200_000, case: dump_reader::case },
     Comparison { word: "bus", cases: "lists", count: 100_000, case: lists::case },
     Comparison { word: "arbitration", cases: "arbitrations", count: 100_000, case: arbitration::case },
+    Comparison { word: "night", cases: "nights", count: 50_000, case: night::case },
     Comparison { word: "catalogue", cases: "catalogues", count: 100_000, case: catalogue::case },
 ];
 

@@ -109,6 +109,20 @@ extern "C" {
         counts: *const u32,
         counts_len: usize,
     ) -> u64;
+    fn night(
+        bytes: *const u8,
+        bytes_len: usize,
+        parts: *const u32,
+        parts_len: usize,
+        counts: *const u32,
+        counts_len: usize,
+        acks: *const u8,
+        acks_len: usize,
+        rounds: *mut u32,
+        rounds_len: usize,
+        modules: *mut u64,
+        modules_len: usize,
+    ) -> u64;
 }
 
 /// A function over a board and two catalogues: block, boards and lengths of each.
@@ -305,6 +319,25 @@ impl Interface for Archive {
         (ask!(least_message), ask!(least_comparisons))
     }
 
+    fn night(&self, asked: &Asked, rounds: &mut [u32], modules: &mut [u64]) -> u64 {
+        unsafe {
+            night(
+                asked.bytes.as_ptr(),
+                asked.bytes.len(),
+                asked.parts.as_ptr(),
+                asked.parts.len(),
+                asked.counts.as_ptr(),
+                asked.counts.len(),
+                asked.acks.as_ptr(),
+                asked.acks.len(),
+                rounds.as_mut_ptr(),
+                rounds.len(),
+                modules.as_mut_ptr(),
+                modules.len(),
+            )
+        }
+    }
+
     fn place(&self, board: u32, corrections: &Catalogue, standing: &Catalogue) -> Place {
         macro_rules! ask {
             ($call:ident) => {
@@ -442,6 +475,12 @@ impl Interface for Guarded {
 
     fn least(&self, asked: &Asked) -> (u64, u64) {
         Archive.least(asked)
+    }
+
+    fn night(&self, asked: &Asked, rounds: &mut [u32], modules: &mut [u64]) -> u64 {
+        guarded(rounds, 0x5A5A_5A5A, |rounds| {
+            guarded(modules, 0xA5A5_A5A5_A5A5_A5A5, |modules| Archive.night(asked, rounds, modules))
+        })
     }
 
     fn place(&self, board: u32, corrections: &Catalogue, standing: &Catalogue) -> Place {

@@ -12,6 +12,7 @@ pub mod dump_reader;
 #[cfg(feature = "rattle")]
 pub mod ffi;
 pub mod module;
+pub mod night;
 pub mod packed;
 pub mod phases;
 pub mod random;

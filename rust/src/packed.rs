@@ -9,6 +9,7 @@ use crate::catalogue::{self, Catalogue, Part};
 use crate::dump;
 use crate::dump_reader;
 use crate::module::{Driven, Module};
+use crate::night;
 use crate::phases::{self, Mode};
 use crate::refusal::{Reason, Refusal};
 
@@ -103,6 +104,8 @@ pub trait Interface {
     fn arbitrate(&self, asked: &Asked, lent: Lent) -> u64;
     /// The index of the least message, and how many comparisons found it; both 0 where 12 or 13 applies.
     fn least(&self, asked: &Asked) -> (u64, u64);
+    /// A night: the round of each message, and the packed module as that round left it.
+    fn night(&self, asked: &Asked, rounds: &mut [u32], modules: &mut [u64]) -> u64;
     /// The answers of the four functions of a catalogue.
     fn place(&self, board: u32, corrections: &Catalogue, standing: &Catalogue) -> Place;
 }
@@ -268,6 +271,19 @@ impl Interface for Model {
                 (index as u64, comparisons as u64)
             }
             Err(_) => (0, 0),
+        }
+    }
+
+    fn night(&self, asked: &Asked, rounds: &mut [u32], modules: &mut [u64]) -> u64 {
+        let Asked { bytes, parts, counts, acks } = asked;
+        let mut table: Vec<Module> = modules.iter().map(|&module| unpack(module)).collect();
+        match night::night(bytes, parts, counts, acks, rounds, &mut table) {
+            Ok(count) => {
+                let stepped = modules.iter_mut().zip(&table).take(counts.len());
+                stepped.for_each(|(module, stepped)| *module = pack(stepped));
+                (count as u64) << 24
+            }
+            Err(refusal) => refused(refusal),
         }
     }
 

@@ -34,6 +34,7 @@ pub enum Reason {
     BoardsDoNotRise = 40,
     BoardLengths = 41,
     BoardAbsent = 42,
+    NotAcknowledged = 43,
 }
 
 /// A refusal as a reply states it; the place is 0 where the table gives none.

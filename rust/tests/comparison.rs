@@ -83,6 +83,14 @@ enum Wrong {
     SetsCounted,
     WordsLowByte,
     LosersCleared,
+    RoundsFromZero,
+    EqualsApart,
+    ModuleOfTheLast,
+    NightsRest,
+    RefusedNight,
+    UndecidedFirst,
+    LeastAlone,
+    NeededAcksAlone,
     StandingFirst,
     EqualBoards,
     WrappingSum,
@@ -409,6 +417,37 @@ impl Interface for Wrong {
         }
     }
 
+    fn night(&self, asked: &Asked, rounds: &mut [u32], modules: &mut [u64]) -> u64 {
+        let masters = asked.counts.len();
+        let before = modules.to_vec();
+        let reply = Model.night(asked, rounds, modules);
+        let refused_later = |later: u64| {
+            let (mut rounds, mut modules) = ([0; MASTERS], [0; MASTERS]);
+            Model.arbitrate(
+                asked,
+                Lent {
+                    carried: &mut [0; MESSAGE_BYTES],
+                    levels: &mut [0; LEVELS],
+                    modules: &mut modules,
+                    seats: &mut rounds,
+                },
+            ) & 0xFF
+                == later
+        };
+        match (self, reply & 0xFF) {
+            (Wrong::RoundsFromZero, 0) => rounds[..masters].iter_mut().for_each(|round| *round -= 1),
+            (Wrong::EqualsApart, 0) if reply >> 24 < masters as u64 => return reply + (1 << 24),
+            (Wrong::ModuleOfTheLast, 0) if reply >> 24 > 1 => modules[0] ^= 1 << 8,
+            (Wrong::NightsRest, 0) if rounds.len() > masters => rounds[masters] = 0,
+            (Wrong::RefusedNight, 8) if !modules.is_empty() => modules[0] = !before[0],
+            (Wrong::UndecidedFirst, 43) if refused_later(16) => return 16,
+            (Wrong::LeastAlone, 16) if refused_later(0) => return 0,
+            (Wrong::NeededAcksAlone, 43) if refused_later(0) => return 8,
+            _ => {}
+        }
+        reply
+    }
+
     fn place(&self, board: u32, corrections: &Catalogue, standing: &Catalogue) -> Place {
         let place = Model.place(board, corrections, standing);
         let swapped = Model.place(board, standing, corrections);
@@ -468,7 +507,7 @@ fn the_model_is_equal_to_itself_in_full() {
 
 #[test]
 fn every_refusal_occurs() {
-    let expected: [(&str, &[usize]); 8] = [
+    let expected: [(&str, &[usize]); 9] = [
         ("step sequences", &[1, 2, 3, 4, 17]),
         ("traces", &[0, 4, 5, 6, 7, 8]),
         ("timed traces", &[0, 4, 5, 6, 7, 8, 18]),
@@ -476,6 +515,7 @@ fn every_refusal_occurs() {
         ("dump texts", &[0, 6, 8, 20, 21, 22, 23, 24, 25, 26, 27]),
         ("lists", &[0, 6, 8, 9, 10, 11]),
         ("arbitrations", &[0, 8, 12, 13, 14, 15, 16]),
+        ("nights", &[0, 8, 12, 13, 14, 15, 16, 43]),
         ("catalogues", &[0, 40, 41, 42]),
     ];
     for (cases, numbers) in expected {
@@ -598,6 +638,13 @@ fn wrong_arbitrations_are_found() {
         "arbitrations",
         &[RestartUndecided, LevelsOfBytes, LaterRead, PartsRunOut, CountsUnsummed],
     );
+}
+
+#[test]
+fn wrong_nights_are_found() {
+    use Wrong::*;
+    check_detected("nights", &[RoundsFromZero, EqualsApart, ModuleOfTheLast, NightsRest, RefusedNight]);
+    check_detected("nights", &[UndecidedFirst, LeastAlone, NeededAcksAlone]);
 }
 
 #[test]

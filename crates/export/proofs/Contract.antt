@@ -7,17 +7,14 @@ use mathlib.Core.List.{List, [], _∷_, _++_, map, zipWith}
 use lib.Dec.{eqb, ltb}
 use lib.ListN.{length, take, drop, replicate, length-map}
 use lib.Seq.{take-append-seam, take-at}
-use borrow.Author.Tests.{eq-eqb, ne-eqb, eqb-true, eqb-false, ltb-false, le-ltb}
+use borrow.Author.Tests.{eq-eqb, ne-eqb, eqb-true, eqb-false, le-ltb}
 use Rattle.laws.specs.declared.Refusal.{Refusal}
 use Rattle.laws.specs.Buffer.{filled}
 use Rattle.laws.specs.Refusals as refusals
 use Rattle.laws.specs.Refusals.{check, given, orElse}
-use Rattle.laws.specs.Search.{first}
 use Rattle.laws.specs.Everyone.{Everyone}
-use Rattle.laws.proofs.Bools.{neither}
-use Rattle.laws.proofs.Refusals.{Placed, placed, Below, number-below, in-parts}
+use Rattle.laws.proofs.Refusals.{placed, number-below, in-parts}
 use Rattle.laws.proofs.Lists.{everyone, everyone-map, zipWith-length}
-use Rattle.laws.proofs.Search.{first-within}
 use Rattle.usi.specs.declared.Usi.{Usi}
 use Rattle.arbitration_rules.specs.declared.Arbitrated.{Arbitrated}
 use Rattle.arbitration_rules.specs.declared.Seat.{Seat}
@@ -25,7 +22,7 @@ use Rattle.arbitration_rules.specs.Limits.{maxMasters}
 use Rattle.arbitration_rules.specs.Final.{finalMaster}
 use Rattle.arbitration_rules.specs.Masters.{Master}
 use Rattle.arbitration_rules.specs.Outcome.{carriedOf, lossFrom, least, outcome}
-use Rattle.arbitration_rules.specs.Reply.{Request, messagesOf, partsOf, badMessage, badMessages, itself, reads}
+use Rattle.arbitration_rules.specs.Reply.{Request, messagesOf}
 use Rattle.arbitration_rules.specs.Reply.{requestChecks, runOf, shortBuffer, refusal, absent, seatOf, refused, answered}
 use Rattle.arbitration_rules.specs.Reply.{arbitrated, tableAfter, carriedAfter, levelsAfter}
 use Rattle.arbitration_rules.proofs.Accepted.{request-numbered}
@@ -41,6 +38,7 @@ use Rattle.usi.specs.Module.{powerUp}
 use Rattle.export.specs.Arbitration.{Lent, Returned, gave, shortTables, clearedOf, refusalOf, packedReply, ran}
 use Rattle.export.specs.Arbitration.{returned, countIn, shownIn, packedSeat}
 use Rattle.export.specs.Packed.{packed}
+use Rattle.export.proofs.Placed.{request-placed}
 use Rattle.export.proofs.TableEntries.{Small, Few, fates-are, final-small, few-seats}
 use Rattle.arbitration.specs.Shown as shows
 use Rattle.arbitration.specs.Shown.{shown}
@@ -67,27 +65,8 @@ module _ (lent : Lent) where
   applies-is =
       in-parts (requestChecks request) (check 8 (short || shortTable) ∷ []) (request-numbered request)
 
-  request-placed : Placed maxMasters (requestChecks request)
-  request-placed = (
-    omega arith,
-    λ count.
-        let few : length (request .counts) ≤ maxMasters =
-        ltb-false maxMasters (length (request .counts))
-        (neither (eqb (length (request .counts)) 0) (ltb maxMasters (length (request .counts))) count .1) in (
-          omega (
-            arith,
-            first-within itself (badMessages request),
-            zipWith-length badMessage (request .counts) (partsOf request),
-          ),
-          λ sizes. (
-            omega (arith, first-within reads (messagesOf request), messages-count request),
-            λ reading. (omega arith, λ answers. (omega arith, λ decided. tt)),
-          ),
-        ),
-  )
-
   pub found-placed : found request .place < 65536
-  found-placed = omega (arith, placed maxMasters (requestChecks request) request-placed)
+  found-placed = omega (arith, placed maxMasters (requestChecks request) (request-placed request))
 
   found-below : found request .number < 256
   found-below =

@@ -1,3 +1,4 @@
 pub mod Packed
 pub mod Replies
 pub mod Arbitration
+pub mod Night

@@ -43,7 +43,7 @@ fn seat_number(seat: Seat) -> u32
 }
 
 // The first of the modules, so many.
-fn put_modules(modules: [Usi; MAX_MASTERS], count: usize, table: &mut [u64])
+pub(crate) fn put_modules(modules: [Usi; MAX_MASTERS], count: usize, table: &mut [u64])
     requires { ⌜ (count ≤ maxMasters) × (count ≤ length (now table)) ⌝ }
     ensures { λ r. ⌜ now (table .exit) ≡ filled (map packedModule (take count modules)) (now (table .entry)) ⌝ }
 {

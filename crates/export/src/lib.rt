@@ -11,6 +11,7 @@ ghost use Rattle.export.specs.Packed.{lineNumber, spiNumber};
 mod arbitration_calls; // arbitration_calls.rt: arbitration
 mod catalogue_calls; // catalogue_calls.rt: corrections over the standing catalogue
 mod dump_calls; // dump_calls.rt: a trace as a Value Change Dump
+mod night_calls; // night_calls.rt: the night
 mod order_calls; // order_calls.rt: the least message
 mod trace_calls; // trace_calls.rt: decode and encode
 

@@ -1,10 +1,10 @@
-//! `compare usi|bus|arbitration|catalogue|all [--seed S] [--count N]`: the proved library against the model on random inputs.
+//! `compare usi|bus|arbitration|night|catalogue|all [--seed S] [--count N]`: the proved library against the model on random inputs.
 
 use rehearsal_model::compare::{run, Comparison, Difference, COMPARISONS};
 use rehearsal_model::ffi::Guarded;
 use std::process::ExitCode;
 
-const USAGE: &str = "usage: compare usi|bus|arbitration|catalogue|all [--seed S] [--count N]";
+const USAGE: &str = "usage: compare usi|bus|arbitration|night|catalogue|all [--seed S] [--count N]";
 
 /// What the command line asks for.
 struct Options {
@@ -35,7 +35,7 @@ fn main() -> ExitCode {
 fn options() -> Result<Options, String> {
     let mut arguments = std::env::args().skip(1);
     let word = arguments.next().ok_or("nothing asked")?;
-    if !["usi", "bus", "arbitration", "catalogue", "all"].contains(&word.as_str()) {
+    if !["usi", "bus", "arbitration", "night", "catalogue", "all"].contains(&word.as_str()) {
         return Err(format!("no comparison `{word}`"));
     }
     let mut options = Options { word, seed: 1, count: None };

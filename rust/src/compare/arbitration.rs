@@ -12,7 +12,7 @@ pub use draws::draw_request;
 use draws::spoil;
 use std::cmp::Ordering;
 
-mod draws;
+pub mod draws;
 
 /// One arbitration, asked of both sides.
 pub fn case(other: &dyn Interface, random: &mut Random, counts: &mut Counts) -> Result<(), Difference> {

@@ -36,6 +36,7 @@ fn words(reason: Reason) -> &'static str {
         | Reason::ReadMessage
         | Reason::Acknowledges
         | Reason::Undecided => unreachable!("clash has its own words"),
+        Reason::NotAcknowledged => unreachable!("no command runs a night"),
     }
 }
 
