@@ -43,11 +43,12 @@ array-share-prefix-list c =
 
 slice-aggregate-put-rounds : tie.Need-slice-aggregate-put-rounds
 slice-aggregate-put-rounds c =
-    let a = c .before .before .before .before .before .before .before .before .before .before .before .before .before .before .args in
+    let first = c .before .before .before .before .before .before .before .before .before .before .before .before .before in
+    let a = first .before .args in
     let request = asked (a .bytes .now) (a .parts .now) (a .counts .now) (a .acks .now) in
     let night = c .before .before .before .before .before .before .before .rehearse in
     let below : (i : ℕ) → getD (a .bytes .now) i 0 < 256 =
-    λ i. omega (arith, c .before .before .before .before .before .before .before .before .before .before .before .before .before .shared-slice-known .given i) in
+    λ i. omega (arith, first .shared-slice-known .given i) in
     let small = bytes-below (a .bytes .now) below in
     let none-so = c .before .before .before .if1 .left in
     let few : length (a .counts .now) ≤ maxMasters =
@@ -58,11 +59,12 @@ slice-aggregate-put-rounds c =
 
 put-rounds-requires : tie.Need-put-rounds-requires
 put-rounds-requires c κs =
-    let a = c .before .before .before .before .before .before .before .before .before .before .before .before .before .before .args in
+    let first = c .before .before .before .before .before .before .before .before .before .before .before .before .before in
+    let a = first .before .args in
     let request = asked (a .bytes .now) (a .parts .now) (a .counts .now) (a .acks .now) in
     let night = c .before .before .before .before .before .before .before .rehearse in
     let below : (i : ℕ) → getD (a .bytes .now) i 0 < 256 =
-    λ i. omega (arith, c .before .before .before .before .before .before .before .before .before .before .before .before .before .shared-slice-known .given i) in
+    λ i. omega (arith, first .shared-slice-known .given i) in
     let small = bytes-below (a .bytes .now) below in
     let none-so = c .before .before .before .if1 .left in
     let few : length (a .counts .now) ≤ maxMasters =
@@ -80,11 +82,12 @@ same-length c = search needs
 
 returns-2 : tie.Need-returns-2
 returns-2 c =
-    let a = c .before .before .before .before .before .before .before .before .before .before .before .before .before .before .before .before .before .args in
+    let first = c .before .before .before .before .before .before .before .before .before .before .before .before .before .before .before .before in
+    let a = first .before .args in
     let request = asked (a .bytes .now) (a .parts .now) (a .counts .now) (a .acks .now) in
     let night = c .before .before .before .before .before .before .before .before .before .before .rehearse in
     let below : (i : ℕ) → getD (a .bytes .now) i 0 < 256 =
-    λ i. omega (arith, c .before .before .before .before .before .before .before .before .before .before .before .before .before .before .before .before .shared-slice-known .given i) in
+    λ i. omega (arith, first .shared-slice-known .given i) in
     let small = bytes-below (a .bytes .now) below in
     let none-so = c .before .before .before .before .before .before .if1 .left in
     rw (c .before .before .put-rounds .ensures)
