@@ -86,7 +86,7 @@ pub(crate) fn none(page: &mut [u8]) -> usize {
     say(
         page,
         0,
-        b"error expected a command: clash, decode, dump, encode or session",
+        b"error expected a command: clash, decode, dump, encode, night or session",
     )
 }
 
@@ -98,6 +98,6 @@ pub(crate) fn unknown(page: &mut [u8], word: &[u8]) -> usize {
     put_bytes(
         page,
         quoted,
-        b": expected clash, decode, dump, encode or session\n",
+        b": expected clash, decode, dump, encode, night or session\n",
     )
 }

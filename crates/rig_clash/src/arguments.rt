@@ -1,9 +1,10 @@
-// The words of the command line after the command, which is the first.
+// The words of the command line: the command, clash or night, is the first.
 use crate::forms;
 use crate::phrase::place_of;
 use crate::problem;
 use crate::problem::Problem;
 use crate::words::is_dash;
+use check::same;
 use rig_lines::numbers::is_number;
 use rig_lines::numbers::value;
 use rig_lines::options::is_option;
@@ -22,6 +23,8 @@ const CORRECTIONS: usize = 4;
 const TRACE: usize = 5;
 
 pub(crate) struct Arguments {
+    // the command is night
+    pub(crate) night: bool,
     // whether an argument names a file of loads
     file: bool,
     // which one names the file of corrections; 0: none does
@@ -51,8 +54,9 @@ fn option_of(word: &[u8]) -> usize {
 }
 
 impl Arguments {
-    fn none() -> Arguments {
+    fn none(night: bool) -> Arguments {
         Arguments {
+            night,
             file: false,
             corrections: 0,
             trace: 0,
@@ -122,8 +126,16 @@ impl Arguments {
         self
     }
 
-    fn with_option(mut self, word: &[u8]) -> Arguments {
+    // A night takes corrections alone.
+    fn with_option(self, word: &[u8]) -> Arguments {
         let option = option_of(word);
+        if self.night & (option != CORRECTIONS) {
+            return self.trouble_with(forms::NIGHT_OPTION, word);
+        }
+        self.with_known(option, word)
+    }
+
+    fn with_known(mut self, option: usize, word: &[u8]) -> Arguments {
         match option {
             TABLE => {
                 self.table = true;
@@ -218,8 +230,14 @@ impl Arguments {
     }
 }
 
+fn is_night() -> bool {
+    let mut space = io::buffer();
+    let n = os::arg(1, &mut space);
+    same(&space[..n], b"night")
+}
+
 pub(crate) fn parse() -> Arguments {
-    let mut given = Arguments::none();
+    let mut given = Arguments::none(is_night());
     let count = os::arg_count();
     let mut i: usize = 2;
     while i < count {

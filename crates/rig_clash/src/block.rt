@@ -3,10 +3,10 @@ use crate::board;
 use crate::board::Group;
 use crate::board::before;
 use crate::board::is_undecided;
-use crate::contenders;
-use crate::contenders::Style;
 use crate::corrected;
 use crate::kept;
+use crate::list;
+use crate::list::Style;
 use crate::load::Load;
 use crate::order;
 use crate::outcome::Outcome;
@@ -21,15 +21,21 @@ use text::put_byte;
 use verdict::Verdict;
 
 // `load NAME TITLE`
-fn put_header(page: &mut [u8; PAGE], at: usize, kept: &[u8]) -> usize {
+fn put_load(page: &mut [u8; PAGE], at: usize, kept: &[u8]) -> usize {
     let name = phrase::put_line(page, at, kept, b"load *", 0, [0; 4]);
     let end = put_title(page, name, kept::title(kept));
     put_byte(page, end, b'\n')
 }
 
+// The same, and which boards are corrected.
+pub(crate) fn put_header(page: &mut [u8; PAGE], at: usize, kept: &[u8], load: Load) -> usize {
+    let title = put_load(page, at, kept);
+    corrected::put(page, title, kept, load)
+}
+
 // A load in error.
 pub(crate) fn put_broken(page: &mut [u8; PAGE], at: usize, kept: &[u8]) -> usize {
-    let header = put_header(page, at, kept);
+    let header = put_load(page, at, kept);
     phrase::put_line(page, header, kept, b"  ERROR: not rehearsed\n", 0, [0; 4])
 }
 
@@ -46,10 +52,10 @@ fn put_undecided(
     }
     let word = phrase::put_line(page, at, kept, b"  UNDECIDED between ", 0, [0; 4]);
     let style = Style {
-        named: false,
+        form: list::NUMBER,
         spaced: true,
     };
-    let who = contenders::put_all(page, word, kept, load, outcome, style);
+    let who = list::put_all(page, word, kept, outcome.others(load), style);
     let numbers = [before(outcome.count), outcome.last as u64, 0, 0];
     let form = b": the bus stopped after byte # (%), before they differ; nothing was sent whole\n";
     phrase::put_numbers(page, who, form, numbers)
@@ -68,14 +74,27 @@ fn put_unexpected(
     at: usize,
     kept: &[u8],
     load: Load,
-    outcome: Outcome,
+    expected: bool,
 ) -> usize {
-    if outcome.expected {
+    if expected {
         return at;
     }
     let numbers = [load.expect_line, load.carried, load.length, 0];
     let form = b"  NOT AS EXPECTED: line # expects $ #/#\n";
     phrase::put_line(page, at, kept, form, load.winner, numbers)
+}
+
+// The silent boards of a load that was not refused, and the notes about it.
+pub(crate) fn put_notes(
+    page: &mut [u8; PAGE],
+    at: usize,
+    kept: &[u8],
+    load: Load,
+    expected: bool,
+) -> usize {
+    let silent = board::put_silent(page, at, kept, load);
+    let unacked = put_unacked(page, silent, kept, load);
+    put_unexpected(page, unacked, kept, load, expected)
 }
 
 // The boards of a load that was not refused, and the notes about it.
@@ -89,9 +108,7 @@ fn put_outcome(
     let undecided = put_undecided(page, at, kept, load, outcome);
     let within = board::put_group(page, undecided, kept, load, outcome, Group::In);
     let lost = board::put_group(page, within, kept, load, outcome, Group::Lost);
-    let boards = board::put_group(page, lost, kept, load, outcome, Group::Silent);
-    let unacked = put_unacked(page, boards, kept, load);
-    put_unexpected(page, unacked, kept, load, outcome)
+    put_notes(page, lost, kept, load, outcome.expected)
 }
 
 fn put_registers(
@@ -119,8 +136,7 @@ pub(crate) fn put(
     carried: &[u8],
     levels: &[u8],
 ) -> usize {
-    let title = put_header(page, at, kept);
-    let header = corrected::put(page, title, kept, load);
+    let header = put_header(page, at, kept, load);
     let verdict = outcome.verdict;
     if let Verdict::Refused(number) = verdict {
         return refusals::put_line(page, header, kept, load, number, outcome.place);

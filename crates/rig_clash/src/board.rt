@@ -36,7 +36,6 @@ const CUT: usize = 2;
 pub(crate) enum Group {
     In,
     Lost,
-    Silent,
 }
 
 fn belongs(group: Group, load: Load, outcome: Outcome, board: usize) -> bool {
@@ -45,7 +44,6 @@ fn belongs(group: Group, load: Load, outcome: Outcome, board: usize) -> bool {
     match group {
         Group::In => contends,
         Group::Lost => !contends & !silent,
-        Group::Silent => silent,
     }
 }
 
@@ -86,10 +84,25 @@ pub(crate) fn put_begin(
     put_bytes(page, who, b"  ")
 }
 
-fn put_silent(page: &mut [u8; PAGE], at: usize, kept: &[u8], load: Load, board: usize) -> usize {
+// A board's line, where it is silent.
+fn put_if_silent(page: &mut [u8; PAGE], at: usize, kept: &[u8], load: Load, board: usize) -> usize {
+    if !load.is_silent(board) {
+        return at;
+    }
     let word = phrase::put_line(page, at, kept, b"  silent ", 0, [0; 4]);
     let who = put_who(page, word, kept, load, board, 0);
     put_byte(page, who, b'\n')
+}
+
+// The lines of the silent boards.
+pub(crate) fn put_silent(page: &mut [u8; PAGE], at: usize, kept: &[u8], load: Load) -> usize {
+    let mut next = at;
+    let mut board: usize = 0;
+    while board < load.boards {
+        next = put_if_silent(page, next, kept, load, board);
+        board += 1;
+    }
+    next
 }
 
 // Between two bytes stands a space, and between two parts ` / `.
@@ -206,7 +219,7 @@ pub(crate) fn is_undecided(verdict: Verdict) -> bool {
 }
 
 // The message of a board, padded, and two spaces.
-fn put_row(page: &mut [u8; PAGE], at: usize, message: &[u8], parts: &[u8]) -> usize {
+pub(crate) fn put_row(page: &mut [u8; PAGE], at: usize, message: &[u8], parts: &[u8]) -> usize {
     let end = put_message(page, at, message, parts);
     let padded = pad(page, at, end, MESSAGE);
     put_bytes(page, padded, b"  ")
@@ -258,7 +271,6 @@ fn put_member(
         return at;
     }
     match group {
-        Group::Silent => put_silent(page, at, kept, load, board),
         Group::In => put_contender(page, at, kept, load, outcome, board),
         Group::Lost => put_loser(page, at, kept, load, seat.position, board),
     }

@@ -5,12 +5,13 @@ use crate::kept::BYTES;
 use crate::kept::MESSAGES_AT;
 use crate::kept::ROOM;
 use crate::kept::TONIGHT_AT;
+use crate::list;
+use crate::list::Style;
 use crate::load::Load;
 use crate::phrase;
 use crate::phrase::put_numbers;
 use crate::slots;
 use crate::state::State;
-use crate::tally::put_between;
 use arbitration_rules::MAX_LENGTH;
 use arbitration_rules::MAX_MASTERS;
 use catalogue::Located;
@@ -313,38 +314,17 @@ pub(crate) fn unmet(page: &mut [u8; PAGE], kept: &[u8], begun: State, count: usi
     state
 }
 
-// A corrected board in the list of them.
-fn put_board(
-    page: &mut [u8; PAGE],
-    from: usize,
-    at: usize,
-    kept: &[u8],
-    load: Load,
-    board: usize,
-) -> usize {
-    if load.stands(board) {
-        return at;
-    }
-    let next = put_between(page, from, at);
-    phrase::put(page, next, kept, b"# $", board, [board as u64, 0, 0, 0])
-}
-
-fn put_boards(page: &mut [u8; PAGE], from: usize, kept: &[u8], load: Load) -> usize {
-    let mut next = from;
-    let mut board: usize = 0;
-    while board < MAX_MASTERS {
-        next = put_board(page, from, next, kept, load, board);
-        board += 1;
-    }
-    next
-}
-
 // `corrected 1 thermal, 3 radio`, where there are corrections.
 pub(crate) fn put(page: &mut [u8; PAGE], at: usize, kept: &[u8], load: Load) -> usize {
     if !load.corrected {
         return at;
     }
     let from = phrase::put_line(page, at, kept, b"  corrected ", 0, [0; 4]);
-    let end = put_boards(page, from, kept, load);
+    let standing = load.standing;
+    let style = Style {
+        form: list::BOTH,
+        spaced: true,
+    };
+    let end = list::put_all(page, from, kept, standing, style);
     put_byte(page, end, b'\n')
 }

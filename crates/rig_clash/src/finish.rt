@@ -3,11 +3,15 @@ use crate::block;
 use crate::corrected;
 use crate::kept::ROOM;
 use crate::load::Load;
+use crate::nights;
 use crate::outcome;
 use crate::outcome::LEVELS;
 use crate::outcome::Outcome;
+use crate::outcome::is_refusal;
+use crate::outcome::is_seen;
 use crate::phrase;
 use crate::recording;
+use crate::rounds;
 use crate::state::Options;
 use crate::state::State;
 use crate::table;
@@ -16,6 +20,7 @@ use arbitration_rules::MAX_LENGTH;
 use rig_lines::console::PAGE;
 use rig_lines::console::begin;
 use rig_lines::console::note;
+use verdict::Verdict;
 
 // A line on standard error after so many loads.
 const PROGRESS: u64 = 100;
@@ -72,11 +77,16 @@ fn put_broken(page: &mut [u8; PAGE], at: usize, kept: &[u8], table: bool) -> usi
 }
 
 // The tally with a load that was rehearsed.
-fn counted(tally: Tally, load: Load, outcome: Outcome) -> Tally {
-    let verdict = outcome.verdict;
-    let unacked = (load.ack_line == 0) & !outcome.is_refused();
-    let next = tally.with_verdict(verdict, outcome.expected);
+fn counted(tally: Tally, load: Load, verdict: Verdict, expected: bool) -> Tally {
+    let unacked = (load.ack_line == 0) & !is_refusal(verdict);
+    let next = tally.with_verdict(verdict, expected);
     next.with_unacked(unacked).with_corrected(load.corrected)
+}
+
+// What a load came to is counted, and its name kept where it is one to see.
+fn tallied(kept: &mut [u8; ROOM], state: State, verdict: Verdict, expected: bool) -> State {
+    let tally = counted(state.tally, state.load, verdict, expected);
+    noted(kept, state.with_tally(tally), is_seen(verdict, expected))
 }
 
 // What is asked for of a load: its trace, its row of the table or its block.
@@ -119,10 +129,17 @@ fn rehearsed(page: &mut [u8; PAGE], kept: &mut [u8; ROOM], state: State) -> Stat
         &carried,
         &levels,
     );
-    let next = state
-        .moved(at)
-        .with_tally(counted(state.tally, state.load, outcome));
-    noted(kept, next, outcome.is_marked())
+    let verdict = outcome.verdict;
+    tallied(kept, state.moved(at), verdict, outcome.expected)
+}
+
+// The same as a night.
+fn rehearsed_night(page: &mut [u8; PAGE], kept: &mut [u8; ROOM], state: State) -> State {
+    let night = nights::of(kept, state.load);
+    let expected = night.is_expected(state.load);
+    let at = rounds::put(page, state.at, kept, state.load, night, expected);
+    let verdict = night.verdict;
+    tallied(kept, state.moved(at), verdict, expected)
 }
 
 // A note of how many loads there were; answers where the page goes on.
@@ -143,6 +160,7 @@ fn progress(page: &mut [u8; PAGE], state: State) -> State {
 
 // What is done with a load: one in error is only counted where a trace is asked for, and other loads are only read.
 enum Course {
+    Night,
     Rehearsed,
     Unrehearsed,
     Counted,
@@ -151,7 +169,7 @@ enum Course {
 
 fn course_of(kept: &[u8], state: State) -> Course {
     if state.options.trace == 0 {
-        return untraced(state.load.broken);
+        return untraced(state.load.broken, state.options.night);
     }
     if state.load.broken {
         return Course::Counted;
@@ -162,9 +180,12 @@ fn course_of(kept: &[u8], state: State) -> Course {
     Course::Read
 }
 
-fn untraced(broken: bool) -> Course {
+fn untraced(broken: bool, night: bool) -> Course {
     if broken {
         return Course::Unrehearsed;
+    }
+    if night {
+        return Course::Night;
     }
     Course::Rehearsed
 }
@@ -172,6 +193,7 @@ fn untraced(broken: bool) -> Course {
 fn finished(page: &mut [u8; PAGE], kept: &mut [u8; ROOM], state: State) -> State {
     let course = course_of(kept, state);
     match course {
+        Course::Night => rehearsed_night(page, kept, state),
         Course::Rehearsed => rehearsed(page, kept, state),
         Course::Unrehearsed => unrehearsed(page, kept, state),
         Course::Counted => state.with_tally(state.tally.with_broken()),

@@ -113,6 +113,8 @@ pub(crate) const TABLE: usize = 53;
 
 pub(crate) const TRACE: usize = 54;
 
+pub(crate) const NIGHT_OPTION: usize = 55;
+
 // No words.
 pub(crate) const NONE: usize = 0;
 
@@ -155,7 +157,7 @@ fn put_of_argument(page: &mut [u8; PAGE], at: usize, form: usize, word: &[u8]) -
         expected a file, or - for standard input\n- stands twice: standard input is read once\n\
         unknown option $ for clash\nan argument is longer than 4096 bytes\n\
         --table goes with neither --registers nor --wave\n\
-        --trace goes with none of --table, --registers and --wave";
+        --trace goes with none of --table, --registers and --wave\nunknown option $ for night";
     put_words(page, at, line_of(words, form), word, 0, 0, 0)
 }
 

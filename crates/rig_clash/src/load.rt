@@ -145,16 +145,6 @@ impl Load {
         self
     }
 
-    // A board has no correction.
-    pub(crate) fn stands(self, board: usize) -> bool {
-        let standing = self.standing;
-        if board < MAX_MASTERS {
-            standing[board]
-        } else {
-            true
-        }
-    }
-
     // The length of the longest message.
     pub(crate) fn longest(self) -> u32 {
         let lengths = self.lengths;

@@ -1,12 +1,12 @@
-// rig_clash, run by `rig clash`: rehearses each load of the files, where boards start to send at once. The last line
-// of output says how it went: `ok`, `look`, `refused` with a number, or `error`.
+// rig_clash, run by `rig clash`: rehearses each load of the files, where boards start to send at once; by `rig night`
+// until every message is carried. The last line of output says how it went: `ok`, `look`, `refused` with a number, or
+// `error`.
 mod arguments; // arguments.rt: the words of the command line
 mod block; // block.rt: the block of a load
 mod board; // board.rt: a board in the block of a load
 mod boards; // boards.rt: the boards of a file, by name
 mod columns; // columns.rt: columns of text
 mod complaints; // complaints.rt: lines about what is wrong
-mod contenders; // contenders.rt: the boards that are still in, in a list
 mod corrected; // corrected.rt: tonight's corrections laid over a load
 mod corrections; // corrections.rt: the file of tonight's corrections
 mod ending; // ending.rt: how a file ends
@@ -14,8 +14,10 @@ mod finish; // finish.rt: the end of a load
 mod forms; // forms.rt: the words about what is wrong
 mod kept; // kept.rt: what is kept of a file and of a load
 mod lines; // lines.rt: the statements of a load
+mod list; // list.rt: boards in a list
 mod load; // load.rt: a load
 mod names; // names.rt: the names of a file's loads
+mod nights; // nights.rt: what the night of a load comes to
 mod opening; // opening.rt: the statement that begins a load
 mod order; // order.rt: which boards a refusal is about
 mod outcome; // outcome.rt: what a rehearsal comes to
@@ -25,6 +27,8 @@ mod reading; // reading.rt: a file, line by line
 mod recording; // recording.rt: the levels of a load as a trace
 mod refusals; // refusals.rt: refusals in words
 mod registers; // registers.rt: the registers of a board
+mod request; // request.rt: what the library is asked
+mod rounds; // rounds.rt: the block of a load in a night
 mod seen; // seen.rt: the names of the loads to see
 mod slots; // slots.rt: the corrections as they are kept
 mod sources; // sources.rt: the file of an argument
@@ -147,6 +151,7 @@ fn options_of(given: Arguments) -> Options {
         wave: given.wave,
         room: given.room,
         trace: given.trace,
+        night: given.night,
     }
 }
 

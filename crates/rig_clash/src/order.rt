@@ -1,6 +1,7 @@
-// What a refusal is about: the longest message, a part that is a read, the least message, and one that parts from it.
+// What a refusal is about: the longest message, a part that is a read, the least message, and two that part.
 use crate::kept;
 use crate::load::Load;
+use arbitration_rules::MAX_LENGTH;
 
 pub(crate) fn byte_at(bytes: &[u8], at: usize) -> u8 {
     if at < bytes.len() { bytes[at] } else { 0 }
@@ -148,6 +149,23 @@ pub(crate) fn parted_from(kept: &[u8], load: Load, least: usize, acked: usize) -
     let mut board: usize = 0;
     while board < load.boards {
         if parts_from(kept, load, least, board, acked) {
+            return board;
+        }
+        board += 1;
+    }
+    board
+}
+
+// A board ends or restarts where another, whose message is the greater there, does not.
+fn ends_first(kept: &[u8], load: Load, board: usize) -> bool {
+    !load.is_silent(board) & (parted_from(kept, load, board, MAX_LENGTH) < load.boards)
+}
+
+// The first such board.
+pub(crate) fn first_ending(kept: &[u8], load: Load) -> usize {
+    let mut board: usize = 0;
+    while board < load.boards {
+        if ends_first(kept, load, board) {
             return board;
         }
         board += 1;

@@ -1,20 +1,13 @@
 // What the rehearsal of a load comes to.
 use crate::kept;
-use crate::kept::ACKS;
-use crate::kept::ACKS_AT;
-use crate::kept::BYTES;
-use crate::kept::MESSAGES_AT;
-use crate::kept::PARTS_AT;
 use crate::load::Load;
 use crate::order;
+use crate::request;
 use arbitration::Rehearsed;
 use arbitration_rules::MAX_LENGTH;
 use arbitration_rules::MAX_MASTERS;
 use arbitration_rules::Seat;
 use load_text::count_parts;
-use load_text::gather;
-use load_text::gather_counts;
-use load_text::gather_parts;
 use load_text::master_of;
 use rig_lines::numbers::least;
 use rig_lines::parts;
@@ -30,9 +23,6 @@ const END: usize = 3;
 
 // Room for the levels of any arbitration: every byte may be a part of its own.
 pub(crate) const LEVELS: usize = START + (BYTE + END) * MAX_LENGTH;
-
-// Room for one message more than there may be.
-const COUNTS: usize = MAX_MASTERS + 1;
 
 // How many levels are recorded for so many bytes, in so many parts.
 fn recorded(bytes: usize, parts: usize) -> usize {
@@ -60,20 +50,13 @@ pub(crate) struct Outcome {
 impl Outcome {
     pub(crate) fn is_refused(self) -> bool {
         let verdict = self.verdict;
-        if let Verdict::Refused(_) = verdict {
-            true
-        } else {
-            false
-        }
+        is_refusal(verdict)
     }
 
-    // The load is one to see: all but a message that was sent as expected.
+    // The load is one to see.
     pub(crate) fn is_marked(self) -> bool {
         let verdict = self.verdict;
-        match verdict {
-            Verdict::Sent(_) => !self.expected,
-            _ => true,
-        }
+        is_seen(verdict, self.expected)
     }
 
     // What became of a board that is not silent.
@@ -98,6 +81,33 @@ impl Outcome {
     pub(crate) fn contends(self, load: Load, board: usize) -> bool {
         let seat = self.seat_of(load, board);
         seat.contending & !load.is_silent(board)
+    }
+
+    // The boards that are not.
+    pub(crate) fn others(self, load: Load) -> [bool; MAX_MASTERS] {
+        let mut others = [true; MAX_MASTERS];
+        let mut board: usize = 0;
+        while board < MAX_MASTERS {
+            others[board] = !self.contends(load, board);
+            board += 1;
+        }
+        others
+    }
+}
+
+pub(crate) fn is_refusal(verdict: Verdict) -> bool {
+    if let Verdict::Refused(_) = verdict {
+        true
+    } else {
+        false
+    }
+}
+
+// A load to see: all but one that was sent as expected.
+pub(crate) fn is_seen(verdict: Verdict, expected: bool) -> bool {
+    match verdict {
+        Verdict::Sent(_) => !expected,
+        _ => true,
     }
 }
 
@@ -183,17 +193,8 @@ fn told(kept: &[u8], load: Load, done: Rehearsed, verdict: Verdict, carried: &[u
     with_winner(kept, load, outcome)
 }
 
-// How many masters there are: in the old form more rows than are kept count as one too many.
-fn masters(load: Load, kept: usize) -> usize {
-    if load.rows > load.boards as u64 {
-        COUNTS
-    } else {
-        kept
-    }
-}
-
 // Corrections that the library refuses are a refusal of the load.
-fn refused_first(load: Load, verdict: Verdict) -> Verdict {
+pub(crate) fn refused_first(load: Load, verdict: Verdict) -> Verdict {
     if load.number > 0 {
         return Verdict::Refused(load.number);
     }
@@ -217,7 +218,7 @@ fn rehearsed(
     told(kept, load, done, refused_first(load, verdict), carried)
 }
 
-// Rehearses a load: the library gets the messages of the boards that are not silent, in the order of their numbers.
+// Rehearses a load.
 pub(crate) fn of(
     kept: &[u8],
     load: Load,
@@ -225,26 +226,20 @@ pub(crate) fn of(
     carried: &mut [u8],
     levels: &mut [u8],
 ) -> Outcome {
-    let mut bytes = [0u8; BYTES];
-    let mut lengths = [0u32; BYTES];
-    let mut counts = [0u32; COUNTS];
-    let silent = load.silent;
-    let rows = load.lengths;
-    let starts = kept::part(kept, PARTS_AT, BYTES);
-    let messages = kept::part(kept, MESSAGES_AT, BYTES);
-    let size = gather(messages, rows, silent, &mut bytes);
-    let parted = gather_parts(starts, silent, &mut lengths);
-    let count = gather_counts(starts, silent, &mut counts);
-    let lent = parts::stamps(masters(load, count), &counts);
-    let acks = kept::part(kept::part(kept, ACKS_AT, ACKS), 0, load.ack_count());
+    let request = request::of(kept, load);
+    let bytes = request.bytes;
+    let lengths = request.parts;
+    let counts = request.counts;
+    let parted = parts::stamps(request.parted, &lengths);
+    let count = parts::stamps(request.count, &counts);
     let part = parts::bytes(room, levels);
     rehearsed(
         kept,
         load,
-        &bytes[..size],
+        kept::part(&bytes, 0, request.size),
         &lengths[..parted],
-        &counts[..lent],
-        acks,
+        &counts[..count],
+        request::acks(kept, load),
         carried,
         &mut levels[..part],
     )

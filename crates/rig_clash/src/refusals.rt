@@ -160,8 +160,8 @@ fn put_end(
     put_bytes(page, bytes, b", acknowledged, where ")
 }
 
-// 16 in a block: what the least message does at a place, and what the other does there.
-fn put_parting(
+// 16 in a block: what the lesser message does at a place, and what the other does there.
+pub(crate) fn put_parting(
     page: &mut [u8; PAGE],
     at: usize,
     kept: &[u8],
@@ -255,6 +255,18 @@ pub(crate) fn put_words(
     }
 }
 
+// `refused N: `
+pub(crate) fn put_number(page: &mut [u8; PAGE], at: usize, kept: &[u8], number: u8) -> usize {
+    phrase::put_line(
+        page,
+        at,
+        kept,
+        b"  refused #: ",
+        0,
+        [number as u64, 0, 0, 0],
+    )
+}
+
 // The line of a refused load.
 pub(crate) fn put_line(
     page: &mut [u8; PAGE],
@@ -264,8 +276,7 @@ pub(crate) fn put_line(
     number: u8,
     place: usize,
 ) -> usize {
-    let numbers = [number as u64, 0, 0, 0];
-    let front = phrase::put_line(page, at, kept, b"  refused #: ", 0, numbers);
+    let front = put_number(page, at, kept, number);
     let words = put_words(page, front, kept, load, number, place, false);
     put_bytes(page, words, b"\n")
 }

@@ -17,6 +17,8 @@ pub(crate) struct Options {
     pub(crate) room: usize,
     // the argument that names the load whose trace is shown; 0: none is
     pub(crate) trace: usize,
+    // each load is a night
+    pub(crate) night: bool,
 }
 
 // The file that is being read.

@@ -2,9 +2,9 @@
 use crate::board::before;
 use crate::columns::cut;
 use crate::columns::fit;
-use crate::contenders;
-use crate::contenders::Style;
 use crate::kept;
+use crate::list;
+use crate::list::Style;
 use crate::load::Load;
 use crate::outcome::Outcome;
 use crate::phrase;
@@ -92,10 +92,10 @@ fn put_winner(
     outcome: Outcome,
 ) -> usize {
     let style = Style {
-        named: load.named,
+        form: load.named as usize,
         spaced: false,
     };
-    let who = contenders::put_all(page, at, kept, load, outcome, style);
+    let who = list::put_all(page, at, kept, outcome.others(load), style);
     let fitted = fit(page, at, who, WINNER);
     let space = put_byte(page, fitted, b' ');
     put_ratio(page, space, outcome)
@@ -139,12 +139,12 @@ fn put_undecided(
     outcome: Outcome,
 ) -> usize {
     let style = Style {
-        named: load.named,
+        form: load.named as usize,
         spaced: true,
     };
     let numbers = [before(outcome.count), 0, 0, 0];
     let byte = put_numbers(page, at, b"UNDECIDED at byte #: ", numbers);
-    contenders::put_all(page, byte, kept, load, outcome, style)
+    list::put_all(page, byte, kept, outcome.others(load), style)
 }
 
 fn put_refused(

@@ -163,7 +163,7 @@ fn put_word(page: &mut [u8; PAGE], at: usize, tally: Tally) -> usize {
 }
 
 // What stands between the items of a list that begins at a position: nothing in front of the first.
-pub(crate) fn put_between(page: &mut [u8; PAGE], from: usize, at: usize) -> usize {
+fn put_between(page: &mut [u8; PAGE], from: usize, at: usize) -> usize {
     if at > from {
         return put_bytes(page, at, b", ");
     }

@@ -1,15 +1,20 @@
-// The boards that are still in, in a list.
-use crate::kept;
-use crate::load::Load;
-use crate::outcome::Outcome;
+// Boards in a list.
+use crate::phrase;
 use crate::phrase::line_of;
+use arbitration_rules::MAX_MASTERS;
 use rig_lines::console::PAGE;
 use text::put_bytes;
-use text::put_decimal;
 
-// How a list looks: boards by name or by number, with a space after each comma or without.
+// A board by its number, by its name, or by both.
+pub(crate) const NUMBER: usize = 0;
+
+pub(crate) const NAME: usize = 1;
+
+pub(crate) const BOTH: usize = 2;
+
+// How a list looks: what stands for a board, with a space after each comma or without.
 pub(crate) struct Style {
-    pub(crate) named: bool,
+    pub(crate) form: usize,
     pub(crate) spaced: bool,
 }
 
@@ -21,14 +26,7 @@ fn put_between(page: &mut [u8; PAGE], from: usize, at: usize, spaced: bool) -> u
     put_bytes(page, at, line_of(b",\n, ", spaced as usize))
 }
 
-fn put_who(page: &mut [u8; PAGE], at: usize, kept: &[u8], board: usize, named: bool) -> usize {
-    if named {
-        return put_bytes(page, at, kept::board_name(kept, board));
-    }
-    put_decimal(page, at, board as u64)
-}
-
-// A board, where it is still in.
+// A board, unless it is among others.
 fn put_next(
     page: &mut [u8; PAGE],
     from: usize,
@@ -36,29 +34,28 @@ fn put_next(
     kept: &[u8],
     board: usize,
     style: Style,
-    contends: bool,
+    other: bool,
 ) -> usize {
-    if !contends {
+    if other {
         return at;
     }
     let next = put_between(page, from, at, style.spaced);
-    put_who(page, next, kept, board, style.named)
+    let words = line_of(b"#\n$\n# $", style.form);
+    phrase::put(page, next, kept, words, board, [board as u64, 0, 0, 0])
 }
 
-// The boards that are still in.
+// All boards but others.
 pub(crate) fn put_all(
     page: &mut [u8; PAGE],
     from: usize,
     kept: &[u8],
-    load: Load,
-    outcome: Outcome,
+    others: [bool; MAX_MASTERS],
     style: Style,
 ) -> usize {
     let mut next = from;
     let mut board: usize = 0;
-    while board < load.boards {
-        let contends = outcome.contends(load, board);
-        next = put_next(page, from, next, kept, board, style, contends);
+    while board < MAX_MASTERS {
+        next = put_next(page, from, next, kept, board, style, others[board]);
         board += 1;
     }
     next

@@ -1,21 +1,20 @@
--- `rig_clash::corrected::put_boards` is safe and ends.
+-- `rig_clash::board::put_silent` is safe and ends.
 use Prim.Native.Nat.{_-_}
-use Rattle.arbitration_rules.specs.Limits.{maxMasters}
 use borrow.Author.Needs.{needs}
-use Rattle.rig_clash.proofs.corrected.put_boards.Statement.{statement}
-use Rattle.rig_clash.proofs.corrected.put_boards.Tie as tie
+use Rattle.rig_clash.proofs.board.put_silent.Statement.{statement}
+use Rattle.rig_clash.proofs.board.put_silent.Tie as tie
 
 abbrev Inv-loop : tie.InvT-loop
-Inv-loop page₀ from kept load next₀ board₀ page next board = Unit {0}
+Inv-loop page₀ at kept load next₀ board₀ page next board = Unit {0}
 
 abbrev μ-loop : tie.MeasureT-loop
-μ-loop page₀ from kept load next₀ board₀ page next board = maxMasters - board
+μ-loop page₀ at kept load next₀ board₀ page next board = load .boards - board
 
 loop-holds : tie.Need-loop-holds Inv-loop μ-loop
 loop-holds c = search needs
 
-put-board-requires : tie.Need-put-board-requires Inv-loop μ-loop
-put-board-requires c κs = search needs
+put-if-silent-requires : tie.Need-put-if-silent-requires Inv-loop μ-loop
+put-if-silent-requires c κs = search needs
 
 add-board : tie.Need-add-board Inv-loop μ-loop
 add-board c = search needs
@@ -29,14 +28,14 @@ loop-again c = search needs
 returns : tie.Need-returns Inv-loop μ-loop
 returns c = search needs
 
-pub put-boards-spec : {M : Type 1} → statement M
-put-boards-spec =
+pub put-silent-spec : {M : Type 1} → statement M
+put-silent-spec =
     tie.close
     (tie.spec
     Inv-loop
     μ-loop
     loop-holds
-    put-board-requires
+    put-if-silent-requires
     add-board
     loop-less
     loop-again

@@ -1,14 +1,15 @@
--- `rig_clash::contenders::put_all` is safe and ends.
+-- `rig_clash::outcome::Outcome::others` is safe and ends.
 use Prim.Native.Nat.{_-_}
+use Rattle.arbitration_rules.specs.Limits.{maxMasters}
 use borrow.Author.Needs.{needs}
-use Rattle.rig_clash.proofs.contenders.put_all.Statement.{statement}
-use Rattle.rig_clash.proofs.contenders.put_all.Tie as tie
+use Rattle.rig_clash.proofs.outcome.Outcome.others.Statement.{statement}
+use Rattle.rig_clash.proofs.outcome.Outcome.others.Tie as tie
 
 abbrev Inv-loop : tie.InvT-loop
-Inv-loop page₀ from kept load outcome style next₀ board₀ page next board = Unit {0}
+Inv-loop self load others₀ board₀ others board = Unit {0}
 
 abbrev μ-loop : tie.MeasureT-loop
-μ-loop page₀ from kept load outcome style next₀ board₀ page next board = load .boards - board
+μ-loop self load others₀ board₀ others board = maxMasters - board
 
 loop-holds : tie.Need-loop-holds Inv-loop μ-loop
 loop-holds c = search needs
@@ -16,8 +17,8 @@ loop-holds c = search needs
 contends-requires : tie.Need-contends-requires Inv-loop μ-loop
 contends-requires c κs = search needs
 
-put-next-requires : tie.Need-put-next-requires Inv-loop μ-loop
-put-next-requires c κs = search needs
+array-write-others : tie.Need-array-write-others Inv-loop μ-loop
+array-write-others c = search needs
 
 add-board : tie.Need-add-board Inv-loop μ-loop
 add-board c = search needs
@@ -31,15 +32,15 @@ loop-again c = search needs
 returns : tie.Need-returns Inv-loop μ-loop
 returns c = search needs
 
-pub put-all-spec : {M : Type 1} → statement M
-put-all-spec =
+pub others-spec : {M : Type 1} → statement M
+others-spec =
     tie.close
     (tie.spec
     Inv-loop
     μ-loop
     loop-holds
     contends-requires
-    put-next-requires
+    array-write-others
     add-board
     loop-less
     loop-again
