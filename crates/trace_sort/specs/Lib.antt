@@ -1,0 +1,4 @@
+-- What sorting a capture means.
+pub mod Sorted
+pub mod SortReply
+pub mod Inserted
