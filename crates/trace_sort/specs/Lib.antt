@@ -2,3 +2,4 @@
 pub mod Sorted
 pub mod SortReply
 pub mod Inserted
+pub mod Often
