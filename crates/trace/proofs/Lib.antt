@@ -1,3 +1,4 @@
 pub mod Pairs
 pub mod Scanned
 pub mod Checked
+pub mod Samples

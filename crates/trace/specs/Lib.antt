@@ -2,3 +2,4 @@
 pub mod Limits
 pub mod Events
 pub mod Trace
+pub mod Samples

@@ -4,7 +4,7 @@ ghost use Rattle.laws.specs.Refusals.{given, refusedAt};
 ghost use Rattle.trace.specs.Trace.{traceChecks};
 use laws::Refusal;
 
-mod search; // search.rt: the first bad level and the first bad stamp
+pub mod search; // search.rt: the first bad level and the first bad stamp
 
 // A trace has at most this many samples.
 pub const MAX_SAMPLES: usize = 4096;

@@ -4,7 +4,7 @@ ghost use Rattle.laws.specs.Search.{first};
 ghost use Rattle.trace.specs.Trace.{badLevel, badStamp};
 
 // The place of the first level above 3, or the length.
-pub(crate) fn bad_level(levels: &[u8]) -> usize
+pub fn bad_level(levels: &[u8]) -> usize
     ensures { λ r. ⌜ r ≡ first badLevel (now (levels .entry)) ⌝ }
 {
     let mut i: usize = 0;
@@ -18,7 +18,7 @@ pub(crate) fn bad_level(levels: &[u8]) -> usize
 }
 
 // The place of the first stamp not above the one before, or one past the last pair.
-pub(crate) fn bad_stamp(stamps: &[u32]) -> usize
+pub fn bad_stamp(stamps: &[u32]) -> usize
     ensures { λ r. ⌜ r ≡ badStamp (now (stamps .entry)) ⌝ }
 {
     let mut i: usize = 1;

@@ -1,0 +1,5 @@
+-- What sorting a capture means.
+pub mod Sorted
+pub mod SortReply
+pub mod Inserted
+pub mod Often
