@@ -1,5 +1,6 @@
 // rig decode: the events of a trace, with the stamps at which they were complete.
 mod captured; // captured.rt: a trace read from a Value Change Dump
+pub(crate) mod crossed; // crossed.rt: packets that look exchanged
 pub(crate) mod samples; // samples.rt: a trace read from its lines
 mod shown; // shown.rt: the events one a line
 
@@ -25,6 +26,9 @@ use trace::MAX_SAMPLES;
 
 // No trace that the library takes lists more events than it has samples.
 const EVENTS: usize = MAX_SAMPLES;
+
+// The refusal of a stamp that does not rise.
+const CROSSED: u8 = 7;
 
 // How a trace ends, as the library says it.
 struct Ending {
@@ -140,10 +144,15 @@ pub(crate) fn refuse(
     reading: Reading,
     number: u8,
     place: usize,
+    stamps: &[u32],
     lines: &[u64],
 ) -> usize {
     let from = begin(page, reading.at);
     let next = put_refused(page, from, number, place, lines, reading.unpaired);
+    if number == CROSSED {
+        let added = crossed::put(page, next, stamps, lines, place);
+        return end(page, added);
+    }
     end(page, next)
 }
 
@@ -185,7 +194,7 @@ fn answer(
     mode: Mode,
 ) -> usize {
     match phases::decode_in(mode, stamps, levels, events) {
-        Decoded::Refused { number, place } => refuse(page, reading, number, place, lines),
+        Decoded::Refused { number, place } => refuse(page, reading, number, place, stamps, lines),
         Decoded::Events {
             count,
             framed,

@@ -1,16 +1,11 @@
 // rig dump: a trace drawn as a Value Change Dump, gathered in a buffer of 4,096 bytes before each write.
 use crate::decoding::refuse;
-use crate::decoding::samples;
 use crate::decoding::samples::Reading;
-use crate::decoding::samples::SAMPLES;
 use crate::lines::end;
 use dump::Dumped;
 use rig_lines::console::begin;
 use rig_lines::console::flush;
 use rig_lines::console::put_count;
-use rig_lines::input;
-use rig_lines::input::Source;
-use rig_lines::parts;
 use text::put_bytes;
 
 const GATHERED: usize = 4096;
@@ -59,7 +54,7 @@ fn written(page: &mut [u8], at: usize, stamps: &[u32], levels: &[u8]) -> usize {
 }
 
 // No room is lent, so a trace that can be drawn is refused with 8.
-fn answer(
+pub(crate) fn answer(
     page: &mut [u8],
     reading: Reading,
     stamps: &[u32],
@@ -72,38 +67,8 @@ fn answer(
             if number == SHORT {
                 return written(page, reading.at, stamps, levels);
             }
-            refuse(page, reading, number, place, lines)
+            refuse(page, reading, number, place, stamps, lines)
         }
         Dumped::Written(_) => reading.at,
     }
-}
-
-pub(crate) fn run(page: &mut [u8], at: usize, source: Source) -> usize {
-    let mut piece = io::buffer();
-    let mut line = [0u8; input::ROOM];
-    let mut stamps = [0u32; SAMPLES];
-    let mut levels = [0u8; SAMPLES];
-    let mut lines = [0u64; SAMPLES];
-    let reading = samples::read_all(
-        page,
-        at,
-        &mut piece,
-        &mut line,
-        source,
-        &mut stamps,
-        &mut levels,
-        &mut lines,
-    );
-    if reading.broken {
-        return reading.at;
-    }
-    let stamp_count = parts::stamps(reading.stamps, &stamps);
-    let level_count = parts::bytes(reading.levels, &levels);
-    answer(
-        page,
-        reading,
-        &stamps[..stamp_count],
-        &levels[..level_count],
-        &lines,
-    )
 }

@@ -33,7 +33,13 @@ fn show_at(page: &mut [u8], at: usize, stamps: &[u32], levels: &[u8], i: usize) 
     at
 }
 
-fn show_all(page: &mut [u8], at: usize, stamps: &[u32], levels: &[u8], count: usize) -> usize {
+pub(crate) fn show_all(
+    page: &mut [u8],
+    at: usize,
+    stamps: &[u32],
+    levels: &[u8],
+    count: usize,
+) -> usize {
     let mut next = at;
     let mut i: usize = 0;
     while i < count {

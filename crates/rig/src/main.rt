@@ -1,4 +1,4 @@
-// rig: reads and draws bus traces, and steps a USI module (rig_clash rehearses loads).
+// rig: reads, sorts and draws bus traces, and steps a USI module (rig_clash rehearses loads).
 // The last line of output says how it went: `ok`, `look`, `refused` with a number, or `error`.
 mod arguments; // arguments.rt: the words of the command line
 mod decoding; // decoding.rt: the events of a trace
@@ -7,8 +7,10 @@ mod encoding; // encoding.rt: an event list drawn as a trace
 mod hints; // hints.rt: what a file is, by its words
 mod lines; // lines.rt: whole lines of output
 mod session; // session.rt: a module driven by commands
+mod sorting; // sorting.rt: a capture in the order of its stamps
 mod sources; // sources.rt: the file of an argument
 mod task; // task.rt: the commands by name
+mod traced; // traced.rt: a trace read from its lines
 mod trouble; // trouble.rt: what was not understood or could not be read
 
 use arguments::Arguments;
@@ -22,7 +24,8 @@ fn run_on(page: &mut [u8], given: Arguments, source: Source) -> usize {
     let task = given.task;
     match task {
         Task::Decode => decoding::run(page, given.at, source, given.room, given.mode()),
-        Task::Dump => dumping::run(page, given.at, source),
+        Task::Dump => traced::run(page, given.at, source, false),
+        Task::Sort => traced::run(page, given.at, source, true),
         Task::Encode => encoding::run(page, given.at, source, given.room),
         Task::Session => {
             session::run(page, source);

@@ -11,6 +11,7 @@ pub(crate) enum Task {
     Dump,
     Encode,
     Session,
+    Sort,
 }
 
 // What a word names.
@@ -31,6 +32,9 @@ pub(crate) fn find(word: &[u8]) -> Named {
     }
     if same(word, b"session") {
         return Named::Task(Task::Session);
+    }
+    if same(word, b"sort") {
+        return Named::Task(Task::Sort);
     }
     Named::Unknown
 }
@@ -67,6 +71,7 @@ impl Task {
             Task::Dump => put_bytes(page, at, b"dump"),
             Task::Encode => put_bytes(page, at, b"encode"),
             Task::Session => put_bytes(page, at, b"session"),
+            Task::Sort => put_bytes(page, at, b"sort"),
         }
     }
 
@@ -77,6 +82,7 @@ impl Task {
             Task::Dump => put_unknown_option(page, at, word, b"dump"),
             Task::Encode => put_unknown_option(page, at, word, b"encode"),
             Task::Session => put_unknown_option(page, at, word, b"session"),
+            Task::Sort => put_unknown_option(page, at, word, b"sort"),
         }
     }
 }
@@ -86,7 +92,7 @@ pub(crate) fn none(page: &mut [u8]) -> usize {
     say(
         page,
         0,
-        b"error expected a command: clash, decode, dump, encode, night or session",
+        b"error expected a command: clash, decode, dump, encode, night, session or sort",
     )
 }
 
@@ -98,6 +104,6 @@ pub(crate) fn unknown(page: &mut [u8], word: &[u8]) -> usize {
     put_bytes(
         page,
         quoted,
-        b": expected clash, decode, dump, encode, night or session\n",
+        b": expected clash, decode, dump, encode, night, session or sort\n",
     )
 }
