@@ -57,25 +57,32 @@ input() { printf '%s\n' "$@" >in; }
 load() { input "boards p q r" "load x" "$@" "end 1"; }
 
 commands() {
-    local names="expected clash, decode, dump, encode or session"
+    local names="expected clash, decode, dump, encode, night or session"
     input
     expect 2 "error unknown command 'rehearse': $names" rehearse
     expect 2 "error unknown command '$(printf 'x%.0s' {1..32})..': $names" "$(printf 'x%.0s' {1..40})"
     expect 2 "error unknown command 'a?b': $names" $'a\tb'
     expect 2 "error expected a file, or - for standard input" clash
+    expect 2 "error expected a file, or - for standard input" night
     expect 2 "error expected a file, or - for standard input" decode --room 3
     expect 2 "error cannot open none: no such file" decode none
     expect 2 "error cannot read .: it is a directory" decode .
     expect 2 "error cannot read .: it is a directory" session .
     expect 2 "error 0 loads: 1 fault outside the loads" clash none
     has "! cannot open none: no such file"
+    expect 2 "error 0 loads: 1 fault outside the loads" night none
+    has "! cannot open none: no such file"
     expect 2 "error unknown option '--brief' for clash" clash - --brief
+    expect 2 "error unknown option '--table' for night" night - --table
+    expect 2 "error unknown option '--room' for night" night --room 3
     expect 2 "error unknown option '--table' for decode" decode - --table
     expect 2 "error unknown option '--fast' for session" session --fast
     expect 2 "error - stands twice: standard input is read once" clash - "$examples/sent.loads" -
     expect 2 "error - stands twice: standard input is read once" decode - -
     expect 2 "error - stands twice: standard input is read once" clash - --corrections -
+    expect 2 "error - stands twice: standard input is read once" night - --corrections -
     expect 2 "error expected a file after --corrections" clash - --corrections
+    expect 2 "error expected a file after --corrections" night - --corrections
     expect 2 "error unknown option '--corrections' for decode" decode - --corrections x
     expect 2 "error --standard does not go with --fast" decode - --standard --fast
     expect 2 "error a second file 'b': decode reads one" decode a b
@@ -91,14 +98,14 @@ help() {
     input
     for command in help --help -h; do expect 0 "ok help" $command && has "usage: rig COMMAND .."; done
     expect 0 "ok help" && has "usage: rig COMMAND .."
-    for command in clash decode dump encode session; do
+    for command in clash decode dump encode night session; do
         for words in "help $command" "$command --help" "$command -h" "$command x --help"; do
             # shellcheck disable=SC2086
             expect 0 "ok help" $words
             holds 'head -n 1 out | grep -q "^usage: rig $command"' "rig $words: $(head -n 1 out)"
         done
     done
-    expect 2 "error unknown command 'rehearse': expected clash, decode, dump, encode or session" help rehearse
+    expect 2 "error unknown command 'rehearse': expected clash, decode, dump, encode, night or session" help rehearse
     expect 2 "error unexpected 'session' after help" help clash session
     expect 0 "ok version" --version
     has "rig $(cat "$root/VERSION"), for $(cat "$root/RATTLE-VERSION")"
@@ -107,7 +114,7 @@ help() {
         (cd "$root" && eval "$line") >out 2>err </dev/null
         holds 'tail -n 1 out | grep -Eq "^(ok|look|refused) " || grep -q "^rig: ok " err' "the help's example '$line': $(tail -n 1 out)"
     done <examples.sh
-    holds '[ "$(wc -l <examples.sh)" = 5 ]' "five examples in the help"
+    holds '[ "$(wc -l <examples.sh)" = 6 ]' "six examples in the help"
 }
 
 # What once went up with ok: a board that is missing, a message cut off, a forgotten line, slips.
@@ -170,24 +177,28 @@ corrections() {
 
 # Corrections that are cut short anywhere stop everything.
 cut_corrections() {
-    local size n
+    local size n command
     size=$(wc -c <"$examples/night.corrections")
     for ((n = 0; n < size - 2; n += 7)); do
         head -c $n "$examples/night.corrections" >in
-        "$rig" clash "$examples/night.loads" --corrections - <in >out 2>err
-        holds "[ $? = 2 ]" "the first $n bytes of night.corrections: $(tail -n 1 out)"
-        holds '[ "$(wc -l <out)" = 2 ] && head -n 1 out | grep -q "; nothing is rehearsed$"' "it is rehearsed: $(cat out)"
+        for command in clash night; do
+            "$rig" $command "$examples/night.loads" --corrections - <in >out 2>err
+            holds "[ $? = 2 ]" "$command, the first $n bytes of night.corrections: $(tail -n 1 out)"
+            holds '[ "$(wc -l <out)" = 2 ] && head -n 1 out | grep -q "; nothing is rehearsed$"' "it is rehearsed: $(cat out)"
+        done
     done
 }
 
-# A night that is cut short anywhere never ends with ok, and its last load is not rehearsed.
+# A file that is cut short anywhere never ends with ok, and its last load is not rehearsed.
 cut_short() {
-    local size n
+    local size n command
     size=$(wc -c <"$examples/sent.loads")
     for ((n = 0; n < size - 2; n += 7)); do
         head -c $n "$examples/sent.loads" >in
-        "$rig" clash - <in >out 2>err
-        holds "[ $? = 2 ]" "the first $n bytes of sent.loads: $(tail -n 1 out)"
+        for command in clash night; do
+            "$rig" $command - <in >out 2>err
+            holds "[ $? = 2 ]" "$command, the first $n bytes of sent.loads: $(tail -n 1 out)"
+        done
     done
     head -c 4000 "$examples/night.loads" >in
     expect 2 "error 13 loads: 10 sent, 2 cut, 1 in error, 1 fault outside the loads" clash -
@@ -291,6 +302,66 @@ night() {
     expect 2 "error 41 loads: 34 sent, 6 cut, 1 refused, 1 fault outside the loads" \
         clash "$examples/p8.loads" none "$examples/night.loads"
     has "file none" "! cannot open none: no such file" "file $examples/night.loads"
+}
+
+# A night by rounds: who loses tries again, equal messages finish together, and what is expected is of round 1.
+rounds() {
+    : >in
+    expect 1 "refused 43: 6 loads: 3 sent, 1 not as expected, 2 refused, 1 without an ack line" night "$examples/rounds.loads"
+    has "  round 1  80 00                    sent by 1 thermal, 3 memory" "  round 2  82 00                    sent by 0 power, 2 radio" \
+        "  round 2  50 26 / 52 00            sent by 0 power" "  NOT AS EXPECTED: line 45 expects power 2/2" \
+        "see refused-43 refused-16 unexpected"
+    load "board p 90 12" "board q 90 0F" "board r -" "ack all" "expect q 2/2" && expect 0 "ok 1 load: 1 sent" night -
+    has "  round 1  90 0F                    sent by 1 q" "  round 2  90 12                    sent by 0 p" "  silent 2 r"
+    load "board p 90 12" "board q 90 0F" "board r -" "ack all" "expect p 2/2" && expect 3 "look 1 load: 1 not as expected" night -
+    load "board p 90" "board q 92" "board r -" && expect 0 "ok 1 load: 1 sent, 1 without an ack line" night -
+    has "  note: no ack line, rehearsed as all acknowledged"
+    input "load a" "board 90 12" "board 2" "board 90 12" && expect 0 "ok 1 load: 1 sent, 1 without an ack line" night -
+    has "  round 1  02                       sent by 1" "  round 2  90 12                    sent by 0, 2"
+    input "load x" "board q 50 00" "board p -" "end 1"
+    expect 2 "error 40 loads: 32 sent, 8 refused, 1 fault outside the loads" night "$examples/night.loads" --corrections -
+    has "! corrections line 1: load x is in none of the files"
+    printf 'boards p q\nload x\nboard p 50\nboard q 62\nack all\nend 1\n' >x.loads
+    expect 0 "ok 1 load: 1 sent, 1 corrected" night x.loads --corrections -
+    has "  corrected 0 p, 1 q" "  round 1  50 00                    sent by 1 q" "  silent 0 p"
+    expect 2 "error 2 loads: 2 sent, 1 fault outside the loads" night x.loads none x.loads
+    has "file none" "! cannot open none: no such file" "file x.loads"
+}
+
+# Which boards a night's refusals are about: 43 before 16, and 16 of any two boards.
+rounds_refused() {
+    local why="and in a night every byte is acknowledged"
+    load "board p -" "board q -" "board r -" && expect 1 "refused 12: 1 load: 1 refused" night -
+    has "  refused 12: every board is silent"
+    load "board p 90" "board q" "board r -" && expect 1 "refused 13: 1 load: 1 refused" night -
+    has "  refused 13: q (line 4) has no bytes"
+    load "board p 90" "board q 91" "board r -" && expect 1 "refused 14: 1 load: 1 refused" night -
+    has "  refused 14: q (line 4) begins with 91, which is odd, a read"
+    load "board p 90" "board q 90 12" "board r -" "ack 1" && expect 1 "refused 15: 1 load: 1 refused" night -
+    has "  refused 15: 1 acknowledge (line 6) for the 2 bytes of q (line 4), the longest"
+    load "board p 90" "board q 90 12" "board r -" "ack 0 1" && expect 1 "refused 43: 1 load: 1 refused" night -
+    has "  refused 43: acknowledge 1 (line 6) is 1, $why"
+    load "board p 90 12" "board q 90" "board r 00" "ack all" && expect 1 "refused 16: 1 load: 1 refused" night -
+    has "  refused 16: q (line 4) ends with 90, acknowledged, where p (line 3) goes on with 12"
+    load "board p 90" "board q 90 / 12" "board r 00" "ack all" && expect 1 "refused 16: 1 load: 1 refused" night -
+    has "  refused 16: q (line 4) restarts after 90, acknowledged, where p (line 3) ends"
+    load "board p 90 12" "board q 90 / 12" "board r 00" "ack all" && expect 1 "refused 16: 1 load: 1 refused" night -
+    has "  refused 16: q (line 4) restarts after 90, acknowledged, where p (line 3) goes on with 12"
+    expect 0 "ok 1 load: 1 sent" clash -
+}
+
+# Sixteen boards of 64 bytes, alike up to the last: the most rounds, whose numbers stand in two columns.
+most_rounds() {
+    local alike names=({p..z} xp xq xr xs xt) lines=() i
+    alike=$(printf '90 %.0s' {1..63})
+    for i in {0..15}; do lines+=("board ${names[i]} $alike$(printf '%02X' $((15 - i)))"); done
+    input "boards ${names[*]}" "load x" "${lines[@]}" "ack all" "end 1"
+    expect 0 "ok 1 load: 1 sent" night -
+    has "  round  1  ${alike}00  sent by 15 xt" "  round 10  ${alike}09  sent by 6 v" "  round 16  ${alike}0F  sent by 0 p"
+    holds '[ "$(grep -c "^  round .*  sent by [0-9]* [a-z]*$" out)" = 16 ]' "not sixteen rounds"
+    (echo load a && for i in {1..16}; do echo board 90; done) >in
+    expect 0 "ok 1 load: 1 sent, 1 without an ack line" night -
+    has "  round 1  90                       sent by 0, 1, 2, 3, 4, 5, 6, 7, 8, 9, 10, 11, 12, 13, 14, 15"
 }
 
 # Forty loads in a tenth of a second, at the best of five times; four thousand in about ten times as long as four
@@ -441,7 +512,7 @@ streams() {
         "$rig" $words >&- 2>err
         holds "[ $? = 2 ] && grep -q 'not all output' err" "rig $words, standard output closed: $(cat err)"
     done
-    for words in "clash -" "decode -" encode session; do
+    for words in "clash -" "decode -" encode "night -" session; do
         # shellcheck disable=SC2086
         timeout 20 "$rig" $words <&- >out 2>err
         holds "[ $? = 2 ]" "rig $words, standard input closed: another status"
@@ -471,14 +542,20 @@ early() {
 terminal() {
     command -v script >/dev/null || return 0
     local words
-    for words in encode "encode - --room 5" session "clash -" "decode -"; do
+    for words in encode "encode - --room 5" session "clash -" "decode -" "night -"; do
         printf '\004' | script -qec "$rig $words" /dev/null >out 2>&1
         holds 'grep -q "^rig: waiting for .*Ctrl-D" out' "rig $words at a terminal: $(cat out)"
     done
-    printf '\004' | script -qec "$rig clash $examples/p8.loads --corrections -" /dev/null >out 2>&1
-    holds 'grep -q "^rig: waiting for corrections; Ctrl-D" out' "corrections at a terminal: $(cat out)"
-    printf '\004' | script -qec "$rig clash $examples/p8.loads" /dev/null >out 2>&1
-    holds '! grep -q waiting out' "a file is read, and it says that it waits"
+    for words in "clash $examples/p8.loads" "night $examples/p8.loads"; do
+        printf '\004' | script -qec "$rig $words --corrections -" /dev/null >out 2>&1
+        holds 'grep -q "^rig: waiting for corrections; Ctrl-D" out' "corrections at a terminal: $(cat out)"
+        printf '\004' | script -qec "$rig $words" /dev/null >out 2>&1
+        holds '! grep -q waiting out' "a file is read, and it says that it waits"
+    done
+    for words in clash decode dump night; do
+        printf '\004' | script -qec "$rig $words" /dev/null >out 2>&1
+        holds '! grep -q waiting out' "rig $words has no file, and says that it waits"
+    done
 }
 
 # A dump is alone on standard output; how it went stands on standard error.
@@ -709,7 +786,7 @@ stored() {
 }
 
 # The program of a command, with its words perhaps.
-program_of() { case $1 in clash*) echo "$rehearsal" ;; *) echo "$program" ;; esac; }
+program_of() { case $1 in clash* | night*) echo "$rehearsal" ;; *) echo "$program" ;; esac; }
 
 # A run of the program on each file, all in one output, with a line between runs that no run prints.
 run_on() {
@@ -751,7 +828,9 @@ truncated() {
         for ((n = 1; n < size && n < 3000; n += 10)); do head -c $n "$file" >"cut/$n.${file##*/}"; done
     done
     run_on "clash --table" cut/*.loads >all
+    run_on night cut/*.loads >>all
     run_on "clash $examples/sent.loads --corrections" cut/*.corrections >>all
+    run_on "night $examples/sent.loads --corrections" cut/*.corrections >>all
     run_on decode cut/*.trace cut/*.vcd >>all
     run_on encode cut/*.events >>all
     run_on session cut/*.session >>all
@@ -786,6 +865,7 @@ random() {
         fi
     done
     run_on clash random/*0 random/*4 >all
+    run_on night random/*0 random/*4 >>all
     run_on "clash $examples/sent.loads --corrections" random/*8 >>all
     run_on decode random/*1 random/*5 random/*9 >>all
     run_on encode random/*2 random/*6 >>all
@@ -814,8 +894,9 @@ program=$(readlink -f "${RIG_PROGRAM:-$root/target/bin/rig}")
 rehearsal=${RIG_PROGRAM:+$program}
 rehearsal=${rehearsal:-$root/target/bin/rig_clash}
 [ -z "${RIG_PROGRAM:-}" ] || export RIG_PROGRAM=$program
-for part in commands help slips corrections cut_corrections cut_short refusals most_boards wrong_lines night many_loads sessions traces captures lists \
-    round_trips dumps dumps_refused dumps_read dumps_back corpus streams terminal $builds stored truncated random answers; do
+for part in commands help slips corrections cut_corrections cut_short refusals most_boards wrong_lines night rounds rounds_refused most_rounds \
+    many_loads sessions traces captures lists round_trips dumps dumps_refused dumps_read dumps_back corpus streams terminal $builds stored \
+    truncated random answers; do
     $part
 done
 if [ "$failures" -gt 0 ]; then

@@ -29,7 +29,7 @@ pub struct Answer {
 pub fn answer(arguments: &[Vec<u8>], input: &mut dyn Read) -> Answer {
     let arguments: Vec<String> = arguments.iter().map(|argument| text_of(argument)).collect();
     let (output, notes) = match arguments::parse(&arguments) {
-        Ok(options) if options.command == Command::Clash => clash::clash(&options, input),
+        Ok(options) if options.command.reads_loads() => clash::clash(&options, input),
         Ok(options) => (one_file(&options, input), String::new()),
         Err(words) => (format!("error {words}\n"), String::new()),
     };

@@ -65,9 +65,12 @@ fn examples() -> Vec<(String, Vec<u8>)> {
         let file = entry.unwrap().file_name().into_string().unwrap();
         let (_, kind) = file.rsplit_once('.').unwrap();
         let words: &[(&str, &str)] = match kind {
-            "loads" => {
-                &[("clash", "clash"), ("table", "clash --table"), ("whole", "clash --registers --wave")]
-            }
+            "loads" => &[
+                ("clash", "clash"),
+                ("table", "clash --table"),
+                ("whole", "clash --registers --wave"),
+                ("night", "night"),
+            ],
             "corrections" => &[("corrected", "clash --corrections")],
             "trace" | "vcd" => &[("decode", "decode")],
             "events" => &[("encode", "encode")],

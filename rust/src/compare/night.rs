@@ -4,7 +4,7 @@ use super::arbitration::draws::{draw_request, spoil};
 use super::lists::{draw_room, pattern};
 use super::{equal, Counts, Difference};
 use crate::arbitration::outcome::first_difference;
-use crate::arbitration::{Message, Request};
+use crate::arbitration::{Message, Request, MASTERS};
 use crate::night::{check, prediction};
 use crate::packed::{unpack, Asked, Interface, Model};
 use crate::random::Random;
@@ -66,9 +66,28 @@ fn check_rounds(asked: &Asked, rooms: (usize, usize), answer: &Answer) -> Result
     equal(&expected, &visible, inputs, |night| format!("{night:X?}"))
 }
 
+/// A night that is mostly not refused, of few rounds or of many.
+pub fn draw_night(random: &mut Random) -> Request {
+    if random.once_in(4) {
+        draw_crowd(random)
+    } else {
+        draw_family(random)
+    }
+}
+
+/// Many messages of the same lengths, which differ in some bytes or in none; all bytes are acknowledged.
+fn draw_crowd(random: &mut Random) -> Request {
+    let lengths: Vec<usize> = (0..random.between(1, 3)).map(|_| random.between(1, 3)).collect();
+    let (boards, values) = (random.between(8, MASTERS), random.pick(&[2, 4, 128]));
+    let mut part = |length: &usize| (0..*length).map(|_| 2 * random.below(values) as u8).collect();
+    let mut message = || Message { parts: lengths.iter().map(&mut part).collect() };
+    let messages = (0..boards).map(|_| message()).collect();
+    Request { messages, acks: vec![0; lengths.iter().sum()] }
+}
+
 /// Messages that share beginnings, all bytes acknowledged mostly, and most of those taken out that would be refused
 /// by 16.
-fn draw_night(random: &mut Random) -> Request {
+fn draw_family(random: &mut Random) -> Request {
     let Request { mut messages, acks } = draw_request(random);
     if !random.once_in(4) {
         let mut kept: Vec<Message> = Vec::new();

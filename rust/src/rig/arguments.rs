@@ -6,7 +6,7 @@ use crate::phases::Mode;
 /// The longest argument.
 const ARGUMENT_BYTES: usize = 4096;
 
-const NO_COMMAND: &str = "expected a command: clash, decode, dump, encode or session";
+const NO_COMMAND: &str = "expected a command: clash, decode, dump, encode, night or session";
 const NO_FILE: &str = "expected a file, or - for standard input";
 const INPUT_TWICE: &str = "- stands twice: standard input is read once";
 const NO_NUMBER: &str = "expected a number after --room";
@@ -23,6 +23,7 @@ pub enum Command {
     Decode,
     Dump,
     Encode,
+    Night,
     Session,
 }
 
@@ -30,7 +31,7 @@ pub enum Command {
 #[derive(Clone, PartialEq, Eq, Debug)]
 pub struct Options {
     pub command: Command,
-    /// `-` is standard input; all but clash have one.
+    /// `-` is standard input; all but clash and night have one.
     pub files: Vec<String>,
     pub table: bool,
     pub registers: bool,
@@ -48,7 +49,14 @@ pub struct Options {
 
 impl Command {
     fn from_word(word: &str) -> Option<Command> {
-        let commands = [Command::Clash, Command::Decode, Command::Dump, Command::Encode, Command::Session];
+        let commands = [
+            Command::Clash,
+            Command::Decode,
+            Command::Dump,
+            Command::Encode,
+            Command::Night,
+            Command::Session,
+        ];
         commands.into_iter().find(|command| command.word() == word)
     }
 
@@ -58,8 +66,14 @@ impl Command {
             Command::Decode => "decode",
             Command::Dump => "dump",
             Command::Encode => "encode",
+            Command::Night => "night",
             Command::Session => "session",
         }
+    }
+
+    /// Reads files of loads, with corrections over them.
+    pub fn reads_loads(self) -> bool {
+        matches!(self, Command::Clash | Command::Night)
     }
 }
 
@@ -114,10 +128,10 @@ impl Options {
             "--wave" if clash => self.wave = true,
             "--standard" if self.command == Command::Decode => self.standard = true,
             "--fast" if self.command == Command::Decode => self.fast = true,
-            "--room" if !matches!(self.command, Command::Dump | Command::Session) => {
+            "--room" if matches!(self.command, Command::Clash | Command::Decode | Command::Encode) => {
                 self.room = Some(room(rest.next())?)
             }
-            "--corrections" if clash => {
+            "--corrections" if self.command.reads_loads() => {
                 let file = short(rest.next().ok_or(NO_CORRECTIONS)?)?;
                 self.corrections = Some(self.file(file)?);
             }
@@ -126,7 +140,7 @@ impl Options {
                 return Err(format!("unknown option {} for {}", quoted(word), self.command.word()));
             }
             "-" if self.reads_input => return Err(INPUT_TWICE.to_string()),
-            word if !clash && !self.files.is_empty() => {
+            word if !self.command.reads_loads() && !self.files.is_empty() => {
                 return Err(format!("a second file {}: {} reads one", quoted(word), self.command.word()));
             }
             word => {
@@ -141,8 +155,8 @@ impl Options {
     fn finished(mut self) -> Result<Options, String> {
         if self.files.is_empty() {
             match self.command {
-                Command::Clash | Command::Decode | Command::Dump => return Err(NO_FILE.to_string()),
-                _ => self.files.push("-".to_string()),
+                Command::Encode | Command::Session => self.files.push("-".to_string()),
+                _ => return Err(NO_FILE.to_string()),
             }
         }
         if self.table && (self.registers || self.wave) {
@@ -162,8 +176,9 @@ impl Options {
 pub fn parse(arguments: &[String]) -> Result<Options, String> {
     let mut rest = arguments.iter();
     let first = short(rest.next().ok_or(NO_COMMAND)?)?;
-    let unknown =
-        || format!("unknown command {}: expected clash, decode, dump, encode or session", quoted(first));
+    let unknown = || {
+        format!("unknown command {}: expected clash, decode, dump, encode, night or session", quoted(first))
+    };
     let mut options = Options::new(Command::from_word(first).ok_or_else(unknown)?);
     while let Some(word) = rest.next() {
         options.word(word, &mut rest)?;

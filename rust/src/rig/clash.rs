@@ -1,4 +1,5 @@
 //! `rig clash`: loads of boards that start at the same time, who wins each, and whether its message goes out whole.
+//! `rig night`: the same loads by rounds, in which who lost tries again.
 
 use super::arguments::Options;
 use super::files;
@@ -12,6 +13,7 @@ mod block;
 mod boards;
 mod corrections;
 mod load;
+mod night;
 mod reading;
 mod refused;
 mod registers;
@@ -20,7 +22,7 @@ mod table;
 mod tally;
 
 /// What is printed so far, on standard output and as notes, and what was counted.
-struct Night<'a> {
+struct Report<'a> {
     options: &'a Options,
     output: String,
     notes: String,
@@ -30,7 +32,7 @@ struct Night<'a> {
 
 /// Standard output and the notes.
 pub fn clash(options: &Options, input: &mut dyn Read) -> (String, String) {
-    let mut night = Night {
+    let mut report = Report {
         options,
         output: String::new(),
         notes: String::new(),
@@ -38,18 +40,18 @@ pub fn clash(options: &Options, input: &mut dyn Read) -> (String, String) {
         corrections: Corrections::default(),
     };
     if options.table {
-        night.line(table::header());
+        report.line(table::header());
     }
     let corrections = options.corrections.as_ref().map(|file| Corrections::read(&files::read(file, input)));
     match corrections.transpose() {
-        Ok(corrections) => night.rehearse(corrections.unwrap_or_default(), input),
-        Err(words) => night.fault(&format!("{words}; nothing is rehearsed")),
+        Ok(corrections) => report.rehearse(corrections.unwrap_or_default(), input),
+        Err(words) => report.fault(&format!("{words}; nothing is rehearsed")),
     }
-    let last = night.tally.last_lines(options.trace.is_none());
-    (night.output + &last, night.notes)
+    let last = report.tally.last_lines(options.trace.is_none());
+    (report.output + &last, report.notes)
 }
 
-impl Night<'_> {
+impl Report<'_> {
     /// Every file, with these corrections over its loads.
     fn rehearse(&mut self, corrections: Corrections, input: &mut dyn Read) {
         self.corrections = corrections;

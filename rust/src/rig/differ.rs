@@ -121,11 +121,11 @@ impl Differ {
             .spawn()
     }
 
-    /// The program of a command: `rig_clash` beside `rig` is that of clash.
+    /// The program of a command: `rig_clash` beside `rig` is that of clash and night.
     fn program_for(&self, case: &Case) -> PathBuf {
         let clash = self.program.with_file_name("rig_clash");
-        let is_clash = case.arguments.first().is_some_and(|word| word == b"clash");
-        if is_clash && clash.exists() {
+        let of_loads = case.arguments.first().is_some_and(|word| word == b"clash" || word == b"night");
+        if of_loads && clash.exists() {
             clash
         } else {
             self.program.clone()

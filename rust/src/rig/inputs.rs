@@ -23,11 +23,12 @@ pub struct Kind {
 }
 
 /// Well-formed files, one in four of them damaged; random bytes for each command; and command lines.
-pub const KINDS: [Kind; 10] = [
+pub const KINDS: [Kind; 11] = [
     Kind { word: "clash", command: "clash", text: |random| damage::some(random, clash::text) },
     Kind { word: "decode", command: "decode", text: |random| damage::some(random, decode::text) },
     Kind { word: "dump", command: "dump", text: |random| damage::some(random, decode::lines) },
     Kind { word: "encode", command: "encode", text: |random| damage::some(random, encode::text) },
+    Kind { word: "night", command: "night", text: |random| damage::some(random, clash::night) },
     Kind { word: "session", command: "session", text: |random| damage::some(random, session::text) },
     Kind { word: "clash-bytes", command: "clash", text: damage::bytes },
     Kind { word: "decode-bytes", command: "decode", text: damage::bytes },
@@ -72,7 +73,7 @@ impl Kind {
         } else {
             arguments::proper(&mut random, self.command, source, file)
         };
-        let corrected = self.command == "clash" && random.once_in(3);
+        let corrected = ["clash", "night"].contains(&self.command) && random.once_in(3);
         if corrected {
             arguments::correct(&mut random, &mut arguments, file, tonight);
         }

@@ -35,8 +35,8 @@ fn words(reason: Reason) -> &'static str {
         | Reason::MessageLength
         | Reason::ReadMessage
         | Reason::Acknowledges
-        | Reason::Undecided => unreachable!("clash has its own words"),
-        Reason::NotAcknowledged => unreachable!("no command runs a night"),
+        | Reason::Undecided
+        | Reason::NotAcknowledged => unreachable!("loads have their own words"),
     }
 }
 

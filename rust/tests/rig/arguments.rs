@@ -11,10 +11,11 @@ fn error(arguments: &[&[u8]]) -> Vec<u8> {
 
 #[test]
 fn commands() {
-    assert_eq!(rig("", ""), "error expected a command: clash, decode, dump, encode or session\n");
+    assert_eq!(rig("", ""), "error expected a command: clash, decode, dump, encode, night or session\n");
     for word in ["Clash", "run", "--table", "help", "-h"] {
-        let expected =
-            format!("error unknown command '{word}': expected clash, decode, dump, encode or session\n");
+        let expected = format!(
+            "error unknown command '{word}': expected clash, decode, dump, encode, night or session\n"
+        );
         assert_eq!(rig(&format!("{word} x"), ""), expected);
     }
 }
@@ -76,14 +77,16 @@ fn long_arguments() {
     assert_eq!(error(&[b"decode", b"--room", &long]), b"an argument is longer than 4096 bytes");
     let name = &long[..4096];
     assert_eq!(error(&[b"decode", name]), [b"cannot open ", name, b": the name is too long"].concat());
-    let quoted =
-        format!("unknown command '{}..': expected clash, decode, dump, encode or session", "a".repeat(32));
+    let quoted = format!(
+        "unknown command '{}..': expected clash, decode, dump, encode, night or session",
+        "a".repeat(32)
+    );
     assert_eq!(error(&[&long[..33]]), quoted.as_bytes());
 }
 
 #[test]
 fn words_are_quoted_printable() {
-    let expected = b"unknown command 'a?b??c\xE9': expected clash, decode, dump, encode or session";
+    let expected = b"unknown command 'a?b??c\xE9': expected clash, decode, dump, encode, night or session";
     assert_eq!(error(&[b"a\x01b\x7F\nc\xE9"]), expected);
 }
 

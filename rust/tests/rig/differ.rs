@@ -1,6 +1,6 @@
 //! The comparison: equal with itself; a program that is wrong in any way is found.
 
-use std::fs::{remove_dir_all, set_permissions, write, Permissions};
+use std::fs::{create_dir_all, remove_dir_all, set_permissions, write, Permissions};
 use std::os::unix::fs::PermissionsExt;
 use std::path::{Path, PathBuf};
 use std::process::Command;
@@ -34,7 +34,7 @@ fn check_found(name: &str, body: &str, options: &[&str], words: &str) {
 #[test]
 fn the_model_is_equal_to_itself() {
     let (equal, output) = differ(MODEL, &["--count", "40", "--seed", "77"]);
-    assert!(equal && output.ends_with("compared 400 runs: all equal\n"), "{output}");
+    assert!(equal && output.ends_with("compared 440 runs: all equal\n"), "{output}");
 }
 
 #[test]
@@ -45,6 +45,18 @@ fn wrong_programs_are_found() {
     check_found("word", "rig \"$@\" | sed 's/ACK/NAK/'", &["--kind", "decode"], "NAK");
     check_found("more", "echo; rig \"$@\"", &["--kind", "encode"], "line 1 of the output");
     check_found("end", "printf 'ok 1 load'", &["--kind", "clash"], "the last line is none of");
+}
+
+#[test]
+fn loads_have_a_program_of_their_own() {
+    create_dir_all(Path::new(env!("CARGO_TARGET_TMPDIR")).join("two")).unwrap();
+    script("two/rig_clash", "rig \"$@\"");
+    let wrong = script("two/rig", "echo ok");
+    for kind in ["clash", "night"] {
+        let (equal, output) = differ(wrong.to_str().unwrap(), &["--count", "20", "--kind", kind]);
+        assert!(equal, "{output}");
+    }
+    check_found("two/rig", "echo ok", &["--kind", "decode"], "program: `ok\\n`");
 }
 
 #[test]

@@ -104,6 +104,19 @@ fn corrections_reach_every_answer() {
 }
 
 #[test]
+fn nights_reach_every_answer() {
+    let texts = "  round 1  |  round 9  |  round  1  |  round  9  |  round 10  |  round 16  |sent by 0\n|sent by 0 \
+        |sent by 15 |, 15 |, 11, |  silent 0 |  silent  0 |  silent 15 |  note: no ack line|  NOT AS EXPECTED| / \
+        |  corrected 0 |  refused 12: every|refused 12: no board|boards, and at most|has no bytes\
+        |bytes, and at most|begins with|restarts with|, the longest|neither 0 nor 1\
+        |is 1, and in a night every byte is acknowledged\n|ends with|restarts after|goes on with| ends\n\
+        |  ERROR: not rehearsed|file |\nsee | and 1 more|\nok |\nlook |\nrefused 43: |\nrefused 16: |\nerror \
+        | not as expected| without an ack line| corrected\n|is in none of the files|; nothing is rehearsed\
+        |more than 4096 loads|! cannot open|! cannot read|! no load in the file";
+    check_reach("night", &texts.split('|').collect::<Vec<_>>());
+}
+
+#[test]
 fn decode_inputs_reach_every_answer() {
     let texts = "refused 4 sample |refused 5: |refused 6: |refused 7 sample |refused 8: |: expected STAMP\
         |: the stamp is|: the level is|: longer than|: a byte that is no|cut byte|repeated START\
@@ -157,6 +170,7 @@ fn command_lines_reach_every_answer() {
         "expected a command|unknown command '|expected a file|number after --room\n|number after --room, not\
         |unknown option '--brief'|unknown option '--odd|longer than 4096|no such file|it is a directory\
         |the name is too long|a second file '|--table goes with|aaaa..'\
-        |expected a file after --corrections|unknown option '--corrections'";
+        |expected a file after --corrections|unknown option '--corrections'|unknown option '--table' for night\
+        |unknown option '--room' for night";
     check_reach("arguments", &texts.split('|').collect::<Vec<_>>());
 }

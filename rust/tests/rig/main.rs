@@ -10,6 +10,7 @@ mod decode;
 mod differ;
 mod encode;
 mod inputs;
+mod night;
 mod refusals;
 mod restarts;
 mod session;

@@ -1,4 +1,4 @@
-//! The block of a load: who won, what became of its message, what each loser still has to send.
+//! The block of a load: who won, what became of its message, what each loser still has to send; in a night its rounds.
 
 use super::boards::Boards;
 use super::load::Load;
@@ -12,25 +12,29 @@ use crate::rig::text::{counted, parted};
 pub fn block(load: &Load, boards: &Boards, result: &Result, options: &Options) -> String {
     let mut lines = vec![format!("load {}", load.heading())];
     if !load.corrected.is_empty() {
-        let corrected: Vec<String> =
-            load.corrected.iter().map(|&number| format!("{number} {}", boards.short(number))).collect();
-        lines.push(format!("  corrected {}", corrected.join(", ")));
+        lines.push(format!("  corrected {}", boards.list(&load.corrected)));
     }
     match result {
         Result::InError => lines.push("  ERROR: not rehearsed".to_string()),
         Result::Refused(refusal) => {
-            let words = refused::words(load, boards, *refusal).block;
+            let words = refused::words(load, boards, *refusal, options.command).block;
             lines.push(format!("  refused {}: {words}", refusal.number()));
         }
         Result::Rehearsed(rehearsal) => {
             lines.extend(in_and_out(load, boards, rehearsal));
-            lines.extend(remarks(load, boards, rehearsal));
+            lines.extend(silent(load, boards));
+            lines.extend(remarks(load, boards, rehearsal.as_expected));
             if options.registers {
                 lines.extend(registers(load, boards, rehearsal));
             }
             if options.wave {
                 lines.extend(bus(rehearsal));
             }
+        }
+        Result::Carried(rounds) => {
+            lines.extend(rounds.lines(boards));
+            lines.extend(silent(load, boards));
+            lines.extend(remarks(load, boards, rounds.as_expected));
         }
     }
     lines.join("\n") + "\n"
@@ -47,7 +51,7 @@ fn board_line(word: &str, label: &str, message: &Message, fate: &str) -> String 
     format!("  {word:<6} {label}  {:<23}  {fate}", parted(&message.parts))
 }
 
-/// The boards still in, the losers and the silent.
+/// The boards still in and the losers.
 fn in_and_out(load: &Load, boards: &Boards, rehearsal: &Rehearsal) -> Vec<String> {
     let mut lines = Vec::new();
     let columns = load.number_columns();
@@ -63,12 +67,16 @@ fn in_and_out(load: &Load, boards: &Boards, rehearsal: &Rehearsal) -> Vec<String
         let fate = format!("byte {byte} bit {bit}: sends 1, the bus is 0; {bytes} still to send");
         lines.push(board_line("lost", &boards.label(board.number, columns), message, &fate));
     }
+    lines
+}
+
+fn silent(load: &Load, boards: &Boards) -> Vec<String> {
+    let columns = load.number_columns();
     let mut silent: Vec<usize> =
         load.boards.iter().filter(|board| board.message.is_none()).map(|board| board.number).collect();
     silent.sort();
-    let silent_line = |number: &usize| format!("  silent {number:>columns$} {}", boards.short(*number));
-    lines.extend(silent.iter().map(silent_line));
-    lines
+    let line = |number: &usize| format!("  silent {number:>columns$} {}", boards.short(*number));
+    silent.iter().map(line).collect()
 }
 
 fn between(rehearsal: &Rehearsal) -> String {
@@ -97,12 +105,12 @@ fn fate(rehearsal: &Rehearsal, message: &Message) -> String {
     }
 }
 
-fn remarks(load: &Load, boards: &Boards, rehearsal: &Rehearsal) -> Vec<String> {
+fn remarks(load: &Load, boards: &Boards, as_expected: bool) -> Vec<String> {
     let mut lines = Vec::new();
     if load.acks.is_none() {
         lines.push("  note: no ack line, rehearsed as all acknowledged".to_string());
     }
-    if let (false, Some(expected)) = (rehearsal.as_expected, &load.expected) {
+    if let (false, Some(expected)) = (as_expected, &load.expected) {
         let (line, name) = (expected.line, boards.short(expected.board));
         let (carried, length) = (expected.carried, expected.length);
         lines.push(format!("  NOT AS EXPECTED: line {line} expects {name} {carried}/{length}"));

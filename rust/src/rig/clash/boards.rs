@@ -62,6 +62,15 @@ impl Boards {
         self.names().get(number).cloned().unwrap_or_else(|| number.to_string())
     }
 
+    /// Boards in a line: each number with its name, if it has one, and `, ` between two.
+    pub fn list(&self, numbers: &[usize]) -> String {
+        let one = |&number: &usize| match self.names().get(number) {
+            Some(name) => format!("{number} {name}"),
+            None => number.to_string(),
+        };
+        numbers.iter().map(one).collect::<Vec<_>>().join(", ")
+    }
+
     /// As a sentence speaks of a board.
     pub fn called(&self, number: usize) -> String {
         self.names().get(number).cloned().unwrap_or_else(|| format!("board {number}"))

@@ -3,7 +3,7 @@
 use super::boards::Boards;
 use super::load::Load;
 use super::rehearsal::Result as Rehearsed;
-use super::{block, table, Night};
+use super::{block, table, Report};
 use crate::rig::files::Contents;
 use crate::rig::text::{counted, decimal, expected, lines, printable, Fault, Words};
 use std::collections::HashMap;
@@ -15,7 +15,7 @@ const NOT_READ: &str = "; the file is not read";
 const REST_NOT_READ: &str = "; the rest of the file is not read";
 
 pub struct Reading<'a, 'b> {
-    night: &'a mut Night<'b>,
+    report: &'a mut Report<'b>,
     file: &'a str,
     /// None before the first statement.
     boards: Option<Boards>,
@@ -39,9 +39,9 @@ enum Next {
 }
 
 impl<'a, 'b> Reading<'a, 'b> {
-    pub fn new(night: &'a mut Night<'b>, file: &'a str) -> Self {
+    pub fn new(report: &'a mut Report<'b>, file: &'a str) -> Self {
         let names = HashMap::new();
-        Reading { night, file, boards: None, load: None, loads: 0, last_load: 0, names, end: None }
+        Reading { report, file, boards: None, load: None, loads: 0, last_load: 0, names, end: None }
     }
 
     pub fn whole(mut self, contents: &Contents) {
@@ -63,7 +63,7 @@ impl<'a, 'b> Reading<'a, 'b> {
 
     fn line(&mut self, line: usize, words: Result<Words, Fault>) -> Next {
         if let Some(end) = self.end {
-            self.night.fault(&format!("line {line}: after end (line {end}){REST_NOT_READ}"));
+            self.report.fault(&format!("line {line}: after end (line {end}){REST_NOT_READ}"));
             return Next::End;
         }
         match (words, &self.boards) {
@@ -93,7 +93,7 @@ impl<'a, 'b> Reading<'a, 'b> {
                 Next::Line
             }
             Err(words) => {
-                self.night.fault(&format!("line {line}: {words}{NOT_READ}"));
+                self.report.fault(&format!("line {line}: {words}{NOT_READ}"));
                 Next::Abandoned
             }
         }
@@ -102,7 +102,7 @@ impl<'a, 'b> Reading<'a, 'b> {
     fn note_numbers(&mut self) {
         let name = if self.file == "-" { "standard input".to_string() } else { printable(self.file) };
         let note = format!("rig: {name}: no boards line, so boards are numbered by their rows\n");
-        self.night.notes += &note;
+        self.report.notes += &note;
     }
 
     fn numbered(&mut self, line: usize, words: &[&str]) -> Next {
@@ -142,9 +142,9 @@ impl<'a, 'b> Reading<'a, 'b> {
             Some(load) => {
                 load.in_error = true;
                 let said = format!("! line {line}: load {}: {words}", load.name);
-                self.night.line(said);
+                self.report.line(said);
             }
-            None => self.night.fault(&format!("line {line}: {words}")),
+            None => self.report.fault(&format!("line {line}: {words}")),
         }
         Next::Line
     }
@@ -152,7 +152,7 @@ impl<'a, 'b> Reading<'a, 'b> {
     fn next_load(&mut self, line: usize, words: &[&str]) -> Next {
         self.finish(false);
         if self.loads == LOADS {
-            self.night.fault(&format!("line {line}: more than {LOADS} loads{REST_NOT_READ}"));
+            self.report.fault(&format!("line {line}: more than {LOADS} loads{REST_NOT_READ}"));
             return Next::Abandoned;
         }
         self.begin(line, words);
@@ -200,19 +200,19 @@ impl<'a, 'b> Reading<'a, 'b> {
                 load.in_error = true;
                 let words =
                     format!("no line for board {} (boards: line {})", boards.called(number), boards.line());
-                self.night.line(format!("! line {}: load {}: {words}", load.line, load.name));
+                self.report.line(format!("! line {}: load {}: {words}", load.line, load.name));
             }
         }
         let cut_short = end_of_file && !load.in_error;
         if cut_short {
             load.in_error = true;
             let words = "the file ends without an end line; this load may be cut short";
-            self.night.line(format!("! load {}: {words}", load.name));
+            self.report.line(format!("! load {}: {words}", load.name));
         }
-        for words in self.night.corrections.lay_over(&mut load, boards) {
-            self.night.line(format!("! {words}"));
+        for words in self.report.corrections.lay_over(&mut load, boards) {
+            self.report.line(format!("! {words}"));
         }
-        self.night.show(&load, boards);
+        self.report.show(&load, boards);
         cut_short
     }
 
@@ -220,20 +220,20 @@ impl<'a, 'b> Reading<'a, 'b> {
         let end_is_missing = self.end.is_none() && self.boards.as_ref().is_some_and(Boards::are_named);
         let said = self.finish(end_is_missing);
         if end_is_missing && !said {
-            self.night.fault("the file ends without an end line");
+            self.report.fault("the file ends without an end line");
         }
         self.no_load();
     }
 
     fn no_load(&mut self) {
         if self.loads == 0 {
-            self.night.fault("no load in the file");
+            self.report.fault("no load in the file");
         }
     }
 
     /// The file could not be opened or read; the load that is open is lost.
     fn failed(&mut self, failure: &str) {
-        self.night.fault(failure);
+        self.report.fault(failure);
         if let Some(load) = &mut self.load {
             load.in_error = true;
         }
@@ -251,7 +251,7 @@ pub fn said_by_end(words: &[&str]) -> Result<u64, String> {
     }
 }
 
-impl Night<'_> {
+impl Report<'_> {
     /// Rehearses a load, prints its block or row, and counts it.
     fn show(&mut self, load: &Load, boards: &Boards) {
         let result = Rehearsed::of(load, self.options);

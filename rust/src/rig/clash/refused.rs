@@ -3,9 +3,10 @@
 use super::boards::Boards;
 use super::load::{Board, Load};
 use super::rehearsal::acknowledges;
-use crate::arbitration::outcome::{first_difference, least, Symbol};
+use crate::arbitration::outcome::{first_difference, least, Difference, Symbol};
 use crate::arbitration::{Message, MASTERS, MESSAGE_BYTES};
 use crate::refusal::{Reason, Refusal};
+use crate::rig::arguments::Command;
 use crate::rig::text::{counted, parted};
 
 /// The words in a block and those in a row, both without the number.
@@ -14,14 +15,16 @@ pub struct Words {
     pub row: String,
 }
 
-pub fn words(load: &Load, boards: &Boards, refusal: Refusal) -> Words {
+pub fn words(load: &Load, boards: &Boards, refusal: Refusal, command: Command) -> Words {
     let senders = load.senders();
     match refusal.reason {
         Reason::MasterCount => no_or_many(boards, senders.len()),
         Reason::MessageLength => length(boards, senders[refusal.place]),
         Reason::ReadMessage => read(boards, senders[refusal.place]),
         Reason::Acknowledges => acks(load, boards, &senders),
-        Reason::Undecided => undecided(load, boards, &senders),
+        Reason::Undecided if command == Command::Night => undecided(boards, parting(&senders)),
+        Reason::Undecided => undecided(boards, parting_from_the_least(load, &senders)),
+        Reason::NotAcknowledged => not_acknowledged(load),
         Reason::BoardsDoNotRise => pair("the boards do not rise", "the boards do not rise"),
         Reason::BoardLengths => pair("the lengths do not fit", "the lengths do not fit"),
         _ => pair("the reply needs more room than was lent", "too little room"),
@@ -91,30 +94,63 @@ fn acks(load: &Load, boards: &Boards, senders: &[(&Board, &Message)]) -> Words {
     )
 }
 
-/// The first board with the least message, and the first from which that one parts at an ending that the bus comes
-/// to: what each of them does there.
-fn undecided(load: &Load, boards: &Boards, senders: &[(&Board, &Message)]) -> Words {
+/// In a night: the first acknowledge that is 1. A night has no table.
+fn not_acknowledged(load: &Load) -> Words {
+    let line = load.acks.as_ref().map_or(0, |acks| acks.line);
+    let index = acknowledges(load).iter().position(|&ack| ack == 1).expect("an acknowledge that is 1");
+    let why = "and in a night every byte is acknowledged";
+    pair(format!("acknowledge {index} (line {line}) is 1, {why}"), "")
+}
+
+/// Two boards whose messages part at an ending, the one with the smaller message first, and where they do.
+type Parting<'a> = ((&'a Board, &'a Message), &'a Board, Difference);
+
+/// In a clash: the first board with the least message, and the first from which that one parts at an ending that the
+/// bus comes to.
+fn parting_from_the_least<'a>(load: &Load, senders: &[(&'a Board, &'a Message)]) -> Parting<'a> {
     let acks = acknowledges(load);
     let messages: Vec<Message> = senders.iter().map(|(_, message)| (*message).clone()).collect();
-    let (board, message) = senders[least(&messages).0];
-    let parts = |(other, others): &(&'_ Board, &Message)| {
-        let difference = first_difference(message, others)?;
-        difference.is_undecided(&acks).then_some((other.number, placed(boards, other), difference))
-    };
-    let (number, other, difference) = senders.iter().find_map(parts).expect("a message that parts there");
+    let least = senders[least(&messages).0];
+    let parting = parting_of(least, senders, |difference| difference.is_undecided(&acks));
+    parting.expect("a message that parts there")
+}
+
+/// In a night: the first board that ends or restarts where the message of another is the greater, and the first such.
+fn parting<'a>(senders: &[(&'a Board, &'a Message)]) -> Parting<'a> {
+    let is_smaller =
+        |difference: &Difference| difference.is_at_an_ending() && difference.one < difference.other;
+    let parting = senders.iter().find_map(|&sender| parting_of(sender, senders, is_smaller));
+    parting.expect("two messages that part at an ending")
+}
+
+/// A board and the first other that parts from it so.
+fn parting_of<'a>(
+    (board, message): (&'a Board, &'a Message),
+    senders: &[(&'a Board, &'a Message)],
+    so: impl Fn(&Difference) -> bool,
+) -> Option<Parting<'a>> {
+    senders.iter().find_map(|&(other, others)| {
+        let difference = first_difference(message, others).filter(&so)?;
+        Some(((board, message), other, difference))
+    })
+}
+
+/// What each of the two does where their messages part.
+fn undecided(boards: &Boards, ((board, message), other, difference): Parting) -> Words {
     let bytes = parted(&message.beginning(difference.place).parts);
     let does = if difference.one == Symbol::Stop { "ends with" } else { "restarts after" };
     let (goes_on, row) = match (difference.one, difference.other) {
         (Symbol::Stop, Symbol::Byte(next)) => {
-            (format!("goes on with {next:02X}"), (board.number, "begins", number))
+            (format!("goes on with {next:02X}"), (board.number, "begins", other.number))
         }
         (_, Symbol::Byte(next)) => {
-            (format!("goes on with {next:02X}"), (board.number, "restarts in", number))
+            (format!("goes on with {next:02X}"), (board.number, "restarts in", other.number))
         }
-        _ => ("ends".to_string(), (number, "begins", board.number)),
+        _ => ("ends".to_string(), (other.number, "begins", board.number)),
     };
+    let (placed, other) = (placed(boards, board), placed(boards, other));
     pair(
-        format!("{} {does} {bytes}, acknowledged, where {other} {goes_on}", placed(boards, board)),
+        format!("{placed} {does} {bytes}, acknowledged, where {other} {goes_on}"),
         format!("{} {} {}", boards.called(row.0), row.1, boards.called(row.2)),
     )
 }

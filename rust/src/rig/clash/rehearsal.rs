@@ -1,11 +1,12 @@
 //! The rehearsal of a load, and its verdict.
 
 use super::load::{Board, Load};
+use super::night::Rounds;
 use crate::arbitration::{arbitrate, Message, Run, LEVELS, MASTERS, MESSAGE_BYTES};
 use crate::module::Module;
 use crate::packed::Asked;
 use crate::refusal::Refusal;
-use crate::rig::arguments::Options;
+use crate::rig::arguments::{Command, Options};
 
 /// What became of the message that won.
 #[derive(Clone, Copy, PartialEq, Eq, Debug)]
@@ -35,6 +36,8 @@ pub enum Result<'a> {
     InError,
     Refused(Refusal),
     Rehearsed(Box<Rehearsal<'a>>),
+    /// In a night: every message is carried.
+    Carried(Rounds<'a>),
 }
 
 impl<'a> Result<'a> {
@@ -42,27 +45,33 @@ impl<'a> Result<'a> {
         if load.in_error {
             return Result::InError;
         }
-        if let Some(refusal) = load.not_laid {
-            return Result::Refused(refusal);
-        }
-        let senders = load.senders();
-        let messages: Vec<Message> = senders.iter().map(|(_, message)| (*message).clone()).collect();
-        let Asked { bytes, parts, counts, acks } = Asked::new(&messages, acknowledges(load));
-        let (mut carried, mut levels) = ([0; MESSAGE_BYTES], vec![0; options.room(LEVELS)]);
-        let mut table = [Module::power_up(0, 0); MASTERS];
-        match arbitrate(&bytes, &parts, &counts, &acks, &mut carried, &mut levels, &mut table) {
-            Ok(run) => Result::Rehearsed(Box::new(Rehearsal::new(load, senders, acks, run, table))),
-            Err(refusal) => Result::Refused(refusal),
+        let result = match load.not_laid {
+            Some(refusal) => Err(refusal),
+            None if options.command == Command::Night => Rounds::of(load).map(Result::Carried),
+            None => Rehearsal::of(load, options).map(|rehearsal| Result::Rehearsed(Box::new(rehearsal))),
+        };
+        result.unwrap_or_else(Result::Refused)
+    }
+
+    /// Of a load that is neither in error nor refused: what became of its messages, and whether that was expected.
+    pub fn verdict(&self) -> Option<(Verdict, bool)> {
+        match self {
+            Result::InError | Result::Refused(_) => None,
+            Result::Rehearsed(rehearsal) => Some((rehearsal.verdict, rehearsal.as_expected)),
+            Result::Carried(rounds) => Some((Verdict::Sent, rounds.as_expected)),
         }
     }
 
     /// Whether the load needs a look.
     pub fn is_marked(&self) -> bool {
-        match self {
-            Result::Rehearsed(rehearsal) => rehearsal.verdict != Verdict::Sent || !rehearsal.as_expected,
-            _ => true,
-        }
+        self.verdict() != Some((Verdict::Sent, true))
     }
+}
+
+/// What the library is asked of a load.
+pub fn asked(load: &Load) -> Asked {
+    let messages: Vec<Message> = load.senders().into_iter().map(|(_, message)| message.clone()).collect();
+    Asked::new(&messages, acknowledges(load))
 }
 
 /// The acknowledges given, or one 0 for each byte of the longest message.
@@ -73,17 +82,15 @@ pub fn acknowledges(load: &Load) -> Vec<u8> {
 }
 
 impl<'a> Rehearsal<'a> {
-    fn new(
-        load: &Load,
-        senders: Vec<(&'a Board, &'a Message)>,
-        acks: Vec<u8>,
-        run: Run,
-        table: [Module; MASTERS],
-    ) -> Rehearsal<'a> {
+    fn of(load: &'a Load, options: &Options) -> std::result::Result<Rehearsal<'a>, Refusal> {
+        let (senders, Asked { bytes, parts, counts, acks }) = (load.senders(), asked(load));
+        let (mut carried, mut levels) = ([0; MESSAGE_BYTES], vec![0; options.room(LEVELS)]);
+        let mut table = [Module::power_up(0, 0); MASTERS];
+        let run = arbitrate(&bytes, &parts, &counts, &acks, &mut carried, &mut levels, &mut table)?;
         let mut rehearsal = Rehearsal { senders, acks, run, table, verdict: Verdict::Cut, as_expected: true };
         rehearsal.verdict = rehearsal.judged();
         rehearsal.as_expected = rehearsal.meets(load);
-        rehearsal
+        Ok(rehearsal)
     }
 
     fn judged(&self) -> Verdict {

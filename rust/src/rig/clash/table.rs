@@ -4,6 +4,7 @@ use super::boards::Boards;
 use super::load::Load;
 use super::refused;
 use super::rehearsal::{Rehearsal, Result, Verdict};
+use crate::rig::arguments::Command;
 use crate::rig::text::beginning;
 
 pub fn header() -> String {
@@ -18,13 +19,14 @@ pub fn row(load: &Load, boards: &Boards, result: &Result) -> String {
     let ((winner, bytes), verdict) = match result {
         Result::InError => (nobody(), "ERROR: not rehearsed".to_string()),
         Result::Refused(refusal) => {
-            let words = refused::words(load, boards, *refusal).row;
+            let words = refused::words(load, boards, *refusal, Command::Clash).row;
             (nobody(), format!("REFUSED {}: {words}", refusal.number()))
         }
         Result::Rehearsed(rehearsal) => {
             let won = if rehearsal.verdict == Verdict::Undecided { nobody() } else { won(boards, rehearsal) };
             (won, verdict(load, boards, rehearsal))
         }
+        Result::Carried(_) => unreachable!("a night has no table"),
     };
     line(mark, &heading, &winner, &bytes, &verdict) + "\n"
 }

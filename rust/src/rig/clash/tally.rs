@@ -38,15 +38,16 @@ impl Tally {
                     self.first_refusal = refusal.number();
                 }
             }
-            Result::Rehearsed(rehearsal) => {
+            Result::Rehearsed(_) | Result::Carried(_) => {
                 self.without_acks += usize::from(load.acks.is_none());
-                match (rehearsal.verdict, rehearsal.as_expected) {
-                    (Verdict::Sent, true) => self.sent += 1,
-                    (Verdict::Sent, false) => self.not_expected += 1,
-                    (Verdict::Cut, _) => self.cut += 1,
-                    (Verdict::Undecided, _) => self.undecided += 1,
-                }
             }
+        }
+        match result.verdict() {
+            None => {}
+            Some((Verdict::Sent, true)) => self.sent += 1,
+            Some((Verdict::Sent, false)) => self.not_expected += 1,
+            Some((Verdict::Cut, _)) => self.cut += 1,
+            Some((Verdict::Undecided, _)) => self.undecided += 1,
         }
         if result.is_marked() {
             self.mark(&load.name);

@@ -15,9 +15,9 @@ pub fn proper(random: &mut Random, command: &str, source: Source, file: &[u8]) -
     }
     if command == "clash" {
         parts.extend(shown(random));
-        if random.once_in(8) {
-            parts.push(vec![another(random, file)]);
-        }
+    }
+    if ["clash", "night"].contains(&command) && random.once_in(8) {
+        parts.push(vec![another(random, file)]);
     }
     if command == "decode" && random.once_in(3) {
         let modes: &[&str] = match random.below(8) {
@@ -27,7 +27,7 @@ pub fn proper(random: &mut Random, command: &str, source: Source, file: &[u8]) -
         };
         parts.extend(modes.iter().map(|mode| vec![mode.as_bytes().to_vec()]));
     }
-    if command != "session" && command != "dump" && random.once_in(4) {
+    if ["clash", "decode", "encode"].contains(&command) && random.once_in(4) {
         parts.push(vec![b"--room".to_vec(), room(random, command).into_bytes()]);
     }
     let turn = random.below(parts.len().max(1));
@@ -125,7 +125,7 @@ pub fn any(random: &mut Random, file: &[u8], tonight: &[u8]) -> Vec<Vec<u8>> {
             11 => tonight.to_vec(),
             12..=14 => random.pick(&["0", "23", "4096", "x", "99999999999999999999", "5x"]).into(),
             15 => b"-".to_vec(),
-            16 => random.pick(&["clash", "decode", "dump", "encode", "session", "help"]).into(),
+            16 => random.pick(&["clash", "decode", "dump", "encode", "night", "session", "help"]).into(),
             17 => [file, b"/below"].concat(),
             18 => [file, b".missing"].concat(),
             19 => random.pick(&["/", ".", "..", ""]).into(),
@@ -145,7 +145,8 @@ fn first(random: &mut Random) -> Vec<u8> {
         3..=6 => b"decode".to_vec(),
         7 => b"dump".to_vec(),
         8..=11 => b"encode".to_vec(),
-        12..=15 => b"session".to_vec(),
+        12..=13 => b"night".to_vec(),
+        14..=16 => b"session".to_vec(),
         _ => b"clash".to_vec(),
     }
 }

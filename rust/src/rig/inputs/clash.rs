@@ -1,19 +1,33 @@
-//! Files for `rig clash`, with named boards mostly; `numbered` has the old form.
+//! Files of loads, with named boards mostly; `numbered` has the old form.
 
 use super::page::Page;
 use crate::arbitration::outcome::least;
-use crate::arbitration::{Message, MASTERS, MESSAGE_BYTES};
+use crate::arbitration::{Message, Request, MASTERS, MESSAGE_BYTES};
 use crate::compare::arbitration::draw_request;
+use crate::compare::night::draw_night;
 use crate::random::Random;
 
 mod lines;
 mod numbered;
 
-/// One to four loads; now and then none, or many.
+/// How the messages and acknowledges of a load are drawn.
+type Draw = fn(&mut Random) -> Request;
+
+/// For `rig clash`.
 pub fn text(random: &mut Random) -> Vec<u8> {
+    loads(random, draw_request)
+}
+
+/// For `rig night`.
+pub fn night(random: &mut Random) -> Vec<u8> {
+    loads(random, draw_night)
+}
+
+/// One to four loads; now and then none, or many.
+fn loads(random: &mut Random, request: Draw) -> Vec<u8> {
     match random.below(256) {
         0 if random.once_in(16) => return far_too_many(random),
-        1..=63 => return numbered::text(random),
+        1..=63 => return numbered::text(random, request),
         _ => {}
     }
     let mut page = Page::new(random);
@@ -29,7 +43,9 @@ pub fn text(random: &mut Random) -> Vec<u8> {
         if page.random.once_in(40 * spoiling) {
             page.one_of("bord x; board q 90; ack all; boards q; end; expect q 1/1");
         }
-        load(&mut page, &names, spoiling, index);
+        lines::load(&mut page, spoiling, index);
+        let drawn = draw(page.random, names.len(), request);
+        load(&mut page, &names, spoiling, drawn);
     }
     lines::end(&mut page, loads, spoiling);
     page.finish()
@@ -54,9 +70,8 @@ struct Load {
     acks: Vec<u8>,
 }
 
-fn load(page: &mut Page, names: &[String], spoiling: usize, index: usize) {
-    lines::load(page, spoiling, index);
-    let mut load = draw(page.random, names.len());
+/// The lines of a load after its first, spoilt once in `spoiling`.
+fn load(page: &mut Page, names: &[String], spoiling: usize, mut load: Load) {
     if page.random.once_in(spoiling) {
         spoil_messages(page.random, &mut load.messages);
     }
@@ -83,8 +98,8 @@ fn load(page: &mut Page, names: &[String], spoiling: usize, index: usize) {
 }
 
 /// Messages that share beginnings, for some of the boards.
-fn draw(random: &mut Random, boards: usize) -> Load {
-    let asked = draw_request(random);
+fn draw(random: &mut Random, boards: usize, request: Draw) -> Load {
+    let asked = request(random);
     let mut messages: Vec<Option<Message>> =
         asked.messages.iter().take(boards).map(|message| Some(message.clone())).collect();
     while messages.len() < boards {
@@ -117,14 +132,24 @@ fn too_long(random: &mut Random) -> Message {
     Message { parts: vec![0x5A; length].chunks(part).map(<[u8]>::to_vec).collect() }
 }
 
-/// What the least message and the acknowledges make likely, or something else.
-fn expect(page: &mut Page, names: &[String], load: &Load, spoiling: usize) {
+/// The board and the fraction that the least message and the acknowledges make likely.
+fn likely(load: &Load) -> (usize, String) {
     let messages: Vec<Message> = load.messages.iter().flatten().cloned().collect();
     let least = messages.get(least(&messages).0);
     let winner = load.messages.iter().position(|message| message.as_ref() == least && least.is_some());
     let length = least.map_or(0, Message::length);
     let carried = load.acks.iter().position(|&ack| ack == 1).map_or(length, |place| (place + 1).min(length));
-    let (mut board, mut fraction) = (winner.unwrap_or(0), format!("{carried}/{length}"));
+    (winner.unwrap_or(0), format!("{carried}/{length}"))
+}
+
+/// What is likely, the whole message of any board, or something else.
+fn expect(page: &mut Page, names: &[String], load: &Load, spoiling: usize) {
+    let (mut board, mut fraction) = likely(load);
+    if page.random.once_in(6) {
+        board = page.random.below(load.messages.len());
+        let length = load.messages[board].as_ref().map_or(0, Message::length);
+        fraction = format!("{length}/{length}");
+    }
     if page.random.once_in(spoiling) {
         board = page.random.below(MASTERS);
         fraction = page

@@ -1,4 +1,4 @@
-//! Files of corrections for `rig clash --corrections`, mostly for loads and boards of the other file.
+//! Files of corrections, for `--corrections`, mostly for loads and boards of the other file.
 
 use super::damage;
 use super::page::Page;

@@ -1,13 +1,12 @@
 //! Files of the old form, whose boards are numbered by their rows.
 
-use super::too_long;
+use super::{too_long, Draw};
 use crate::arbitration::{Message, MASTERS, MESSAGE_BYTES};
-use crate::compare::arbitration::draw_request;
 use crate::random::Random;
 use crate::rig::inputs::page::Page;
 
 /// One to four loads; now and then none, or many.
-pub fn text(random: &mut Random) -> Vec<u8> {
+pub fn text(random: &mut Random, request: Draw) -> Vec<u8> {
     let mut page = Page::new(random);
     let loads = match page.random.below(24) {
         0 => 0,
@@ -16,16 +15,16 @@ pub fn text(random: &mut Random) -> Vec<u8> {
     };
     let spoiling = page.random.pick(&[3, 10, 1000]);
     for _ in 0..loads {
-        load(&mut page, spoiling);
+        load(&mut page, spoiling, request);
     }
     page.finish()
 }
 
 /// A load, spoilt once in `spoiling`.
-fn load(page: &mut Page, spoiling: usize) {
+fn load(page: &mut Page, spoiling: usize, request: Draw) {
     let name = name(page.random);
     page.line(&["load", &name]);
-    let asked = draw_request(page.random);
+    let asked = request(page.random);
     let mut boards = asked.messages.clone();
     let mut acks = (!page.random.once_in(3)).then(|| asked.acks.iter().map(|ack| ack.to_string()).collect());
     if page.random.once_in(spoiling) {
