@@ -9,6 +9,7 @@ use crate::lines::tell;
 use rig_lines::console::begin;
 use rig_lines::console::put_count;
 use rig_lines::console::put_form;
+use rig_lines::numbers::more;
 use rig_lines::store;
 use text::put_bytes;
 use trace::MAX_SAMPLES;
@@ -43,8 +44,8 @@ fn out_of_order(stamps: &[u32]) -> u64 {
 }
 
 fn counted(count: u64, counts: bool) -> u64 {
-    if counts & (count < u64::MAX) {
-        return count + 1;
+    if counts {
+        return more(count);
     }
     count
 }

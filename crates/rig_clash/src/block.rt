@@ -8,7 +8,6 @@ use crate::kept;
 use crate::list;
 use crate::list::Style;
 use crate::load::Load;
-use crate::order;
 use crate::outcome::Outcome;
 use crate::phrase;
 use crate::refusals;
@@ -144,8 +143,7 @@ pub(crate) fn put(
     let shown = put_outcome(page, header, kept, load, outcome);
     let next = put_registers(page, shown, kept, load, outcome, options.registers);
     if options.wave {
-        let parts = order::parts(kept, load, outcome.winner);
-        return wave::put(page, next, kept, parts, outcome, carried, levels);
+        return wave::put(page, next, kept, load, outcome, carried, levels);
     }
     next
 }

@@ -29,6 +29,7 @@ mod refusals; // refusals.rt: refusals in words
 mod registers; // registers.rt: the registers of a board
 mod request; // request.rt: what the library is asked
 mod rounds; // rounds.rt: the block of a load in a night
+mod rows; // rows.rt: the rows of a waveform
 mod seen; // seen.rt: the names of the loads to see
 mod slots; // slots.rt: the corrections as they are kept
 mod sources; // sources.rt: the file of an argument

@@ -25,7 +25,7 @@ const END: usize = 3;
 pub(crate) const LEVELS: usize = START + (BYTE + END) * MAX_LENGTH;
 
 // How many levels are recorded for so many bytes, in so many parts.
-fn recorded(bytes: usize, parts: usize) -> usize {
+pub(crate) fn recorded(bytes: usize, parts: usize) -> usize {
     START + BYTE * least(bytes, MAX_LENGTH) + END * least(parts, MAX_LENGTH)
 }
 

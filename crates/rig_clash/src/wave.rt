@@ -1,18 +1,27 @@
 // The bytes carried with their acknowledges, and the lines of the bus as text, a character a sample, as logic
-// analysers print them.
+// analysers print them, in rows with the bytes and bits above and the losers below.
+use crate::columns::pad;
 use crate::kept;
 use crate::kept::ACKS;
 use crate::kept::ACKS_AT;
+use crate::load::Load;
+use crate::order;
 use crate::order::byte_at;
 use crate::outcome::Outcome;
 use crate::phrase;
 use crate::phrase::either;
 use crate::phrase::line_of;
+use crate::rows;
+use crate::rows::Next;
 use rig_lines::console::PAGE;
 use rig_lines::console::begin;
-use rig_lines::parts::bytes;
+use rig_lines::numbers::least;
 use text::put_byte;
 use text::put_bytes;
+use text::put_hex_byte;
+
+// The columns in front of a row.
+const FRONT: usize = 10;
 
 // The words about a byte with an acknowledge: all but the first have a comma, or a `/` where the bus restarted.
 fn form_of(ack: u8, part: u8, i: usize) -> usize {
@@ -92,22 +101,259 @@ fn mark_at(levels: &[u8], at: usize, sda: bool) -> u8 {
     b'?'
 }
 
-fn put_marks(page: &mut [u8; PAGE], at: usize, levels: &[u8], sda: bool) -> usize {
+// The marks from one recorded level to another.
+fn put_marks(
+    page: &mut [u8; PAGE],
+    at: usize,
+    levels: &[u8],
+    from: usize,
+    end: usize,
+    sda: bool,
+) -> usize {
     let mut next = at;
-    let mut i = 0;
-    while i < levels.len() {
+    let mut i = from;
+    while i < end {
         next = put_byte(page, next, mark_at(levels, i, sda));
         i += 1;
     }
     next
 }
 
-// A line of the bus.
-fn put_signal(page: &mut [u8; PAGE], at: usize, name: &[u8], levels: &[u8], sda: bool) -> usize {
+// A line begins: words in front of the first column.
+fn put_front(page: &mut [u8; PAGE], at: usize, words: &[u8], number: usize) -> usize {
     let start = begin(page, at);
-    let word = put_bytes(page, start, name);
-    let marks = put_marks(page, word, levels, sda);
+    let word = phrase::put_numbers(page, start, words, [number as u64, 0, 0, 0]);
+    pad(page, start, word, FRONT)
+}
+
+// The text at a column of a line whose first column is at a position.
+fn put_at(page: &mut [u8; PAGE], origin: usize, at: usize, column: usize, text: &[u8]) -> usize {
+    let next = pad(page, origin, at, column);
+    put_bytes(page, next, text)
+}
+
+fn put_start(page: &mut [u8; PAGE], at: usize, first: usize) -> usize {
+    put_bytes(page, at, line_of(b" S", least(first, 1)))
+}
+
+// What follows a byte, by its column.
+fn put_next(
+    page: &mut [u8; PAGE],
+    origin: usize,
+    at: usize,
+    parts: &[u8],
+    byte: usize,
+    count: usize,
+    column: usize,
+) -> usize {
+    match rows::next_of(parts, byte, count) {
+        Next::Byte => at,
+        Next::Restart => put_at(page, origin, at, shifted(column, rows::BYTE + 1), b"Sr"),
+        Next::Stop => put_at(page, origin, at, shifted(column, rows::BYTE + 2), b"P"),
+    }
+}
+
+fn shifted(column: usize, by: usize) -> usize {
+    least(column, usize::MAX - by) + by
+}
+
+// A byte above its columns, and what follows it.
+fn put_name(
+    page: &mut [u8; PAGE],
+    origin: usize,
+    at: usize,
+    carried: &[u8],
+    parts: &[u8],
+    first: usize,
+    byte: usize,
+    count: usize,
+) -> usize {
+    let column = rows::column_of(parts, first, byte);
+    let bar = put_at(page, origin, at, column, b"|");
+    let name = put_hex_byte(page, bar, byte_at(carried, byte));
+    put_next(page, origin, name, parts, byte, count, column)
+}
+
+// The bytes of a row above their columns.
+fn put_names(
+    page: &mut [u8; PAGE],
+    at: usize,
+    carried: &[u8],
+    parts: &[u8],
+    first: usize,
+    count: usize,
+) -> usize {
+    let origin = put_front(page, at, b"  byte #", first);
+    let mut next = put_start(page, origin, first);
+    let end = rows::end_of(first, count);
+    let mut byte = first;
+    while byte < end {
+        next = put_name(page, origin, next, carried, parts, first, byte, count);
+        byte += 1;
+    }
+    put_byte(page, next, b'\n')
+}
+
+// The bits of a byte, with a space between.
+fn put_bits_of(page: &mut [u8; PAGE], at: usize, byte: u8, ack: u8) -> usize {
+    let mut next = at;
+    let mut bit: usize = 0;
+    while bit < rows::BITS {
+        next = put_gap(page, next, bit);
+        next = put_byte(page, next, rows::bit_symbol(byte, ack, bit));
+        bit += 1;
+    }
+    next
+}
+
+fn put_gap(page: &mut [u8; PAGE], at: usize, bit: usize) -> usize {
+    if bit == 0 {
+        return at;
+    }
+    put_byte(page, at, b' ')
+}
+
+// The bits of the bytes of a row, by their columns.
+fn put_bits(
+    page: &mut [u8; PAGE],
+    at: usize,
+    carried: &[u8],
+    acks: &[u8],
+    parts: &[u8],
+    first: usize,
+    count: usize,
+) -> usize {
+    let origin = put_front(page, at, b"", 0);
+    let mut next = origin;
+    let end = rows::end_of(first, count);
+    let mut byte = first;
+    while byte < end {
+        let column = pad(page, origin, next, rows::column_of(parts, first, byte));
+        next = put_bits_of(page, column, byte_at(carried, byte), byte_at(acks, byte));
+        byte += 1;
+    }
+    put_byte(page, next, b'\n')
+}
+
+// A line of the bus in a row.
+fn put_signal(
+    page: &mut [u8; PAGE],
+    at: usize,
+    name: &[u8],
+    levels: &[u8],
+    from: usize,
+    end: usize,
+    sda: bool,
+) -> usize {
+    let word = put_front(page, at, name, 0);
+    let marks = put_marks(page, word, levels, from, end, sda);
     put_byte(page, marks, b'\n')
+}
+
+// The level past the last of a row.
+fn end_level(parts: &[u8], end: usize, outcome: Outcome) -> usize {
+    if end >= outcome.count {
+        return outcome.levels;
+    }
+    rows::level_of(parts, end)
+}
+
+// The board that lost, by its number and its name.
+pub(crate) fn put_board(
+    page: &mut [u8; PAGE],
+    at: usize,
+    kept: &[u8],
+    named: bool,
+    board: usize,
+) -> usize {
+    let words = line_of(b"#\n# $", named as usize);
+    phrase::put(page, at, kept, words, board, [board as u64, 0, 0, 0])
+}
+
+// A board that lost at a byte of a row, under the bit.
+fn put_loser(
+    page: &mut [u8; PAGE],
+    at: usize,
+    kept: &[u8],
+    load: Load,
+    outcome: Outcome,
+    parts: &[u8],
+    first: usize,
+    board: usize,
+) -> usize {
+    if !rows::lost_in(
+        load,
+        outcome,
+        board,
+        first,
+        rows::end_of(first, outcome.count),
+    ) {
+        return at;
+    }
+    let origin = put_front(page, at, b"  lost", 0);
+    let column = rows::lost_column(load, outcome, parts, board, first);
+    let mark = put_at(page, origin, origin, column, b"^ ");
+    let who = put_board(page, mark, kept, load.named, board);
+    put_byte(page, who, b'\n')
+}
+
+fn put_losers(
+    page: &mut [u8; PAGE],
+    at: usize,
+    kept: &[u8],
+    load: Load,
+    outcome: Outcome,
+    parts: &[u8],
+    first: usize,
+) -> usize {
+    let mut next = at;
+    let mut board: usize = 0;
+    while board < load.boards {
+        next = put_loser(page, next, kept, load, outcome, parts, first, board);
+        board += 1;
+    }
+    next
+}
+
+// The two lines of the bus in a row.
+fn put_signals(
+    page: &mut [u8; PAGE],
+    at: usize,
+    levels: &[u8],
+    parts: &[u8],
+    outcome: Outcome,
+    first: usize,
+) -> usize {
+    let from = rows::first_level(parts, first);
+    let end = end_level(parts, rows::end_of(first, outcome.count), outcome);
+    let scl = put_signal(page, at, b"  scl", levels, from, end, false);
+    put_signal(page, scl, b"  sda", levels, from, end, true)
+}
+
+// All rows, by their first bytes.
+fn put_rows(
+    page: &mut [u8; PAGE],
+    at: usize,
+    kept: &[u8],
+    load: Load,
+    outcome: Outcome,
+    parts: &[u8],
+    carried: &[u8],
+    levels: &[u8],
+) -> usize {
+    let acks = kept::part(kept, ACKS_AT, ACKS);
+    let rows = rows::count_of(outcome.count);
+    let mut next = at;
+    let mut row: usize = 0;
+    while row < rows {
+        let first = rows::first_of(row);
+        next = put_names(page, next, carried, parts, first, outcome.count);
+        next = put_bits(page, next, carried, acks, parts, first, outcome.count);
+        next = put_signals(page, next, levels, parts, outcome, first);
+        next = put_losers(page, next, kept, load, outcome, parts, first);
+        row += 1;
+    }
+    next
 }
 
 // What the bus carried in a rehearsal; parts: those of a message that won.
@@ -115,16 +361,15 @@ pub(crate) fn put(
     page: &mut [u8; PAGE],
     at: usize,
     kept: &[u8],
-    parts: &[u8],
+    load: Load,
     outcome: Outcome,
     carried: &[u8],
     levels: &[u8],
 ) -> usize {
     let acks = kept::part(kept, ACKS_AT, ACKS);
+    let parts = order::parts(kept, load, outcome.winner);
     let word = phrase::put_line(page, at, kept, b"  carried ", 0, [0; 4]);
     let said = put_carried(page, word, carried, acks, parts, outcome.count);
     let next = put_byte(page, said, b'\n');
-    let size = bytes(outcome.levels, levels);
-    let scl = put_signal(page, next, b"  scl:", &levels[..size], false);
-    put_signal(page, scl, b"  sda:", &levels[..size], true)
+    put_rows(page, next, kept, load, outcome, parts, carried, levels)
 }
