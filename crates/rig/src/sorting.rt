@@ -1,4 +1,5 @@
 // rig sort: the samples of a capture in the order of their stamps, one a line.
+use crate::decoding::crossed::falls;
 use crate::decoding::crossed::stamp_at;
 use crate::decoding::refuse;
 use crate::decoding::samples::Reading;
@@ -31,13 +32,10 @@ fn first_with(stamps: &[u32], stamp: u32) -> usize {
 
 // How many samples have a stamp that is not above that of the one before them.
 fn out_of_order(stamps: &[u32]) -> u64 {
-    let mut last: u64 = 0;
     let mut count: u64 = 0;
     let mut i: usize = 0;
     while i < stamps.len() {
-        let next = stamps[i] as u64 + 1;
-        count = counted(count, next <= last);
-        last = next;
+        count = counted(count, falls(stamps, i));
         i += 1;
     }
     count

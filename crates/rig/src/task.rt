@@ -92,7 +92,7 @@ pub(crate) fn none(page: &mut [u8]) -> usize {
     say(
         page,
         0,
-        b"error expected a command: clash, decode, dump, encode, night, session or sort",
+        b"error expected a command: clash, decode, draw, dump, encode, night, session or sort",
     )
 }
 
@@ -104,6 +104,6 @@ pub(crate) fn unknown(page: &mut [u8], word: &[u8]) -> usize {
     put_bytes(
         page,
         quoted,
-        b": expected clash, decode, dump, encode, night, session or sort\n",
+        b": expected clash, decode, draw, dump, encode, night, session or sort\n",
     )
 }

@@ -1,10 +1,9 @@
-// The words of the command line: the command, clash or night, is the first.
+// The words of the command line: the command, clash, night or draw, is the first.
 use crate::forms;
 use crate::phrase::place_of;
 use crate::problem;
 use crate::problem::Problem;
 use crate::words::is_dash;
-use check::same;
 use rig_lines::numbers::is_number;
 use rig_lines::numbers::value;
 use rig_lines::options::is_option;
@@ -22,9 +21,16 @@ const CORRECTIONS: usize = 4;
 
 const TRACE: usize = 5;
 
+const SVG: usize = 6;
+
+// The commands, by their places in their list.
+const NIGHT: usize = 1;
+
+const DRAW: usize = 2;
+
 pub(crate) struct Arguments {
-    // the command is night
-    pub(crate) night: bool,
+    command: usize,
+    pub(crate) svg: bool,
     // whether an argument names a file of loads
     file: bool,
     // which one names the file of corrections; 0: none does
@@ -48,15 +54,16 @@ pub(crate) struct Arguments {
 
 fn option_of(word: &[u8]) -> usize {
     place_of(
-        b"--table\n--registers\n--wave\n--room\n--corrections\n--trace",
+        b"--table\n--registers\n--wave\n--room\n--corrections\n--trace\n--svg",
         word,
     )
 }
 
 impl Arguments {
-    fn none(night: bool) -> Arguments {
+    fn none(command: usize) -> Arguments {
         Arguments {
-            night,
+            command,
+            svg: false,
             file: false,
             corrections: 0,
             trace: 0,
@@ -126,16 +133,15 @@ impl Arguments {
         self
     }
 
-    // A night takes corrections alone.
     fn with_option(self, word: &[u8]) -> Arguments {
         let option = option_of(word);
-        if self.night & (option != CORRECTIONS) {
-            return self.trouble_with(forms::NIGHT_OPTION, word);
+        if !takes(self.command, option) {
+            return self.trouble_with(unknown_form(self.command), word);
         }
-        self.with_known(option, word)
+        self.with_known(option)
     }
 
-    fn with_known(mut self, option: usize, word: &[u8]) -> Arguments {
+    fn with_known(mut self, option: usize) -> Arguments {
         match option {
             TABLE => {
                 self.table = true;
@@ -161,19 +167,41 @@ impl Arguments {
                 self.wants_trace = true;
                 self
             }
-            _ => self.trouble_with(forms::OPTION, word),
+            _ => {
+                self.svg = true;
+                self
+            }
         }
     }
 
     // A word that no option takes.
-    fn with_other(self, word: &[u8]) -> Arguments {
+    fn with_other(self, argument: usize, word: &[u8]) -> Arguments {
         if is_option(word) {
             return self.with_option(word);
+        }
+        if self.draws() & self.file {
+            return self.with_load(argument, word);
         }
         if is_dash(word) {
             return self.with_file().with_input();
         }
         self.with_file()
+    }
+
+    // The load that is drawn.
+    fn with_load(self, argument: usize, word: &[u8]) -> Arguments {
+        if self.trace > 0 {
+            return self.trouble_with(forms::AFTER_LOAD, word);
+        }
+        self.with_trace(argument)
+    }
+
+    pub(crate) fn nights(self) -> bool {
+        self.command == NIGHT
+    }
+
+    pub(crate) fn draws(self) -> bool {
+        self.command == DRAW
     }
 
     fn with_word(self, argument: usize, word: &[u8]) -> Arguments {
@@ -186,7 +214,7 @@ impl Arguments {
         if self.wants_trace {
             return self.with_trace(argument);
         }
-        self.with_other(word)
+        self.with_other(argument, word)
     }
 
     fn with_argument(self, argument: usize) -> Arguments {
@@ -215,6 +243,9 @@ impl Arguments {
         if !self.file {
             return self.trouble(forms::NO_FILE);
         }
+        if self.draws() & (self.trace == 0) {
+            return self.trouble(forms::NO_DRAWN);
+        }
         self.alone()
     }
 
@@ -230,14 +261,31 @@ impl Arguments {
     }
 }
 
-fn is_night() -> bool {
+fn command() -> usize {
     let mut space = io::buffer();
     let n = os::arg(1, &mut space);
-    same(&space[..n], b"night")
+    place_of(b"clash\nnight\ndraw", &space[..n])
+}
+
+// Whether a command takes an option: a night takes corrections alone, and draw takes --svg too, which clash does not.
+fn takes(command: usize, option: usize) -> bool {
+    match command {
+        NIGHT => option == CORRECTIONS,
+        DRAW => (option == CORRECTIONS) | (option == SVG),
+        _ => option < SVG,
+    }
+}
+
+fn unknown_form(command: usize) -> usize {
+    match command {
+        NIGHT => forms::NIGHT_OPTION,
+        DRAW => forms::DRAW_OPTION,
+        _ => forms::OPTION,
+    }
 }
 
 pub(crate) fn parse() -> Arguments {
-    let mut given = Arguments::none(is_night());
+    let mut given = Arguments::none(command());
     let count = os::arg_count();
     let mut i: usize = 2;
     while i < count {

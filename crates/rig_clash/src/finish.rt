@@ -14,6 +14,7 @@ use crate::recording;
 use crate::rounds;
 use crate::state::Options;
 use crate::state::State;
+use crate::svg;
 use crate::table;
 use crate::tally::Tally;
 use arbitration_rules::MAX_LENGTH;
@@ -89,7 +90,7 @@ fn tallied(kept: &mut [u8; ROOM], state: State, verdict: Verdict, expected: bool
     noted(kept, state.with_tally(tally), is_seen(verdict, expected))
 }
 
-// What is asked for of a load: its trace, its row of the table or its block.
+// What is asked for of a load: its drawing, its trace, its row of the table or its block.
 fn put(
     page: &mut [u8; PAGE],
     at: usize,
@@ -100,7 +101,10 @@ fn put(
     carried: &[u8],
     levels: &[u8],
 ) -> usize {
-    if options.trace > 0 {
+    if options.svg {
+        return svg::put(page, at, kept, load, outcome, carried, levels);
+    }
+    if (options.trace > 0) & !options.draws {
         return recording::put(page, at, levels, outcome);
     }
     if options.table {
@@ -158,7 +162,7 @@ fn progress(page: &mut [u8; PAGE], state: State) -> State {
     state.moved(at)
 }
 
-// What is done with a load: one in error is only counted where a trace is asked for, and other loads are only read.
+// What is done with a load: where a trace or a drawing is asked for, other loads are only read.
 enum Course {
     Night,
     Rehearsed,
@@ -171,13 +175,22 @@ fn course_of(kept: &[u8], state: State) -> Course {
     if state.options.trace == 0 {
         return untraced(state.load.broken, state.options.night);
     }
+    let asked = recording::is_asked(kept, state.options.trace);
     if state.load.broken {
-        return Course::Counted;
+        return broken(asked & state.options.draws & !state.options.svg);
     }
-    if recording::is_asked(kept, state.options.trace) {
+    if asked {
         return Course::Rehearsed;
     }
     Course::Read
+}
+
+// A load in error has its block where it is to be drawn in text.
+fn broken(shown: bool) -> Course {
+    if shown {
+        return Course::Unrehearsed;
+    }
+    Course::Counted
 }
 
 fn untraced(broken: bool, night: bool) -> Course {

@@ -115,6 +115,12 @@ pub(crate) const TRACE: usize = 54;
 
 pub(crate) const NIGHT_OPTION: usize = 55;
 
+pub(crate) const DRAW_OPTION: usize = 56;
+
+pub(crate) const NO_DRAWN: usize = 57;
+
+pub(crate) const AFTER_LOAD: usize = 58;
+
 // No words.
 pub(crate) const NONE: usize = 0;
 
@@ -157,7 +163,8 @@ fn put_of_argument(page: &mut [u8; PAGE], at: usize, form: usize, word: &[u8]) -
         expected a file, or - for standard input\n- stands twice: standard input is read once\n\
         unknown option $ for clash\nan argument is longer than 4096 bytes\n\
         --table goes with neither --registers nor --wave\n\
-        --trace goes with none of --table, --registers and --wave\nunknown option $ for night";
+        --trace goes with none of --table, --registers and --wave\nunknown option $ for night\n\
+        unknown option $ for draw\nexpected a load after the file\nunexpected $ after the load";
     put_words(page, at, line_of(words, form), word, 0, 0, 0)
 }
 

@@ -1,6 +1,6 @@
 // rig_clash, run by `rig clash`: rehearses each load of the files, where boards start to send at once; by `rig night`
-// until every message is carried. The last line of output says how it went: `ok`, `look`, `refused` with a number, or
-// `error`.
+// until every message is carried; by `rig draw` to draw one load. The last line of output says how it went: `ok`,
+// `look`, `refused` with a number, or `error`.
 mod arguments; // arguments.rt: the words of the command line
 mod block; // block.rt: the block of a load
 mod board; // board.rt: a board in the block of a load
@@ -35,6 +35,7 @@ mod slots; // slots.rt: the corrections as they are kept
 mod sources; // sources.rt: the file of an argument
 mod state; // state.rt: what is known while the files are read
 mod statements; // statements.rt: the statements of a file
+mod svg; // svg.rt: the drawing of a load
 mod table; // table.rt: the table
 mod tally; // tally.rt: how the loads went, and the last two lines
 mod wave; // wave.rt: what the bus carried
@@ -134,13 +135,21 @@ fn met(page: &mut [u8; PAGE], state: State) -> State {
     complaints::fault_about(page, state, forms::UNKNOWN_LOAD, &space[..n])
 }
 
+// All files, or the one that has the load that is drawn: the word after it is no file.
+fn run_all(page: &mut [u8; PAGE], kept: &mut [u8; ROOM], state: State, first: usize) -> State {
+    if state.options.draws {
+        return with_file(page, kept, state, first, false);
+    }
+    run_files(page, kept, state, first)
+}
+
 // All files, and then the corrections that are for none of their loads. No file of loads is read where the corrections
 // are at fault.
 fn run_loads(page: &mut [u8; PAGE], kept: &mut [u8; ROOM], state: State) -> State {
     if state.tally.has_fault() {
         return state;
     }
-    let done = run_files(page, kept, state, next_file(2));
+    let done = run_all(page, kept, state, next_file(2));
     let read = corrected::unmet(page, kept, done, done.corrections);
     met(page, read)
 }
@@ -149,10 +158,12 @@ fn options_of(given: Arguments) -> Options {
     Options {
         table: given.table,
         registers: given.registers,
-        wave: given.wave,
+        wave: given.wave | given.draws(),
         room: given.room,
         trace: given.trace,
-        night: given.night,
+        night: given.nights(),
+        draws: given.draws(),
+        svg: given.svg,
     }
 }
 

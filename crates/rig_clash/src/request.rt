@@ -1,4 +1,4 @@
-// What the library is asked about a load: the messages of the boards that are not silent, in the order of their numbers.
+// What the library is asked about a load: the messages of the boards that are not silent, by their numbers.
 use crate::kept;
 use crate::kept::ACKS;
 use crate::kept::ACKS_AT;

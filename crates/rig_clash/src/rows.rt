@@ -22,8 +22,13 @@ pub(crate) fn before(n: usize) -> usize {
     if n > 0 { n - 1 } else { 0 }
 }
 
-pub(crate) fn after(n: usize) -> usize {
-    if n < usize::MAX { n + 1 } else { n }
+fn after(n: usize) -> usize {
+    shifted(n, 1)
+}
+
+// A number and another, as far as there are numbers.
+pub(crate) fn shifted(n: usize, by: usize) -> usize {
+    least(n, usize::MAX - by) + by
 }
 
 // One number less another, and no less than 0.
@@ -52,10 +57,15 @@ pub(crate) fn column_of(parts: &[u8], first: usize, byte: usize) -> usize {
 
 // The byte past the last of a row.
 pub(crate) fn end_of(first: usize, count: usize) -> usize {
-    if first < usize::MAX - ROW {
-        return least(first + ROW, count);
+    least(shifted(first, ROW), count)
+}
+
+// The level past the last of a row that ends before a byte.
+pub(crate) fn end_level(parts: &[u8], end: usize, outcome: Outcome) -> usize {
+    if end >= outcome.count {
+        return outcome.levels;
     }
-    count
+    level_of(parts, end)
 }
 
 // How many rows there are for so many bytes, and the first byte of each.
@@ -109,8 +119,10 @@ pub(crate) fn lost_column(
 ) -> usize {
     let seat = outcome.seat_of(load, board);
     let position = seat.position as usize;
-    let bit = 2 * (position % BITS);
-    least(column_of(parts, first, position / BITS), usize::MAX - bit) + bit
+    shifted(
+        column_of(parts, first, position / BITS),
+        2 * (position % BITS),
+    )
 }
 
 // How many boards lost at a byte from one on, before another.

@@ -19,6 +19,9 @@ pub(crate) struct Options {
     pub(crate) trace: usize,
     // each load is a night
     pub(crate) night: bool,
+    // that load is drawn, in text or as an SVG document
+    pub(crate) draws: bool,
+    pub(crate) svg: bool,
 }
 
 // The file that is being read.

@@ -13,6 +13,7 @@ use crate::phrase::either;
 use crate::phrase::line_of;
 use crate::rows;
 use crate::rows::Next;
+use crate::rows::shifted;
 use rig_lines::console::PAGE;
 use rig_lines::console::begin;
 use rig_lines::numbers::least;
@@ -90,15 +91,17 @@ fn mark(before: bool, high: bool) -> u8 {
     steady(high)
 }
 
+// A line at a recorded level; past them all it is low.
+pub(crate) fn is_high_at(levels: &[u8], at: usize, sda: bool) -> bool {
+    is_high(byte_at(levels, at), sda)
+}
+
 fn mark_at(levels: &[u8], at: usize, sda: bool) -> u8 {
-    if at < levels.len() {
-        let high = is_high(levels[at], sda);
-        if at == 0 {
-            return steady(high);
-        }
-        return mark(is_high(levels[at - 1], sda), high);
+    let high = is_high_at(levels, at, sda);
+    if at == 0 {
+        return steady(high);
     }
-    b'?'
+    mark(is_high_at(levels, rows::before(at), sda), high)
 }
 
 // The marks from one recorded level to another.
@@ -151,10 +154,6 @@ fn put_next(
         Next::Restart => put_at(page, origin, at, shifted(column, rows::BYTE + 1), b"Sr"),
         Next::Stop => put_at(page, origin, at, shifted(column, rows::BYTE + 2), b"P"),
     }
-}
-
-fn shifted(column: usize, by: usize) -> usize {
-    least(column, usize::MAX - by) + by
 }
 
 // A byte above its columns, and what follows it.
@@ -250,22 +249,8 @@ fn put_signal(
     put_byte(page, marks, b'\n')
 }
 
-// The level past the last of a row.
-fn end_level(parts: &[u8], end: usize, outcome: Outcome) -> usize {
-    if end >= outcome.count {
-        return outcome.levels;
-    }
-    rows::level_of(parts, end)
-}
-
 // The board that lost, by its number and its name.
-pub(crate) fn put_board(
-    page: &mut [u8; PAGE],
-    at: usize,
-    kept: &[u8],
-    named: bool,
-    board: usize,
-) -> usize {
+fn put_board(page: &mut [u8; PAGE], at: usize, kept: &[u8], named: bool, board: usize) -> usize {
     let words = line_of(b"#\n# $", named as usize);
     phrase::put(page, at, kept, words, board, [board as u64, 0, 0, 0])
 }
@@ -325,7 +310,7 @@ fn put_signals(
     first: usize,
 ) -> usize {
     let from = rows::first_level(parts, first);
-    let end = end_level(parts, rows::end_of(first, outcome.count), outcome);
+    let end = rows::end_level(parts, rows::end_of(first, outcome.count), outcome);
     let scl = put_signal(page, at, b"  scl", levels, from, end, false);
     put_signal(page, scl, b"  sda", levels, from, end, true)
 }

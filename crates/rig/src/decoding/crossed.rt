@@ -24,10 +24,14 @@ pub(crate) fn stamp_at(stamps: &[u32], place: usize) -> u32 {
     }
 }
 
-// A sample is no more one of those that rise from the one before it on, and are below a stamp.
+// The stamp of a sample is not above that of the one before it.
+pub(crate) fn falls(stamps: &[u32], place: usize) -> bool {
+    (place > 0) & (stamp_at(stamps, place) <= stamp_at(stamps, before(place)))
+}
+
+// A sample is no more one of those that rise, and are below a stamp.
 fn ends(stamps: &[u32], place: usize, limit: u32) -> bool {
-    (stamp_at(stamps, place) >= limit)
-        | (stamp_at(stamps, place) <= stamp_at(stamps, before(place)))
+    (stamp_at(stamps, place) >= limit) | falls(stamps, place)
 }
 
 fn before(place: usize) -> usize {

@@ -6,25 +6,16 @@ use Rattle.rig.proofs.sorting.out_of_order.Statement.{statement}
 use Rattle.rig.proofs.sorting.out_of_order.Tie as tie
 
 abbrev Inv-loop : tie.InvT-loop
-Inv-loop stamps last₀ count₀ i₀ last count i = Unit {0}
+Inv-loop stamps count₀ i₀ count i = Unit {0}
 
 abbrev μ-loop : tie.MeasureT-loop
-μ-loop stamps last₀ count₀ i₀ last count i = length stamps - i
+μ-loop stamps count₀ i₀ count i = length stamps - i
 
 loop-holds : tie.Need-loop-holds Inv-loop μ-loop
 loop-holds c = search needs
 
-mul-next : tie.Need-mul-next Inv-loop μ-loop
-mul-next c = search needs
-
-shared-slice-read-next : tie.Need-shared-slice-read-next Inv-loop μ-loop
-shared-slice-read-next c = search needs
-
-cast-next : tie.Need-cast-next Inv-loop μ-loop
-cast-next c = search needs
-
-add-next : tie.Need-add-next Inv-loop μ-loop
-add-next c = search needs
+falls-requires : tie.Need-falls-requires Inv-loop μ-loop
+falls-requires c κs = search needs
 
 counted-requires : tie.Need-counted-requires Inv-loop μ-loop
 counted-requires c κs = search needs
@@ -48,10 +39,7 @@ out-of-order-spec =
     Inv-loop
     μ-loop
     loop-holds
-    mul-next
-    shared-slice-read-next
-    cast-next
-    add-next
+    falls-requires
     counted-requires
     add-i
     loop-less

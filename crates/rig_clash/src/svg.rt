@@ -1,0 +1,492 @@
+// The drawing of a load, an SVG document: the rows and columns of its waveform.
+use crate::kept;
+use crate::kept::ACKS;
+use crate::kept::ACKS_AT;
+use crate::load::Load;
+use crate::order;
+use crate::order::byte_at;
+use crate::outcome::LEVELS;
+use crate::outcome::Outcome;
+use crate::phrase::line_of;
+use crate::phrase::put_numbers;
+use crate::rows;
+use crate::rows::Next;
+use crate::rows::shifted;
+use crate::wave::is_high_at;
+use arbitration_rules::MAX_MASTERS;
+use rig_lines::console::PAGE;
+use rig_lines::console::begin;
+use rig_lines::numbers::least;
+use text::put_byte;
+use text::put_bytes;
+
+// The first column, the width of each, and the most that a row has.
+const LEFT: usize = 80;
+
+const STEP: usize = 12;
+
+const WIDEST: usize = 65;
+
+// So many columns at least, that the heading and the name of who lost in the last end before the border.
+const LEAST: usize = 45;
+
+// The first row, the height of each, and what each board that lost in it adds.
+const TOP: usize = 30;
+
+const HEIGHT: usize = 112;
+
+const LOSER: usize = 14;
+
+// Below the top of a row: the bytes, the bits, and the names of the two lines.
+const NAMES: usize = 12;
+
+const BITS: usize = 30;
+
+const SCL: usize = 54;
+
+const SDA: usize = 88;
+
+const LOST: usize = 110;
+
+fn x_of(column: usize) -> usize {
+    LEFT + STEP * least(column, LEVELS)
+}
+
+// A byte of a text: what XML keeps for itself by its name, and nothing but ASCII.
+fn put_escaped_byte(page: &mut [u8; PAGE], at: usize, b: u8) -> usize {
+    match b {
+        b'&' => put_bytes(page, at, b"&amp;"),
+        b'<' => put_bytes(page, at, b"&lt;"),
+        b'>' => put_bytes(page, at, b"&gt;"),
+        _ => put_byte(page, at, ascii(b)),
+    }
+}
+
+fn ascii(b: u8) -> u8 {
+    if b < 128 { b } else { b'?' }
+}
+
+fn put_escaped(page: &mut [u8; PAGE], at: usize, text: &[u8]) -> usize {
+    let mut next = at;
+    let mut i = 0;
+    while i < text.len() {
+        next = put_escaped_byte(page, next, text[i]);
+        i += 1;
+    }
+    next
+}
+
+// The name of the load, and its title.
+fn put_title(page: &mut [u8; PAGE], at: usize, kept: &[u8]) -> usize {
+    let name = put_escaped(page, at, kept::name(kept));
+    let title = kept::title(kept);
+    if title.len() == 0 {
+        return name;
+    }
+    let space = put_byte(page, name, b' ');
+    put_escaped(page, space, title)
+}
+
+// A line with numbers in it.
+fn put_line(page: &mut [u8; PAGE], at: usize, words: &[u8], numbers: [u64; 4]) -> usize {
+    let start = begin(page, at);
+    put_numbers(page, start, words, numbers)
+}
+
+// A text begins at a place.
+fn put_begin(page: &mut [u8; PAGE], at: usize, x: usize, y: usize) -> usize {
+    put_line(
+        page,
+        at,
+        b"<text x=\"#\" y=\"#\">",
+        [x as u64, y as u64, 0, 0],
+    )
+}
+
+fn put_end(page: &mut [u8; PAGE], at: usize) -> usize {
+    put_bytes(page, at, b"</text>\n")
+}
+
+// A text, with a number in it.
+fn put_text(
+    page: &mut [u8; PAGE],
+    at: usize,
+    x: usize,
+    y: usize,
+    words: &[u8],
+    number: usize,
+) -> usize {
+    let start = put_begin(page, at, x, y);
+    let text = put_numbers(page, start, words, [number as u64, 0, 0, 0]);
+    put_end(page, text)
+}
+
+// The document begins: how wide and high it is, and what it shows.
+fn put_head(page: &mut [u8; PAGE], at: usize, kept: &[u8], width: usize, height: usize) -> usize {
+    let numbers = [width as u64, height as u64, width as u64, height as u64];
+    let root = put_line(
+        page,
+        at,
+        b"<svg xmlns=\"http://www.w3.org/2000/svg\" width=\"#\" height=\"#\" viewBox=\"0 0 # #\" \
+        font-family=\"monospace\" font-size=\"12\">\n<title>",
+        numbers,
+    );
+    let title = put_title(page, root, kept);
+    let words =
+        b"</title>\n<rect width=\"100%\" height=\"100%\" fill=\"white\"/>\n<text x=\"8\" y=\"20\">";
+    let text = put_bytes(page, title, words);
+    let again = put_title(page, text, kept);
+    put_end(page, again)
+}
+
+// The bit where a board lost at a byte of a row, shaded.
+fn put_shade(
+    page: &mut [u8; PAGE],
+    at: usize,
+    load: Load,
+    outcome: Outcome,
+    parts: &[u8],
+    first: usize,
+    board: usize,
+    y: usize,
+) -> usize {
+    if !rows::lost_in(
+        load,
+        outcome,
+        board,
+        first,
+        rows::end_of(first, outcome.count),
+    ) {
+        return at;
+    }
+    let x = x_of(rows::lost_column(load, outcome, parts, board, first));
+    let numbers = [x as u64, shifted(y, 16) as u64, 0, 0];
+    let rect = put_line(page, at, b"<rect x=\"#\" y=\"#\" ", numbers);
+    put_bytes(
+        page,
+        rect,
+        b"width=\"24\" height=\"80\" fill=\"#f9e79f\"/>\n",
+    )
+}
+
+fn put_shades(
+    page: &mut [u8; PAGE],
+    at: usize,
+    load: Load,
+    outcome: Outcome,
+    parts: &[u8],
+    first: usize,
+    y: usize,
+) -> usize {
+    let mut next = at;
+    let mut board: usize = 0;
+    while board < load.boards {
+        next = put_shade(page, next, load, outcome, parts, first, board, y);
+        board += 1;
+    }
+    next
+}
+
+// A bit of a byte at a column.
+fn put_bit(
+    page: &mut [u8; PAGE],
+    at: usize,
+    byte: u8,
+    ack: u8,
+    bit: usize,
+    column: usize,
+    y: usize,
+) -> usize {
+    let x = x_of(shifted(column, 2 * least(bit, rows::BITS)));
+    let start = put_begin(page, at, x, shifted(y, BITS));
+    let symbol = put_byte(page, start, rows::bit_symbol(byte, ack, bit));
+    put_end(page, symbol)
+}
+
+fn put_bits(page: &mut [u8; PAGE], at: usize, byte: u8, ack: u8, column: usize, y: usize) -> usize {
+    let mut next = at;
+    let mut bit: usize = 0;
+    while bit < rows::BITS {
+        next = put_bit(page, next, byte, ack, bit, column, y);
+        bit += 1;
+    }
+    next
+}
+
+// What follows a byte, by its column.
+fn put_next(page: &mut [u8; PAGE], at: usize, next: Next, column: usize, y: usize) -> usize {
+    let x = x_of(shifted(column, rows::BYTE + 1));
+    let below = shifted(y, NAMES);
+    match next {
+        Next::Byte => at,
+        Next::Restart => put_text(page, at, x, below, b"Sr", 0),
+        Next::Stop => put_text(page, at, x, below, b"P", 0),
+    }
+}
+
+// A byte, its bits, and what follows it.
+fn put_cell(
+    page: &mut [u8; PAGE],
+    at: usize,
+    carried: &[u8],
+    acks: &[u8],
+    parts: &[u8],
+    first: usize,
+    byte: usize,
+    y: usize,
+) -> usize {
+    let column = rows::column_of(parts, first, byte);
+    let value = byte_at(carried, byte);
+    let name = put_text(
+        page,
+        at,
+        x_of(column),
+        shifted(y, NAMES),
+        b"%",
+        value as usize,
+    );
+    let bits = put_bits(page, name, value, byte_at(acks, byte), column, y);
+    let next = rows::next_of(parts, byte, carried.len());
+    put_next(page, bits, next, column, y)
+}
+
+fn put_cells(
+    page: &mut [u8; PAGE],
+    at: usize,
+    carried: &[u8],
+    acks: &[u8],
+    parts: &[u8],
+    first: usize,
+    y: usize,
+) -> usize {
+    let end = rows::end_of(first, carried.len());
+    let mut next = put_front(page, at, first, y);
+    let mut byte = first;
+    while byte < end {
+        next = put_cell(page, next, carried, acks, parts, first, byte, y);
+        byte += 1;
+    }
+    next
+}
+
+// The first byte's index, and START in the first row.
+fn put_front(page: &mut [u8; PAGE], at: usize, first: usize, y: usize) -> usize {
+    let below = shifted(y, NAMES);
+    let index = put_text(page, at, 8, below, b"byte #", first);
+    if first > 0 {
+        return index;
+    }
+    put_text(page, index, x_of(1), below, b"S", 0)
+}
+
+// A line's height at a level.
+fn y_at(levels: &[u8], at: usize, sda: bool, y: usize) -> usize {
+    if is_high_at(levels, at, sda) {
+        return y;
+    }
+    shifted(y, 18)
+}
+
+// From one column to the next: down or up where the line changed, and on.
+fn put_step(
+    page: &mut [u8; PAGE],
+    at: usize,
+    levels: &[u8],
+    from: usize,
+    i: usize,
+    sda: bool,
+    y: usize,
+) -> usize {
+    let height = y_at(levels, i, sda, y);
+    let x = x_of(shifted(rows::less(i, from), 1)) as u64;
+    if (i <= from) | (y_at(levels, rows::before(i), sda, y) == height) {
+        return put_numbers(page, at, b" H#", [x, 0, 0, 0]);
+    }
+    put_numbers(page, at, b" V# H#", [height as u64, x, 0, 0])
+}
+
+fn put_steps(
+    page: &mut [u8; PAGE],
+    at: usize,
+    levels: &[u8],
+    from: usize,
+    end: usize,
+    sda: bool,
+    y: usize,
+) -> usize {
+    let mut next = at;
+    let mut i = from;
+    while i < end {
+        next = put_step(page, next, levels, from, i, sda, y);
+        i += 1;
+    }
+    next
+}
+
+// A line of the bus in a row, high at a height.
+fn put_path(
+    page: &mut [u8; PAGE],
+    at: usize,
+    levels: &[u8],
+    from: usize,
+    end: usize,
+    sda: bool,
+    y: usize,
+) -> usize {
+    let height = y_at(levels, from, sda, y) as u64;
+    let start = put_line(page, at, b"<path d=\"M# #", [LEFT as u64, height, 0, 0]);
+    let steps = put_steps(page, start, levels, from, end, sda, y);
+    put_bytes(
+        page,
+        steps,
+        b"\" fill=\"none\" stroke=\"#1b4f72\" stroke-width=\"2\"/>\n",
+    )
+}
+
+// The two lines of the bus in a row.
+fn put_signals(
+    page: &mut [u8; PAGE],
+    at: usize,
+    levels: &[u8],
+    from: usize,
+    end: usize,
+    y: usize,
+) -> usize {
+    let scl = put_text(page, at, 8, shifted(y, SCL), b"SCL", 0);
+    let first = put_path(page, scl, levels, from, end, false, shifted(y, 40));
+    let sda = put_text(page, first, 8, shifted(y, SDA), b"SDA", 0);
+    put_path(page, sda, levels, from, end, true, shifted(y, 74))
+}
+
+// A board that lost: its number, its name, and `lost`.
+fn put_who(page: &mut [u8; PAGE], at: usize, kept: &[u8], load: Load, board: usize) -> usize {
+    let words = line_of(b"#\n# ", load.named as usize);
+    let number = put_numbers(page, at, words, [board as u64, 0, 0, 0]);
+    let name = put_escaped(page, number, named(kept, load, board));
+    put_bytes(page, name, b" lost")
+}
+
+fn named(kept: &[u8], load: Load, board: usize) -> &[u8] {
+    if load.named {
+        return kept::board_name(kept, board);
+    }
+    &kept[..0]
+}
+
+fn put_loser(
+    page: &mut [u8; PAGE],
+    at: usize,
+    kept: &[u8],
+    load: Load,
+    board: usize,
+    column: usize,
+    y: usize,
+) -> usize {
+    let start = put_begin(page, at, x_of(column), y);
+    let who = put_who(page, start, kept, load, board);
+    put_end(page, who)
+}
+
+// The boards that lost in a row, one below the other.
+fn put_losers(
+    page: &mut [u8; PAGE],
+    at: usize,
+    kept: &[u8],
+    load: Load,
+    outcome: Outcome,
+    parts: &[u8],
+    first: usize,
+    top: usize,
+) -> usize {
+    let end = rows::end_of(first, outcome.count);
+    let mut next = at;
+    let mut y = shifted(top, LOST);
+    let mut board: usize = 0;
+    while board < load.boards {
+        if rows::lost_in(load, outcome, board, first, end) {
+            let column = rows::lost_column(load, outcome, parts, board, first);
+            next = put_loser(page, next, kept, load, board, column, y);
+            y = shifted(y, LOSER);
+        }
+        board += 1;
+    }
+    next
+}
+
+fn put_row(
+    page: &mut [u8; PAGE],
+    at: usize,
+    kept: &[u8],
+    load: Load,
+    outcome: Outcome,
+    carried: &[u8],
+    levels: &[u8],
+    first: usize,
+    y: usize,
+) -> usize {
+    let acks = kept::part(kept, ACKS_AT, ACKS);
+    let parts = order::parts(kept, load, outcome.winner);
+    let shades = put_shades(page, at, load, outcome, parts, first, y);
+    let cells = put_cells(page, shades, carried, acks, parts, first, y);
+    let end = rows::end_level(parts, rows::end_of(first, outcome.count), outcome);
+    let from = rows::first_level(parts, first);
+    let lines = put_signals(page, cells, levels, from, end, y);
+    put_losers(page, lines, kept, load, outcome, parts, first, y)
+}
+
+// The top of the row below.
+fn below(load: Load, outcome: Outcome, first: usize, y: usize) -> usize {
+    let lost = rows::losers(load, outcome, first, rows::end_of(first, outcome.count));
+    shifted(y, HEIGHT + LOSER * least(lost, MAX_MASTERS))
+}
+
+fn put_rows(
+    page: &mut [u8; PAGE],
+    at: usize,
+    kept: &[u8],
+    load: Load,
+    outcome: Outcome,
+    carried: &[u8],
+    levels: &[u8],
+) -> usize {
+    let rows = rows::count_of(outcome.count);
+    let mut next = at;
+    let mut y = TOP;
+    let mut row: usize = 0;
+    while row < rows {
+        let first = rows::first_of(row);
+        next = put_row(page, next, kept, load, outcome, carried, levels, first, y);
+        y = below(load, outcome, first, y);
+        row += 1;
+    }
+    next
+}
+
+fn width_of(outcome: Outcome) -> usize {
+    let columns = shifted(rows::less(outcome.levels, LEAST), LEAST);
+    100 + LEFT + STEP * least(columns, WIDEST)
+}
+
+fn height_of(load: Load, outcome: Outcome) -> usize {
+    let lost = least(rows::losers(load, outcome, 0, outcome.count), MAX_MASTERS);
+    TOP + HEIGHT * least(rows::count_of(outcome.count), LEVELS) + LOSER * lost
+}
+
+// The drawing of a load that was not refused.
+pub(crate) fn put(
+    page: &mut [u8; PAGE],
+    at: usize,
+    kept: &[u8],
+    load: Load,
+    outcome: Outcome,
+    carried: &[u8],
+    levels: &[u8],
+) -> usize {
+    if outcome.is_refused() {
+        return at;
+    }
+    let head = put_head(page, at, kept, width_of(outcome), height_of(load, outcome));
+    let bytes = kept::part(carried, 0, outcome.count);
+    let rows = put_rows(page, head, kept, load, outcome, bytes, levels);
+    put_line(page, rows, b"</svg>\n", [0; 4])
+}
