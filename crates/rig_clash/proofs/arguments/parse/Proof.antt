@@ -10,8 +10,8 @@ Inv-loop given₀ count i₀ given i = Unit {0}
 abbrev μ-loop : tie.MeasureT-loop
 μ-loop given₀ count i₀ given i = count - i
 
-is-night-requires : tie.Need-is-night-requires Inv-loop μ-loop
-is-night-requires c κs = search needs
+command-requires : tie.Need-command-requires Inv-loop μ-loop
+command-requires c κs = search needs
 
 none-requires : tie.Need-none-requires Inv-loop μ-loop
 none-requires c κs = search needs
@@ -52,7 +52,7 @@ parse-spec =
     (tie.spec
     Inv-loop
     μ-loop
-    is-night-requires
+    command-requires
     none-requires
     arg-count-requires
     loop-holds

@@ -1,17 +1,14 @@
 -- `rig_clash::wave::put_marks` is safe and ends.
 use Prim.Native.Nat.{_-_}
 use borrow.Author.Needs.{needs}
-use lib.ListN.{length}
 use Rattle.rig_clash.proofs.wave.put_marks.Statement.{statement}
 use Rattle.rig_clash.proofs.wave.put_marks.Tie as tie
 
--- `rig_clash::wave::put_marks` is safe and ends.
-
 abbrev Inv-loop : tie.InvT-loop
-Inv-loop page₀ at levels sda next₀ i₀ page next i = Unit {0}
+Inv-loop page₀ at levels from end sda next₀ i₀ page next i = Unit {0}
 
 abbrev μ-loop : tie.MeasureT-loop
-μ-loop page₀ at levels sda next₀ i₀ page next i = length levels - i
+μ-loop page₀ at levels from end sda next₀ i₀ page next i = end - i
 
 loop-holds : tie.Need-loop-holds Inv-loop μ-loop
 loop-holds c = search needs
