@@ -184,7 +184,11 @@ pub fn noted(mut seen: Seen, usi: Usi, i: usize) -> Seen
     seen.scl = seen.scl | lines.scl;
     seen.sda = seen.sda | lines.sda;
     if i < MAX_MASTERS {
-        seen.al[i] = usi.usictl1 & usi_registers::USIAL == usi_registers::USIAL;
+        let lost = usi.usictl1 & usi_registers::USIAL == usi_registers::USIAL;
+        // only where it changes: a byte just stored delays the next copy of the array
+        if seen.al[i] != lost {
+            seen.al[i] = lost;
+        }
     }
     seen
 }

@@ -1,6 +1,7 @@
 // The USI's registers: their bits and fields by position, the set-up, and what a write to USICNT does to the flags.
 // Crates usi_i2c and usi_spi have the rules of edges, ticks and lines, and crate usi composes them.
 ghost use mathlib.Core.Path.{_≡_};
+ghost use Prim.Native.Nat.{_+_, _*_};
 ghost use Rattle.usi_registers.specs.Rules.{divider, counting as countingRule};
 ghost use Rattle.usi_registers.specs.Rules.{fits as fitsRule, fitsSpi, countFlags, cleared as clearedRule};
 ghost use Rattle.usi_registers.specs.Rules.{outputEnable, transparent as transparentRule};
@@ -72,18 +73,30 @@ pub fn counting(usicnt: u8) -> bool
     usicnt & USICNTX != 0
 }
 
-// The set-up is that of I2C mode, out of reset.
+// Four registers as a word, USICTL0 lowest.
+fn word(usictl0: u8, usictl1: u8, usickctl: u8, usicnt: u8) -> u32
+    ensures { λ r. ⌜ r ≡ (usicnt * 256 + usickctl) * 65536 + (usictl1 * 256 + usictl0) ⌝ }
+{
+    let control = (usictl1 as u32) * 256 + usictl0 as u32;
+    let clock = (usicnt as u32) * 256 + usickctl as u32;
+    clock * 65536 + control
+}
+
+// The bits of I2C's set-up in that word, and those of them that are 1.
+const SET_UP: u32 = (USI16B as u32) * 16777216
+    + (USICKPL as u32) * 65536
+    + ((USII2C | USICKPH) as u32) * 256
+    + (USIPE7 | USIPE6 | USILSB | USISWRST) as u32;
+
+const SET_UP_ONES: u32 = (USICKPL as u32) * 65536
+    + (USII2C as u32) * 256
+    + (USIPE7 | USIPE6) as u32;
+
+// The set-up is that of I2C mode, out of reset: its eight bits tested at once.
 pub fn fits(usictl0: u8, usictl1: u8, usickctl: u8, usicnt: u8) -> bool
     ensures { λ r. ⌜ r ≡ fitsRule usictl0 usictl1 usickctl usicnt ⌝ }
 {
-    (usictl1 & USII2C == USII2C)
-        & (usickctl & USICKPL == USICKPL)
-        & (usictl1 & USICKPH == 0)
-        & (usictl0 & USILSB == 0)
-        & (usicnt & USI16B == 0)
-        & (usictl0 & USIPE6 == USIPE6)
-        & (usictl0 & USIPE7 == USIPE7)
-        & (usictl0 & USISWRST == 0)
+    word(usictl0, usictl1, usickctl, usicnt) & SET_UP == SET_UP_ONES
 }
 
 // The set-up is that of SPI, out of reset.
