@@ -1,5 +1,7 @@
 pub mod Walk
 pub mod Lent
+pub mod Handed
+pub mod Params
 pub mod Module
 pub mod Inputs
 pub mod PassLaws
