@@ -2,10 +2,10 @@
 -- to write to. It says nothing of the crate.
 --     Arg, Lists, Holds    an argument; at which lists the slices lent stand; under which lifetimes and names
 --     items                what a walk has of the slices among its parameters, or among those that it passes on
---     entered, exited      from the entry of a function to what its walk has, and from there to its exit
+--     entering, exiting      from the entry of a function to what its walk has, and from there to its exit
 --     hands, hands-last    a call: what is lent on comes back at its last lists
 -- Assumes `Given`.
-use mathlib.Core.Path.{_≡_, refl, _∙_}
+use mathlib.Core.Path.{refl, _∙_}
 use Prim.Native.Nat.{ℕ}
 use mathlib.Core.List.{List, [], _∷_, _++_}
 use lib.ListN.{length}
@@ -291,14 +291,14 @@ module _ {M : Type 1} (𝓤 : URA M) (H : Heap 𝓤) (A : Atoms 𝓤) (W : Given
   abbrev Owning : SProp 𝓤
   Owning = sep 𝓤 (sem 𝓤 H A (tokens args (own args))) (sem 𝓤 H A (owned args lists (own args)))
 
-  pub entered : ent 𝓤 Owning (⋆ 𝓤 H A (items args lists))
-  entered =
+  pub entering : ent 𝓤 Owning (⋆ 𝓤 H A (items args lists))
+  entering =
       via 𝓤 (sem 𝓤 H A (held args lists))
       (qed W (‵ (tokens args (own args)) ∷ ‵ (owned args lists (own args)) ∷ []) ∵ gathers ! args lists $ done !)
       (parted 𝓤 H A args lists)
 
-  pub exited : ent 𝓤 (⋆ 𝓤 H A (items args lists)) Owning
-  exited =
+  pub exiting : ent 𝓤 (⋆ 𝓤 H A (items args lists)) Owning
+  exiting =
       via 𝓤 (sem 𝓤 H A (held args lists)) (bundled 𝓤 H A args lists)
       (qed W (‵ (held args lists) ∷ []) ∵ scatters ! args lists $ frame ! $ done !)
 
@@ -308,7 +308,7 @@ module _ {M : Type 1} (𝓤 : URA M) (H : Heap 𝓤) (A : Atoms 𝓤) (W : Given
       (sep 𝓤 (sep 𝓤 (sem 𝓤 H A (tokens args (own args)))
       (sep 𝓤 (sem 𝓤 H A (owned args lists (own args))) (sem 𝓤 H A (R .own r (type .val r ∷ []))))) (fact 𝓤 φ))
   ending {R} type r is said =
-      via 𝓤 Owning exited
+      via 𝓤 Owning exiting
       (qed W (‵ (tokens args (own args)) ∷ ‵ (owned args lists (own args)) ∷ []) ∵ says ! said $ frame ! $
       have ! type r is $ move ! (1 ∷ 0 ∷ []) $ done !)
 
