@@ -2,7 +2,7 @@
 -- to write to. It says nothing of the crate.
 --     Arg, Lists, Holds    an argument; at which lists the slices lent stand; under which lifetimes and names
 --     items                what a walk has of the slices among its parameters, or among those that it passes on
---     entering, exiting      from the entry of a function to what its walk has, and from there to its exit
+--     entering, ending     from the entry of a function to what its walk has, and from there to its exit
 --     hands, hands-last    a call: what is lent on comes back at its last lists
 -- Assumes `Given`.
 use mathlib.Core.Path.{refl, _∙_}
@@ -287,6 +287,14 @@ module _ {M : Type 1} {𝓤 : URA M} {H : Heap 𝓤} {A : Atoms 𝓤} {K : Type 
       move t (4 ∷ 3 ∷ 2 ∷ []) $ takes-back t more (lists .1) (last .1) (names .1) (long .1) soaks (λ same.
       move t (2 ∷ 0 ∷ []) $ fjoin t $ move t (1 ∷ 0 ∷ []) $ fjoin t $ k (kept ∙ long .0, same)))
 
+-- what holds is had beside anything
+module _ {M : Type 1} (𝓤 : URA M) where
+  pub certain : {φ : Type 0} → φ → ent 𝓤 (emp 𝓤) (fact 𝓤 φ)
+  certain {φ} x = factI 𝓤 φ (emp 𝓤) x
+
+  pub beside : {P Q : SProp 𝓤} → ent 𝓤 (emp 𝓤) Q → ent 𝓤 P (sep 𝓤 P Q)
+  beside {P} {Q} holds = via 𝓤 (sep 𝓤 (emp 𝓤) P) (emp∗ 𝓤 P) (via 𝓤 (sep 𝓤 Q P) (monoL 𝓤 P holds) (comm∗ 𝓤 Q P))
+
 module _ {M : Type 1} (𝓤 : URA M) (H : Heap 𝓤) (A : Atoms 𝓤) (W : Given 𝓤 H A) (args : List Arg) (lists : Lists args) where
   abbrev Owning : SProp 𝓤
   Owning = sep 𝓤 (sem 𝓤 H A (tokens args (own args))) (sem 𝓤 H A (owned args lists (own args)))
@@ -297,30 +305,16 @@ module _ {M : Type 1} (𝓤 : URA M) (H : Heap 𝓤) (A : Atoms 𝓤) (W : Given
       (qed W (‵ (tokens args (own args)) ∷ ‵ (owned args lists (own args)) ∷ []) ∵ gathers ! args lists $ done !)
       (parted 𝓤 H A args lists)
 
-  pub exiting : ent 𝓤 (⋆ 𝓤 H A (items args lists)) Owning
-  exiting =
-      via 𝓤 (sem 𝓤 H A (held args lists)) (bundled 𝓤 H A args lists)
-      (qed W (‵ (held args lists) ∷ []) ∵ scatters ! args lists $ frame ! $ done !)
-
   -- with a result, and what is said of it and of the lists
-  pub ending : {R : RattleType} (type : ByValue R) (r : R .Denot) → Is R r (type .val r ∷ []) → {φ : Type 0} → φ
+  pub ending : {R : RattleType} (type : ByValue R) (r : R .Denot) → Is R r (type .val r ∷ [])
+      → {said : SProp 𝓤} → ent 𝓤 (emp 𝓤) said
       → ent 𝓤 (⋆ 𝓤 H A (items args lists))
       (sep 𝓤 (sep 𝓤 (sem 𝓤 H A (tokens args (own args)))
-      (sep 𝓤 (sem 𝓤 H A (owned args lists (own args))) (sem 𝓤 H A (R .own r (type .val r ∷ []))))) (fact 𝓤 φ))
-  ending {R} type r is said =
-      via 𝓤 Owning exiting
-      (qed W (‵ (tokens args (own args)) ∷ ‵ (owned args lists (own args)) ∷ []) ∵ says ! said $ frame ! $
-      have ! type r is $ move ! (1 ∷ 0 ∷ []) $ done !)
-
--- what a callee asks beside
-module _ {M : Type 1} (𝓤 : URA M) {P : SProp 𝓤} where
-  pub asks-nothing : ent 𝓤 P (sep 𝓤 P (emp 𝓤))
-  asks-nothing = via 𝓤 (sep 𝓤 (emp 𝓤) P) (emp∗ 𝓤 P) (comm∗ 𝓤 (emp 𝓤) P)
-
-  pub asks : {φ : Type 0} → φ → ent 𝓤 P (sep 𝓤 P (fact 𝓤 φ))
-  asks {φ} x =
-      via 𝓤 (sep 𝓤 (emp 𝓤) P) (emp∗ 𝓤 P)
-      (via 𝓤 (sep 𝓤 (fact 𝓤 φ) P) (monoL 𝓤 P (factI 𝓤 φ (emp 𝓤) x)) (comm∗ 𝓤 (fact 𝓤 φ) P))
+      (sep 𝓤 (sem 𝓤 H A (owned args lists (own args))) (sem 𝓤 H A (R .own r (type .val r ∷ []))))) said)
+  ending {R} type r is holds =
+      via 𝓤 (sem 𝓤 H A (held args lists)) (bundled 𝓤 H A args lists)
+      (via 𝓤 _ (qed W (‵ (held args lists) ∷ []) ∵ scatters ! args lists $ frame ! $
+      have ! type r is $ move ! (1 ∷ 0 ∷ []) $ done !) (beside 𝓤 holds))
 
 -- what a call asks, with what is kept; and how a walk goes on: with the result, and with the slices at their last lists
 module _

@@ -4,6 +4,7 @@ pub mod Handed
 pub mod Params
 pub mod Module
 pub mod Inputs
+pub mod TableLoop
 pub mod PassLaws
 pub mod PassLoop
 pub mod Given

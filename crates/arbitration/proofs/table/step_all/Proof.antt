@@ -54,7 +54,7 @@ use Rattle.arbitration.proofs.Walk.{local-at, field-at, sets, puts, put
 use Rattle.arbitration.proofs.Walk.{by-value}
 use Rattle.arbitration.proofs.Lent.{word, Borrowed, mine, Fits}
 use Rattle.arbitration.proofs.Handed.{Arg, value, writes, Lists, at-entry, long-entry, own, anew, bind, items, entering, ending}
-use Rattle.arbitration.proofs.Handed.{asks, hands-last}
+use Rattle.arbitration.proofs.Handed.{certain, beside, hands-last}
 use Rattle.arbitration.proofs.Params.{Params, plainly, written, stays, walk-proves}
 use Rattle.arbitration.proofs.Module.{usi-row, pass-row, pass-mir, pass, sampling-mir, sampling}
 use Rattle.arbitration.proofs.Module.{seen-row, seen-mir, seen}
@@ -126,7 +126,7 @@ module _
         qed W (items args last) ∵
         suffices ! _ (ends-at 𝓤 H A step-all.ended stayed (step-all.clauses 𝓤 H A mem run) W bound (seen .val shown)
         shown last (passed-long passing (table .slice .now) count, (tt, (tt, tt)))) $
-        by ! (ending 𝓤 H A W args last seen shown is (refl, refl))
+        by ! (ending 𝓤 H A W args last seen shown is (certain 𝓤 (refl, refl)))
 
     module _
         (𝓣 : Tables 𝓤 H)
@@ -208,7 +208,7 @@ module _
                 (λ names. (bind asking (at-entry asking) (anew asking names), tt)) (λ names fs. fs) (λ names. seen)
                 (λ names r fs. (fs .0 ≡ passed count (samplingPass (samplingOf passing)) list)
                 × (r ≡ seenBy count (passed count (samplingPass (samplingOf passing)) list)))
-                (λ names. asks 𝓤 (few, enough)) (λ names fs. id⊢ 𝓤 _) (λ names r fs. id⊢ 𝓤 _) frames sample-all-known
+                (λ names. beside 𝓤 (certain 𝓤 (few, enough))) (λ names fs. id⊢ 𝓤 _) (λ names r fs. id⊢ 𝓤 _) frames sample-all-known
                 (λ names. and-then ! (local-at ! 8 refl) (and-then ! (local-at ! 18 refl) (and-then ! (local-at ! 6 refl) (no-more !))))
                 (λ names r fs told r-is long.
                 let shown-is = told .1 ∙ ap (seenBy count) same in
@@ -225,7 +225,7 @@ module _
                 hands-last ! args (at-entry args) (long-entry args) write-all.ended (write-all.clauses 𝓤 H A mem run)
                 (λ names. (bind args (at-entry args) (anew args names), tt)) (λ names fs. fs) (λ names. seen)
                 (λ names r fs. (fs .0 ≡ after) × (r ≡ shown))
-                (λ names. asks 𝓤 (few, enough, writing)) (λ names fs. id⊢ 𝓤 _) (λ names r fs. id⊢ 𝓤 _) frames write-all-known
+                (λ names. beside 𝓤 (certain 𝓤 (few, enough, writing))) (λ names fs. id⊢ 𝓤 _) (λ names r fs. id⊢ 𝓤 _) frames write-all-known
                 (λ names. and-then ! (local-at ! 2 refl) (and-then ! (local-at ! 18 refl) (and-then ! (local-at ! 16 refl) (no-more !))))
                 (λ names r fs told r-is long.
                 rewrite ! 0 (λ (l : List Usi). ‵ (mine usi-row table l)) (told .0) refl $
