@@ -23,13 +23,12 @@ use types.Kit.{step, _$_, _∵_, !, qed, move, drop, use1, use2, split, fsplit, 
 use types.Run.{Opds}
 use sound.WpLaws.{FmC}
 use denote.RattleType.{RattleType}
-use denote.Laws.{Is}
+use denote.Laws.{Is, Makes}
 use denote.Ref.{RefT}
 use denote.Slice.{MutSlice, finally}
-use denote.Steps.{nothing}
+use denote.Steps.{nothing, owned as had}
 use denote.Triple.Statement.{Triple}
 use denote.Triple.Clauses.{Ended, Clauses}
-use denote.Triple.Walked.{says}
 use Rattle.arbitration.proofs.Walk.{ByValue, have, Meant, Result, Last, Says, Back, Answered, calls-on, calls-on-last}
 use Rattle.arbitration.proofs.Lent.{word, lent-as, Borrowed, token, shared, mine, LentOn, AsLong, Fits, lend, back, twice}
 
@@ -306,15 +305,22 @@ module _ {M : Type 1} (𝓤 : URA M) (H : Heap 𝓤) (A : Atoms 𝓤) (W : Given
       (parted 𝓤 H A args lists)
 
   -- with a result, and what is said of it and of the lists
-  pub ending : {R : RattleType} (type : ByValue R) (r : R .Denot) → Is R r (type .val r ∷ [])
-      → {said : SProp 𝓤} → ent 𝓤 (emp 𝓤) said
-      → ent 𝓤 (⋆ 𝓤 H A (items args lists))
-      (sep 𝓤 (sep 𝓤 (sem 𝓤 H A (tokens args (own args)))
-      (sep 𝓤 (sem 𝓤 H A (owned args lists (own args))) (sem 𝓤 H A (R .own r (type .val r ∷ []))))) said)
-  ending {R} type r is holds =
+  abbrev Exiting : (R : RattleType) → R .Denot → Val → SProp 𝓤
+  Exiting R r v =
+      sep 𝓤 (sem 𝓤 H A (tokens args (own args)))
+      (sep 𝓤 (sem 𝓤 H A (owned args lists (own args))) (sem 𝓤 H A (R .own r (v ∷ []))))
+
+  pub ending-in : (R : RattleType) → Makes 𝓤 H A R (Is R) → (r : R .Denot) (v : Val) → Is R r (v ∷ [])
+      → {said : SProp 𝓤} → ent 𝓤 (emp 𝓤) said → ent 𝓤 (⋆ 𝓤 H A (items args lists)) (sep 𝓤 (Exiting R r v) said)
+  ending-in R makes r v is holds =
       via 𝓤 (sem 𝓤 H A (held args lists)) (bundled 𝓤 H A args lists)
       (via 𝓤 _ (qed W (‵ (held args lists) ∷ []) ∵ scatters ! args lists $ frame ! $
-      have ! type r is $ move ! (1 ∷ 0 ∷ []) $ done !) (beside 𝓤 holds))
+      had ! R (Is R) makes r (v ∷ []) is $ move ! (1 ∷ 0 ∷ []) $ done !) (beside 𝓤 holds))
+
+  pub ending : {R : RattleType} (type : ByValue R) (r : R .Denot) → Is R r (type .val r ∷ [])
+      → {said : SProp 𝓤} → ent 𝓤 (emp 𝓤) said
+      → ent 𝓤 (⋆ 𝓤 H A (items args lists)) (sep 𝓤 (Exiting R r (type .val r)) said)
+  ending {R} type r = ending-in R (type .makes 𝓤 H A W) r (type .val r)
 
 -- what a call asks, with what is kept; and how a walk goes on: with the result, and with the slices at their last lists
 module _

@@ -3,7 +3,6 @@ pub mod Lent
 pub mod Handed
 pub mod Params
 pub mod Module
-pub mod Inputs
 pub mod TableLoop
 pub mod PassLaws
 pub mod PassLoop

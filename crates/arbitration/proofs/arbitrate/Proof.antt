@@ -15,10 +15,9 @@ use prog.Wp.{Heap, Env, Calls, Loops, WpFn, Tables}
 use ghost.Atoms.{Atoms}
 use contract.Monad.{Fun}
 use contract.Running.{givenOf, tables, tablesOf}
-use types.Kit.{Given, Item, raw, ⋆, atRet, runs, Sq, _$_, _∵_, !, qed, by, move}
-use types.Kit.{suffices}
-use types.Run.{look, init, stop, hop, fld, from, of-opd, addr, and-then, no-more}
-use types.Run.{returns, enter, alloc1, alloc0, params1, pass1, pass0}
+use types.Kit.{Given, Item, raw, ⋆, atRet, runs, Sq, _$_, _∵_, !, qed, by, move, suffices}
+use types.Run.{look, init, stop, hop, fld, from, of-opd, addr, and-then, no-more, returns, enter, alloc1, alloc0}
+use types.Run.{params1, pass1, pass0}
 use types.Part.{whole, sub, look-in, agg}
 use sound.WpLaws.{FmC, fmOf}
 use denote.Laws.{Is}
@@ -53,14 +52,14 @@ use Rattle.arbitration.proofs.reply.replied as replied′
 use Rattle.arbitration.proofs.reply.replied.Symbol as replied-def
 use Rattle.arbitration.proofs.reply.replied.Met as replied-met
 use Rattle.arbitration.proofs.Contract.{same-passing, promised}
-use Rattle.arbitration.proofs.Walk.{uint, typed, unpack, Local, empty, holds, locals}
-use Rattle.arbitration.proofs.Walk.{free-locals, local-at, field-at, sets, puts, Meant}
-use Rattle.arbitration.proofs.Walk.{by-value}
+use Rattle.arbitration.proofs.Walk.{environment, uint, typed, unpack, Local, empty, holds, locals, free-locals}
+use Rattle.arbitration.proofs.Walk.{local-at, field-at, sets, puts, Meant, by-value}
 use Rattle.arbitration.proofs.Lent.{word, Borrowed, AsLong, Fits}
-use Rattle.arbitration.proofs.Module.{usi-row, sequencer-row, sequencer-mir, sequencer, prepared-row, prepared-mir, prepared}
-use Rattle.arbitration.proofs.Module.{reply-row, reply-mir, reply, rows-row, rows-mir, rows as rows-type}
-use Rattle.arbitration.proofs.Handed.{Arg, value, reads, writes, Lists, at-entry, long-entry, own, anew, bind, items}
-use Rattle.arbitration.proofs.Handed.{certain, beside, entering, ending, hands}
+use Rattle.arbitration.proofs.Module.{usi-row, sequencer-row, sequencer-mir, sequencer, prepared-row}
+use Rattle.arbitration.proofs.Module.{prepared-mir, prepared, reply-row, reply-mir, reply, rows-row, rows-mir}
+use Rattle.arbitration.proofs.Module.{rows as rows-type}
+use Rattle.arbitration.proofs.Handed.{Arg, value, reads, writes, Lists, at-entry, long-entry, own, anew, bind}
+use Rattle.arbitration.proofs.Handed.{items, certain, beside, entering, ending, hands}
 use Rattle.arbitration.proofs.Params.{Params as Slots, read, written, stays, walk-proves}
 use Rattle.arbitration.proofs.arbitrate as arbitrate
 use Rattle.arbitration.proofs.arbitrate.Statement as stated
@@ -99,86 +98,86 @@ module _
     (W : Given 𝓤 H A)
     (mem : Memory → SProp 𝓤)
     (run : Routine → Fun 𝓤)
-    (table : Borrowed Usi)
-    (bytes parts counts acks carried levels : Borrowed ℕ)
-    (table-room : Fits usi-row table)
-    (bytes-room : Fits u8 bytes)
-    (parts-room : Fits u32 parts)
-    (counts-room : Fits u32 counts)
-    (acks-room : Fits u8 acks)
-    (carried-room : Fits u8 carried)
-    (levels-room : Fits u8 levels)
+    (𝓣 : Tables 𝓤 H)
+    (prepare-known : Triple 𝓤 (𝓣 .C prepare-def.name) (Prepare 𝓤 H A mem run))
+    (cut-known : Triple 𝓤 (𝓣 .C cut-def.name) (Cut 𝓤 H A mem run))
+    (run-known : Triple 𝓤 (𝓣 .C run-def.name) (Run 𝓤 H A mem run))
+    (replied-known : Triple 𝓤 (𝓣 .C replied-def.name) (Replied 𝓤 H A mem run))
   where
-    abbrev args : List Arg
-    args =
-        writes usi-row table table-room ∷ reads u8 bytes ∷ reads u32 parts ∷ reads u32 counts ∷ reads u8 acks
-        ∷ writes u8 carried carried-room ∷ writes u8 levels levels-room ∷ []
+    abbrev C : Calls 𝓤 H
+    C = 𝓣 .C
 
-    abbrev bound : walkOf 𝓤 H A arbitrate.ended stayed (arbitrate.clauses 𝓤 H A mem run) .Ghost
-    bound = (bind args (at-entry args) (own args), tt)
+    abbrev Λ : Loops 𝓤 H
+    Λ = 𝓣 .Λ
 
-    abbrev Post : Val → SProp 𝓤
-    Post = walkOf 𝓤 H A arbitrate.ended stayed (arbitrate.clauses 𝓤 H A mem run) .post bound
-
-    abbrev request : Request
-    request = asked (bytes .slice .now) (parts .slice .now) (counts .slice .now) (acks .slice .now)
-
-    abbrev lists : Lent
-    lists = record { table = table .slice .now; carried = carried .slice .now; levels = levels .slice .now }
-
-    -- what is borrowed, with table and buffers at these lists
-    abbrev at : Lent → Lists args
-    at now = (now .table, (tt, (tt, (tt, (tt, (now .carried, (now .levels, tt)))))))
-
-    abbrev Refs : Lent → List (Item 𝓤)
-    Refs now = items args (at now)
-
-    -- the reply, and the lists at the end
-    record Result : Type 0 where
-      answer : Arbitrated
-      is : Is reply-row answer (reply .val answer ∷ [])
-      now : Lent
-      table-long : AsLong usi-row table (now .table)
-      carried-long : AsLong u8 carried (now .carried)
-      levels-long : AsLong u8 levels (now .levels)
-      promise : Arbitrates request lists now answer
-
-    ends : (x : Result) → ent 𝓤 (⋆ 𝓤 H A (Refs (x .now))) (Post (reply .val (x .answer)))
-    ends x =
-        qed W (Refs (x .now)) ∵
-        suffices ! _ (ends-at 𝓤 H A arbitrate.ended stayed (arbitrate.clauses 𝓤 H A mem run) W bound
-        (reply .val (x .answer)) (x .answer) (at (x .now))
-        (x .table-long, (tt, (tt, (tt, (tt, (x .carried-long, (x .levels-long, tt)))))))) $
-        by ! (ending 𝓤 H A W args (at (x .now)) reply (x .answer) (x .is) (certain 𝓤 (x .promise)))
-
-    -- the fields of what is prepared
-    count-fits : (p : Prepared) → Is prepared-row p (prepared .val p ∷ []) → p .count < 2 ^ 64
-    count-fits p is = is .1 .1 .1 .0 .1
-
-    first-is : (p : Prepared) → Is prepared-row p (prepared .val p ∷ []) → Is sequencer-row (p .first) (sequencer .val (p .first) ∷ [])
-    first-is p is =
-        let own = is .1 .1 .1 .1 .0 in
-        subst (Is sequencer-row (p .first)) (sequencer .tells (p .first) (is .0 .1 .1 .0) own) own
-
-    abbrev Prepared-so : Prepared → Type 0
-    Prepared-so p =
-        Prepares request (length (table .slice .now)) (length (carried .slice .now)) (length (levels .slice .now)) p
+    frames : FmC 𝓤 H (W .laws) C
+    frames = fmOf 𝓤 H (W .laws) 𝓣
 
     module _
-        (𝓣 : Tables 𝓤 H)
-        (prepare-known : Triple 𝓤 (𝓣 .C prepare-def.name) (Prepare 𝓤 H A mem run))
-        (cut-known : Triple 𝓤 (𝓣 .C cut-def.name) (Cut 𝓤 H A mem run))
-        (run-known : Triple 𝓤 (𝓣 .C run-def.name) (Run 𝓤 H A mem run))
-        (replied-known : Triple 𝓤 (𝓣 .C replied-def.name) (Replied 𝓤 H A mem run))
+        (table : Borrowed Usi)
+        (bytes parts counts acks carried levels : Borrowed ℕ)
+        (table-room : Fits usi-row table)
+        (bytes-room : Fits u8 bytes)
+        (parts-room : Fits u32 parts)
+        (counts-room : Fits u32 counts)
+        (acks-room : Fits u8 acks)
+        (carried-room : Fits u8 carried)
+        (levels-room : Fits u8 levels)
       where
-        abbrev C : Calls 𝓤 H
-        C = 𝓣 .C
+        abbrev args : List Arg
+        args =
+            writes usi-row table table-room ∷ reads u8 bytes ∷ reads u32 parts ∷ reads u32 counts ∷ reads u8 acks
+            ∷ writes u8 carried carried-room ∷ writes u8 levels levels-room ∷ []
 
-        abbrev Λ : Loops 𝓤 H
-        Λ = 𝓣 .Λ
+        abbrev bound : walkOf 𝓤 H A arbitrate.ended stayed (arbitrate.clauses 𝓤 H A mem run) .Ghost
+        bound = (bind args (at-entry args) (own args), tt)
 
-        frames : FmC 𝓤 H (W .laws) C
-        frames = fmOf 𝓤 H (W .laws) 𝓣
+        abbrev Post : Val → SProp 𝓤
+        Post = walkOf 𝓤 H A arbitrate.ended stayed (arbitrate.clauses 𝓤 H A mem run) .post bound
+
+        abbrev request : Request
+        request = asked (bytes .slice .now) (parts .slice .now) (counts .slice .now) (acks .slice .now)
+
+        abbrev lists : Lent
+        lists = record { table = table .slice .now; carried = carried .slice .now; levels = levels .slice .now }
+
+        -- what is borrowed, with table and buffers at these lists
+        abbrev at : Lent → Lists args
+        at now = (now .table, (tt, (tt, (tt, (tt, (now .carried, (now .levels, tt)))))))
+
+        abbrev Refs : Lent → List (Item 𝓤)
+        Refs now = items args (at now)
+
+        -- the reply, and the lists at the end
+        record Result : Type 0 where
+          answer : Arbitrated
+          is : Is reply-row answer (reply .val answer ∷ [])
+          now : Lent
+          table-long : AsLong usi-row table (now .table)
+          carried-long : AsLong u8 carried (now .carried)
+          levels-long : AsLong u8 levels (now .levels)
+          promise : Arbitrates request lists now answer
+
+        ends : (x : Result) → ent 𝓤 (⋆ 𝓤 H A (Refs (x .now))) (Post (reply .val (x .answer)))
+        ends x =
+            qed W (Refs (x .now)) ∵
+            suffices ! _ (ends-at 𝓤 H A arbitrate.ended stayed (arbitrate.clauses 𝓤 H A mem run) W bound
+            (reply .val (x .answer)) (x .answer) (at (x .now))
+            (x .table-long, (tt, (tt, (tt, (tt, (x .carried-long, (x .levels-long, tt)))))))) $
+            by ! (ending 𝓤 H A W args (at (x .now)) reply (x .answer) (x .is) (certain 𝓤 (x .promise)))
+
+        -- the fields of what is prepared
+        count-fits : (p : Prepared) → Is prepared-row p (prepared .val p ∷ []) → p .count < 2 ^ 64
+        count-fits p is = is .1 .1 .1 .0 .1
+
+        first-is : (p : Prepared) → Is prepared-row p (prepared .val p ∷ []) → Is sequencer-row (p .first) (sequencer .val (p .first) ∷ [])
+        first-is p is =
+            let own = is .1 .1 .1 .1 .0 in
+            subst (Is sequencer-row (p .first)) (sequencer .tells (p .first) (is .0 .1 .1 .0) own) own
+
+        abbrev Prepared-so : Prepared → Type 0
+        Prepared-so p =
+            Prepares request (length (table .slice .now)) (length (carried .slice .now)) (length (levels .slice .now)) p
 
         abbrev table-ref-type : Ty
         table-ref-type = tyRef erased mut (pointee (usi-row .written))
@@ -212,16 +211,6 @@ module _
             (table-long-at carried-long-at levels-long-at table-ref-at table-lent-at : ℕ)
             (carried-ref-at carried-lent-at levels-ref-at levels-lent-at : ℕ)
           where
-            abbrev En : Env 𝓤 H
-            En =
-                (reply-mir, result-at) ∷ (table-type, table-at) ∷ (bytes-type, bytes-at) ∷ (parts-type, parts-at)
-                ∷ (counts-type, counts-at) ∷ (acks-type, acks-at) ∷ (carried-type, carried-at) ∷ (levels-type, levels-at) ∷ (prepared-mir, prepared-at)
-                ∷ (rows-mir, rows-at) ∷ (sequencer-mir, ended-at) ∷ (tyInt w64, table-long-at)
-                ∷ (tyInt w64, carried-long-at) ∷ (tyInt w64, levels-long-at)
-                ∷ (table-ref-type, table-ref-at) ∷ (sliceTy table-ref-type, table-lent-at)
-                ∷ (buffer-ref-type, carried-ref-at) ∷ (sliceTy buffer-ref-type, carried-lent-at)
-                ∷ (buffer-ref-type, levels-ref-at) ∷ (sliceTy buffer-ref-type, levels-lent-at) ∷ []
-
             -- the locals, the last first: the parameters and the result
             abbrev Params : Local → List Local
             Params result =
@@ -244,6 +233,16 @@ module _
                 empty (sliceTy buffer-ref-type) levels-lent-at ∷ empty buffer-ref-type levels-ref-at
                 ∷ empty (sliceTy buffer-ref-type) carried-lent-at ∷ empty buffer-ref-type carried-ref-at
                 ∷ empty (sliceTy table-ref-type) table-lent-at ∷ empty table-ref-type table-ref-at ∷ rest
+
+            -- before anything is called
+            abbrev Bare : List Local
+            Bare =
+                Unlent (empty (tyInt w64) levels-long-at ∷ empty (tyInt w64) carried-long-at ∷ empty (tyInt w64) table-long-at
+                ∷ empty sequencer-mir ended-at ∷ empty rows-mir rows-at ∷ empty prepared-mir prepared-at
+                ∷ Params (empty reply-mir result-at))
+
+            abbrev En : Env 𝓤 H
+            En = environment Bare []
 
             abbrev LentOn : List Local → List Local
             LentOn rest =
@@ -354,9 +353,7 @@ module _
                 lends p p-is prepares r r-are
                 (same ∙ ap rowsOf (same-passing (bytes .slice .now) (parts .slice .now) (counts .slice .now) (acks .slice .now))))
 
-            starts : Sq W (locals (Unlent (empty (tyInt w64) levels-long-at ∷ empty (tyInt w64) carried-long-at
-                ∷ empty (tyInt w64) table-long-at ∷ empty sequencer-mir ended-at ∷ empty rows-mir rows-at
-                ∷ empty prepared-mir prepared-at ∷ Params (empty reply-mir result-at))) (Refs lists))
+            starts : Sq W (locals Bare (Refs lists))
                 (runs C Λ En body.t-1 (atRet En Post))
             starts =
                 let preparing : List Arg = reads u8 bytes ∷ reads u32 parts ∷ reads u32 counts ∷ reads u8 acks
@@ -405,26 +402,11 @@ module _
             carried-long-at levels-long-at table-ref-at table-lent-at carried-ref-at carried-lent-at levels-ref-at
             levels-lent-at))))))))))))))))))))
 
-module _
-    {X : Type 1}
-    (𝓤 : URA X)
-    (H : Heap 𝓤)
-    (A : Atoms 𝓤)
-    (W : Given 𝓤 H A)
-    (mem : Memory → SProp 𝓤)
-    (run : Routine → Fun 𝓤)
-    (𝓣 : Tables 𝓤 H)
-    (prepare-known : Triple 𝓤 (𝓣 .C prepare-def.name) (Prepare 𝓤 H A mem run))
-    (cut-known : Triple 𝓤 (𝓣 .C cut-def.name) (Cut 𝓤 H A mem run))
-    (run-known : Triple 𝓤 (𝓣 .C run-def.name) (Run 𝓤 H A mem run))
-    (replied-known : Triple 𝓤 (𝓣 .C replied-def.name) (Replied 𝓤 H A mem run))
-  where
     meets : Meets 𝓤 H A arbitrate.signature (WpFn 𝓤 H (𝓣 .C) (𝓣 .Λ) code.function) (arbitrate.spec 𝓤 H A mem run)
     meets =
         walk-proves 𝓤 H A W arbitrate.signature params (arbitrate.clauses 𝓤 H A mem run) 𝓣 code.function
         (λ κs qs bounds a g are. via 𝓤 _ (fst∗ 𝓤 _ (emp 𝓤))
-        (walk 𝓤 H A W mem run
-        (record { slice = a .0; lifetime = κs .0; share = qs .0 })
+        (walk (record { slice = a .0; lifetime = κs .0; share = qs .0 })
         (record { slice = a .1 .0; lifetime = κs .1 .0; share = qs .1 .0 })
         (record { slice = a .1 .1 .0; lifetime = κs .1 .1 .0; share = qs .1 .1 .0 })
         (record { slice = a .1 .1 .1 .0; lifetime = κs .1 .1 .1 .0; share = qs .1 .1 .1 .0 })
@@ -432,7 +414,7 @@ module _
         (record { slice = a .1 .1 .1 .1 .1 .0; lifetime = κs .1 .1 .1 .1 .1 .0; share = qs .1 .1 .1 .1 .1 .0 })
         (record { slice = a .1 .1 .1 .1 .1 .1 .0; lifetime = κs .1 .1 .1 .1 .1 .1 .0; share = qs .1 .1 .1 .1 .1 .1 .0 })
         (are .0 .0 .1) (are .1 .0 .0 .1) (are .1 .1 .0 .0 .1) (are .1 .1 .1 .0 .0 .1) (are .1 .1 .1 .1 .0 .0 .1)
-        (are .1 .1 .1 .1 .1 .0 .0 .1) (are .1 .1 .1 .1 .1 .1 .0 .0 .1) 𝓣 prepare-known cut-known run-known replied-known))
+        (are .1 .1 .1 .1 .1 .0 .0 .1) (are .1 .1 .1 .1 .1 .1 .0 .0 .1)))
 
 pub arbitrate-spec : {M : Type 1} → stated.statement M
 unfolding code.routine tablesOf

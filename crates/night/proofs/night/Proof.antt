@@ -15,10 +15,9 @@ use prog.Wp.{Heap, Env, Calls, Loops, WpFn, Tables}
 use ghost.Atoms.{Atoms}
 use contract.Monad.{Fun}
 use contract.Running.{givenOf, tables, tablesOf}
-use types.Kit.{Given, Item, raw, ⋆, atRet, runs, Sq, _$_, _∵_, !, qed, by, move}
-use types.Kit.{suffices}
-use types.Run.{look, init, stop, hop, fld, from, of-opd, addr, and-then, no-more}
-use types.Run.{returns, enter, alloc1, alloc0, params1, pass1, pass0}
+use types.Kit.{Given, Item, raw, ⋆, atRet, runs, Sq, _$_, _∵_, !, qed, by, move, suffices}
+use types.Run.{look, init, stop, hop, fld, from, of-opd, addr, and-then, no-more, returns, enter, alloc1, alloc0}
+use types.Run.{params1, pass1, pass0}
 use types.Part.{whole, sub, look-in, agg}
 use sound.WpLaws.{FmC, fmOf}
 use denote.Laws.{Is}
@@ -35,8 +34,8 @@ use Rattle.arbitration_rules.specs.Reply.{Request, asked}
 use Rattle.night.specs.declared.Reply.{Reply}
 use Rattle.night.specs.declared.lent.Ended.{Ended}
 use Rattle.night.specs.Lent.{Nights, Settles, placed}
-use Rattle.arbitration.proofs.Walk.{uint, typed, unpack, Local, empty, holds, locals}
-use Rattle.arbitration.proofs.Walk.{free-locals, local-at, field-at, sets, puts, Meant}
+use Rattle.arbitration.proofs.Walk.{environment, uint, typed, unpack, Local, empty, holds, locals, free-locals}
+use Rattle.arbitration.proofs.Walk.{local-at, field-at, sets, puts, Meant}
 use Rattle.arbitration.proofs.Lent.{word, Borrowed, AsLong, Fits}
 use Rattle.arbitration.proofs.Handed.{Arg, value, reads, writes, Lists, at-entry, long-entry, own, anew, bind, items}
 use Rattle.arbitration.proofs.Handed.{certain, beside, entering, ending, hands}
@@ -80,67 +79,67 @@ module _
     (W : Given 𝓤 H A)
     (mem : Memory → SProp 𝓤)
     (run : Routine → Fun 𝓤)
-    (bytes parts counts acks rounds : Borrowed ℕ)
-    (table : Borrowed Usi)
-    (bytes-room : Fits u8 bytes)
-    (parts-room : Fits u32 parts)
-    (counts-room : Fits u32 counts)
-    (acks-room : Fits u8 acks)
-    (rounds-room : Fits u32 rounds)
-    (table-room : Fits usi-row table)
+    (𝓣 : Tables 𝓤 H)
+    (settle-known : Triple 𝓤 (𝓣 .C settle-def.name) (Settle 𝓤 H A mem run))
+    (place-known : Triple 𝓤 (𝓣 .C place-def.name) (Place 𝓤 H A mem run))
   where
-    abbrev args : List Arg
-    args =
-        reads u8 bytes ∷ reads u32 parts ∷ reads u32 counts ∷ reads u8 acks ∷ writes u32 rounds rounds-room
-        ∷ writes usi-row table table-room ∷ []
+    abbrev C : Calls 𝓤 H
+    C = 𝓣 .C
 
-    abbrev bound : walkOf 𝓤 H A nightly.ended stayed (nightly.clauses 𝓤 H A mem run) .Ghost
-    bound = (bind args (at-entry args) (own args), tt)
+    abbrev Λ : Loops 𝓤 H
+    Λ = 𝓣 .Λ
 
-    abbrev Post : Val → SProp 𝓤
-    Post = walkOf 𝓤 H A nightly.ended stayed (nightly.clauses 𝓤 H A mem run) .post bound
-
-    abbrev request : Request
-    request = asked (bytes .slice .now) (parts .slice .now) (counts .slice .now) (acks .slice .now)
-
-    -- what is borrowed, with the rounds and the table at these lists
-    abbrev at : List ℕ → List Usi → Lists args
-    at rounds-now table-now = (tt, (tt, (tt, (tt, (rounds-now, (table-now, tt))))))
-
-    abbrev Over : List ℕ → List Usi → List (Item 𝓤)
-    Over rounds-now table-now = items args (at rounds-now table-now)
-
-    -- the reply, and the lists at the end
-    record Result : Type 0 where
-      answer : Reply
-      is : Is reply-row answer (reply .val answer ∷ [])
-      rounds-now : List ℕ
-      table-now : List Usi
-      rounds-long : AsLong u32 rounds rounds-now
-      table-long : AsLong usi-row table table-now
-      promise : Nights request (rounds .slice .now) (table .slice .now) rounds-now table-now answer
-
-    ends : (x : Result) → ent 𝓤 (⋆ 𝓤 H A (Over (x .rounds-now) (x .table-now))) (Post (reply .val (x .answer)))
-    ends x =
-        qed W (Over (x .rounds-now) (x .table-now)) ∵
-        suffices ! _ (ends-at 𝓤 H A nightly.ended stayed (nightly.clauses 𝓤 H A mem run) W bound
-        (reply .val (x .answer)) (x .answer) (at (x .rounds-now) (x .table-now))
-        (tt, (tt, (tt, (tt, (x .rounds-long, (x .table-long, tt))))))) $
-        by ! (ending 𝓤 H A W args (at (x .rounds-now) (x .table-now)) reply (x .answer) (x .is) (certain 𝓤 (x .promise)))
+    frames : FmC 𝓤 H (W .laws) C
+    frames = fmOf 𝓤 H (W .laws) 𝓣
 
     module _
-        (𝓣 : Tables 𝓤 H)
-        (settle-known : Triple 𝓤 (𝓣 .C settle-def.name) (Settle 𝓤 H A mem run))
-        (place-known : Triple 𝓤 (𝓣 .C place-def.name) (Place 𝓤 H A mem run))
+        (bytes parts counts acks rounds : Borrowed ℕ)
+        (table : Borrowed Usi)
+        (bytes-room : Fits u8 bytes)
+        (parts-room : Fits u32 parts)
+        (counts-room : Fits u32 counts)
+        (acks-room : Fits u8 acks)
+        (rounds-room : Fits u32 rounds)
+        (table-room : Fits usi-row table)
       where
-        abbrev C : Calls 𝓤 H
-        C = 𝓣 .C
+        abbrev args : List Arg
+        args =
+            reads u8 bytes ∷ reads u32 parts ∷ reads u32 counts ∷ reads u8 acks ∷ writes u32 rounds rounds-room
+            ∷ writes usi-row table table-room ∷ []
 
-        abbrev Λ : Loops 𝓤 H
-        Λ = 𝓣 .Λ
+        abbrev bound : walkOf 𝓤 H A nightly.ended stayed (nightly.clauses 𝓤 H A mem run) .Ghost
+        bound = (bind args (at-entry args) (own args), tt)
 
-        frames : FmC 𝓤 H (W .laws) C
-        frames = fmOf 𝓤 H (W .laws) 𝓣
+        abbrev Post : Val → SProp 𝓤
+        Post = walkOf 𝓤 H A nightly.ended stayed (nightly.clauses 𝓤 H A mem run) .post bound
+
+        abbrev request : Request
+        request = asked (bytes .slice .now) (parts .slice .now) (counts .slice .now) (acks .slice .now)
+
+        -- what is borrowed, with the rounds and the table at these lists
+        abbrev at : List ℕ → List Usi → Lists args
+        at rounds-now table-now = (tt, (tt, (tt, (tt, (rounds-now, (table-now, tt))))))
+
+        abbrev Over : List ℕ → List Usi → List (Item 𝓤)
+        Over rounds-now table-now = items args (at rounds-now table-now)
+
+        -- the reply, and the lists at the end
+        record Result : Type 0 where
+          answer : Reply
+          is : Is reply-row answer (reply .val answer ∷ [])
+          rounds-now : List ℕ
+          table-now : List Usi
+          rounds-long : AsLong u32 rounds rounds-now
+          table-long : AsLong usi-row table table-now
+          promise : Nights request (rounds .slice .now) (table .slice .now) rounds-now table-now answer
+
+        ends : (x : Result) → ent 𝓤 (⋆ 𝓤 H A (Over (x .rounds-now) (x .table-now))) (Post (reply .val (x .answer)))
+        ends x =
+            qed W (Over (x .rounds-now) (x .table-now)) ∵
+            suffices ! _ (ends-at 𝓤 H A nightly.ended stayed (nightly.clauses 𝓤 H A mem run) W bound
+            (reply .val (x .answer)) (x .answer) (at (x .rounds-now) (x .table-now))
+            (tt, (tt, (tt, (tt, (x .rounds-long, (x .table-long, tt))))))) $
+            by ! (ending 𝓤 H A W args (at (x .rounds-now) (x .table-now)) reply (x .answer) (x .is) (certain 𝓤 (x .promise)))
 
         abbrev bytes-type : Ty
         bytes-type = sliceTy (tyRef (named 0) imm (tyInt w8))
@@ -170,14 +169,6 @@ module _
             (result-at bytes-at parts-at counts-at acks-at rounds-at table-at ended-at : ℕ)
             (rounds-ref-at rounds-lent-at table-long-at table-ref-at table-lent-at : ℕ)
           where
-            abbrev En : Env 𝓤 H
-            En =
-                (reply-mir, result-at) ∷ (bytes-type, bytes-at) ∷ (parts-type, parts-at) ∷ (counts-type, counts-at)
-                ∷ (acks-type, acks-at) ∷ (rounds-type, rounds-at) ∷ (table-type, table-at) ∷ (ended-mir, ended-at)
-                ∷ (rounds-ref-type, rounds-ref-at) ∷ (sliceTy rounds-ref-type, rounds-lent-at)
-                ∷ (tyInt w64, table-long-at) ∷ (table-ref-type, table-ref-at)
-                ∷ (sliceTy table-ref-type, table-lent-at) ∷ []
-
             -- the locals, the last first: the parameters and the result
             abbrev Params : Local → List Local
             Params result =
@@ -202,6 +193,15 @@ module _
 
             abbrev Unplaced : List Local → List Local
             Unplaced rest = empty (sliceTy table-ref-type) table-lent-at ∷ empty table-ref-type table-ref-at ∷ rest
+
+            -- before anything is called
+            abbrev Bare : List Local
+            Bare =
+                Unplaced (empty (tyInt w64) table-long-at ∷ empty (sliceTy rounds-ref-type) rounds-lent-at
+                ∷ empty rounds-ref-type rounds-ref-at ∷ empty ended-mir ended-at ∷ Params (empty reply-mir result-at))
+
+            abbrev En : Env 𝓤 H
+            En = environment Bare []
 
             places : (r : Ended) → Is ended-row r (ended .val r ∷ []) → (rounds-now : List ℕ) → AsLong u32 rounds rounds-now
                 → Settles request (length (table .slice .now)) (rounds .slice .now) rounds-now r
@@ -236,8 +236,7 @@ module _
                   promise = rw (said .0, said .1) (settles .leaves (table .slice .now) refl);
                 })))
 
-            starts : Sq W (locals (Unplaced (empty (tyInt w64) table-long-at ∷ empty (sliceTy rounds-ref-type) rounds-lent-at
-                ∷ empty rounds-ref-type rounds-ref-at ∷ empty ended-mir ended-at ∷ Params (empty reply-mir result-at))) (Over (rounds .slice .now) (table .slice .now)))
+            starts : Sq W (locals Bare (Over (rounds .slice .now) (table .slice .now)))
                 (runs C Λ En body.t-1 (atRet En Post))
             starts =
                 let settling : List Arg = reads u8 bytes ∷ reads u32 parts ∷ reads u32 counts ∷ reads u8 acks
@@ -281,31 +280,18 @@ module _
             starts result-at bytes-at parts-at counts-at acks-at rounds-at table-at ended-at rounds-ref-at rounds-lent-at
             table-long-at table-ref-at table-lent-at)))))))))))))
 
-module _
-    {X : Type 1}
-    (𝓤 : URA X)
-    (H : Heap 𝓤)
-    (A : Atoms 𝓤)
-    (W : Given 𝓤 H A)
-    (mem : Memory → SProp 𝓤)
-    (run : Routine → Fun 𝓤)
-    (𝓣 : Tables 𝓤 H)
-    (settle-known : Triple 𝓤 (𝓣 .C settle-def.name) (Settle 𝓤 H A mem run))
-    (place-known : Triple 𝓤 (𝓣 .C place-def.name) (Place 𝓤 H A mem run))
-  where
     meets : Meets 𝓤 H A nightly.signature (WpFn 𝓤 H (𝓣 .C) (𝓣 .Λ) code.function) (nightly.spec 𝓤 H A mem run)
     meets =
         walk-proves 𝓤 H A W nightly.signature params (nightly.clauses 𝓤 H A mem run) 𝓣 code.function
         (λ κs qs bounds a g are. via 𝓤 _ (fst∗ 𝓤 _ (emp 𝓤))
-        (walk 𝓤 H A W mem run
-        (record { slice = a .0; lifetime = κs .0; share = qs .0 })
+        (walk (record { slice = a .0; lifetime = κs .0; share = qs .0 })
         (record { slice = a .1 .0; lifetime = κs .1 .0; share = qs .1 .0 })
         (record { slice = a .1 .1 .0; lifetime = κs .1 .1 .0; share = qs .1 .1 .0 })
         (record { slice = a .1 .1 .1 .0; lifetime = κs .1 .1 .1 .0; share = qs .1 .1 .1 .0 })
         (record { slice = a .1 .1 .1 .1 .0; lifetime = κs .1 .1 .1 .1 .0; share = qs .1 .1 .1 .1 .0 })
         (record { slice = a .1 .1 .1 .1 .1 .0; lifetime = κs .1 .1 .1 .1 .1 .0; share = qs .1 .1 .1 .1 .1 .0 })
         (are .0 .0 .1) (are .1 .0 .0 .1) (are .1 .1 .0 .0 .1) (are .1 .1 .1 .0 .0 .1) (are .1 .1 .1 .1 .0 .0 .1)
-        (are .1 .1 .1 .1 .1 .0 .0 .1) 𝓣 settle-known place-known))
+        (are .1 .1 .1 .1 .1 .0 .0 .1)))
 
 pub night-spec : {M : Type 1} → stated.statement M
 unfolding code.routine tablesOf

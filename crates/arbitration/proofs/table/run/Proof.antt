@@ -21,8 +21,7 @@ use prog.Wp.{Heap, Env, Out, Calls, Loops, Wp, WpFn, Tables, afterSeq, afterBloc
 use ghost.Atoms.{Atoms}
 use contract.Monad.{Fun}
 use contract.Running.{givenOf, tables, tablesOf}
-use types.Kit.{Given, Item, ‵, raw, ⋆, anyQ, atRet, runs, Sq, _$_, _∵_, !, qed, by, move}
-use types.Kit.{rewrite, suffices}
+use types.Kit.{Given, Item, ‵, raw, ⋆, anyQ, atRet, runs, Sq, _$_, _∵_, !, qed, by, move, rewrite, suffices}
 use types.Run.{look, init, store, forget, stop, hop, fld, from, of-opd, addr, and-then, no-more, first, blocks, exec}
 use types.Run.{returns, enter, alloc1, alloc0, params1, pass1, pass0, Below, again, loops}
 use types.Part.{whole, sub, look-in, agg}
@@ -35,8 +34,7 @@ use denote.Triple.Statement.{Contract, Triple}
 use denote.Triple.Entry.{onEntry}
 use denote.Triple.Spec.{Meets, tripleOf}
 use denote.Triple.Table.{entered, cited}
-use denote.Triple.Walked.{needs, Stays, walkOf}
-use denote.Triple.Walked.{ends-at}
+use denote.Triple.Walked.{needs, Stays, walkOf, ends-at}
 use Rattle.usi.specs.declared.Usi.{Usi}
 use Rattle.arbitration_rules.specs.Limits.{maxMasters}
 use Rattle.arbitration_pass.specs.declared.pass.Pass.{Pass}
@@ -57,17 +55,15 @@ use Rattle.arbitration_run.proofs.sequencer.Sequencer.next.Met as next-met
 use Rattle.arbitration.proofs.table.step_all as step-all
 use Rattle.arbitration.proofs.table.step_all.Symbol as step-all-def
 use Rattle.arbitration.proofs.table.step_all.Met as step-all-met
-use Rattle.arbitration.proofs.Walk.{uint, typed, unpack, Local, empty, holds, locals}
-use Rattle.arbitration.proofs.Walk.{free-locals, local-at, field-at, sets, puts, puts-last, holds-true}
-use Rattle.arbitration.proofs.Walk.{fails-false, while-test, if-test, beyond, Meant}
-use Rattle.arbitration.proofs.Walk.{by-value}
+use Rattle.arbitration.proofs.Walk.{environment, uint, typed, unpack, Local, empty, holds, locals, free-locals}
+use Rattle.arbitration.proofs.Walk.{local-at, field-at, sets, puts, puts-last, holds-true, fails-false}
+use Rattle.arbitration.proofs.Walk.{while-test, if-test, beyond, Meant, by-value}
 use Rattle.arbitration.proofs.Lent.{word, Borrowed, mine, AsLong, Fits}
-use Rattle.arbitration.proofs.Handed.{Arg, value, reads, writes, Lists, at-entry, own, anew, bind, items, entering}
-use Rattle.arbitration.proofs.Handed.{certain, beside, ending, hands, hands-last}
+use Rattle.arbitration.proofs.Handed.{Arg, value, reads, writes, Lists, at-entry, own, anew, bind, items}
+use Rattle.arbitration.proofs.Handed.{entering, certain, beside, ending, hands, hands-last}
 use Rattle.arbitration.proofs.Params.{Params, plainly, read, written, stays, walk-proves}
-use Rattle.arbitration.proofs.Module.{usi-row, pass-mir, pass, seen-row, seen-mir, seen}
-use Rattle.arbitration.proofs.Module.{sequencer-row, sequencer-mir, sequencer}
-use Rattle.arbitration.proofs.Module.{rows-row, rows-mir, rows as rows-type}
+use Rattle.arbitration.proofs.Module.{usi-row, pass-mir, pass, seen-row, seen-mir, seen, sequencer-row}
+use Rattle.arbitration.proofs.Module.{sequencer-mir, sequencer, rows-row, rows-mir, rows as rows-type}
 use Rattle.arbitration.proofs.PassLaws.{passed-long}
 use Rattle.arbitration_turns.proofs.Weight.{weight, weight-falls}
 use Rattle.arbitration.proofs.table.run as run′
@@ -113,144 +109,144 @@ module _
     (W : Given 𝓤 H A)
     (mem : Memory → SProp 𝓤)
     (run : Routine → Fun 𝓤)
-    (table : Borrowed Usi)
-    (count : ℕ)
-    (start : Sequencer)
-    (rows : List (List ℕ))
-    (acks carried levels : Borrowed ℕ)
-    (count-fits : count < 2 ^ 64)
-    (start-is : Is sequencer-row start (sequencer .val start ∷ []))
-    (rows-are : Is rows-row rows (rows-type .val rows ∷ []))
-    (table-room : Fits usi-row table)
-    (acks-room : Fits u8 acks)
-    (carried-room : Fits u8 carried)
-    (levels-room : Fits u8 levels)
-    (few : count ≤ maxMasters)
-    (enough : count ≤ length (table .slice .now))
+    (𝓣 : Tables 𝓤 H)
+    (pass-known : Triple 𝓤 (𝓣 .C pass-def.name) (PassOf 𝓤 H A mem run))
+    (loaded-known : Triple 𝓤 (𝓣 .C loaded-def.name) (LoadedOf 𝓤 H A mem run))
+    (step-all-known : Triple 𝓤 (𝓣 .C step-all-def.name) (StepAll 𝓤 H A mem run))
+    (next-known : Triple 𝓤 (𝓣 .C next-def.name) (Next 𝓤 H A mem run))
   where
-    abbrev args : List Arg
-    args =
-        writes usi-row table table-room ∷ value (uint w64) count (refl, count-fits) ∷ value sequencer start start-is
-        ∷ value rows-type rows rows-are ∷ reads u8 acks ∷ writes u8 carried carried-room
-        ∷ writes u8 levels levels-room ∷ []
+    abbrev C : Calls 𝓤 H
+    C = 𝓣 .C
 
-    abbrev bound : walkOf 𝓤 H A run′.ended stayed (run′.clauses 𝓤 H A mem run) .Ghost
-    bound = (bind args (at-entry args) (own args), tt)
+    abbrev Λ : Loops 𝓤 H
+    Λ = 𝓣 .Λ
 
-    abbrev Post : Val → SProp 𝓤
-    Post = walkOf 𝓤 H A run′.ended stayed (run′.clauses 𝓤 H A mem run) .post bound
-
-    abbrev begun : Turn
-    begun =
-        record {
-          sequencer = start;
-          table = table .slice .now;
-          carried = carried .slice .now;
-          levels = levels .slice .now;
-        }
-
-    -- the lists of a turn, and what is borrowed at them
-    abbrev lists : Turn → Lists args
-    lists turn = (turn .table, (tt, (tt, (tt, (tt, (turn .carried, (turn .levels, tt)))))))
-
-    abbrev Refs : Turn → List (Item 𝓤)
-    Refs turn = items args (lists turn)
-
-    abbrev To : Turn → Turn → Type 0
-    To = Reached count rows (acks .slice .now)
-
-    -- what a turn has
-    record State : Type 0 where
-      turn : Turn
-      is : Is sequencer-row (turn .sequencer) (sequencer .val (turn .sequencer) ∷ [])
-      table-long : AsLong usi-row table (turn .table)
-      carried-long : AsLong u8 carried (turn .carried)
-      levels-long : AsLong u8 levels (turn .levels)
-      same : (final : Turn) → To turn final → To begun final
-
-    ends : (x : State) → x .turn .sequencer .running ≡ false
-        → ent 𝓤 (⋆ 𝓤 H A (Refs (x .turn))) (Post (sequencer .val (x .turn .sequencer)))
-    ends x over =
-        qed W (Refs (x .turn)) ∵
-        suffices ! _ (ends-at 𝓤 H A run′.ended stayed (run′.clauses 𝓤 H A mem run) W bound
-        (sequencer .val (x .turn .sequencer)) (x .turn .sequencer) (lists (x .turn))
-        (x .table-long, (tt, (tt, (tt, (tt, (x .carried-long, (x .levels-long, tt)))))))) $
-        by ! (ending 𝓤 H A W args (lists (x .turn)) sequencer (x .turn .sequencer) (x .is)
-        (certain 𝓤 (x .same (x .turn) (ended (x .turn) over))))
-
-    abbrev left : State → ℕ
-    left x = weight (length (acks .slice .now)) (x .turn .sequencer)
-
-    abbrev Less : State → State → Type 0
-    Less x y = left x < left y
-
-    Less-wf : WellFounded Less
-    Less-wf = InvImage·wf left (Nat·lt-wfRel .wf)
-
-    module _ (x : State) where
-      -- the sequencer with its bytes taken, the pass of the turn, the table after it, what the modules then show, and the
-      -- sequencer after it
-      abbrev prepared : Sequencer
-      prepared = ready rows (x .turn .sequencer)
-
-      abbrev passing : Pass
-      passing = passOf prepared
-
-      abbrev stepped : List Usi
-      stepped = passed count passing (x .turn .table)
-
-      abbrev shown : Seen
-      shown = seenBy count stepped
-
-      abbrev after : Sequencer
-      after =
-          turned (length (x .turn .carried)) (length (x .turn .levels)) (acks .slice .now) shown prepared
-
-      abbrev carried-after : List ℕ
-      carried-after = carriedAfter (acks .slice .now) shown prepared (x .turn .carried)
-
-      abbrev levels-after : List ℕ
-      levels-after = levelsAfter shown prepared (x .turn .levels)
-
-      taken : x .turn .sequencer .loading ≡ true → loaded rows (x .turn .sequencer) ≡ prepared
-      unfolding ready
-      taken loading = rw loading
-
-      had : x .turn .sequencer .loading ≡ false → x .turn .sequencer ≡ prepared
-      unfolding ready
-      had loading = rw loading
-
-      within : count ≤ length (x .turn .table)
-      within = omega (arith, enough, x .table-long)
-
-      next : x .turn .sequencer .running ≡ true → Is sequencer-row after (sequencer .val after ∷ [])
-          → AsLong u8 carried carried-after → AsLong u8 levels levels-after → State
-      unfolding turnAfter
-      next running is carried-long levels-long =
-          record {
-            turn = record { sequencer = after; table = stepped; carried = carried-after; levels = levels-after };
-            is = is;
-            table-long = passed-long passing (x .turn .table) count ∙ x .table-long;
-            carried-long = carried-long;
-            levels-long = levels-long;
-            same = λ final reached. x .same final (more (x .turn) final running reached);
-          }
+    frames : FmC 𝓤 H (W .laws) C
+    frames = fmOf 𝓤 H (W .laws) 𝓣
 
     module _
-        (𝓣 : Tables 𝓤 H)
-        (pass-known : Triple 𝓤 (𝓣 .C pass-def.name) (PassOf 𝓤 H A mem run))
-        (loaded-known : Triple 𝓤 (𝓣 .C loaded-def.name) (LoadedOf 𝓤 H A mem run))
-        (step-all-known : Triple 𝓤 (𝓣 .C step-all-def.name) (StepAll 𝓤 H A mem run))
-        (next-known : Triple 𝓤 (𝓣 .C next-def.name) (Next 𝓤 H A mem run))
+        (table : Borrowed Usi)
+        (count : ℕ)
+        (start : Sequencer)
+        (rows : List (List ℕ))
+        (acks carried levels : Borrowed ℕ)
+        (count-fits : count < 2 ^ 64)
+        (start-is : Is sequencer-row start (sequencer .val start ∷ []))
+        (rows-are : Is rows-row rows (rows-type .val rows ∷ []))
+        (table-room : Fits usi-row table)
+        (acks-room : Fits u8 acks)
+        (carried-room : Fits u8 carried)
+        (levels-room : Fits u8 levels)
+        (few : count ≤ maxMasters)
+        (enough : count ≤ length (table .slice .now))
       where
-        abbrev C : Calls 𝓤 H
-        C = 𝓣 .C
+        abbrev args : List Arg
+        args =
+            writes usi-row table table-room ∷ value (uint w64) count (refl, count-fits) ∷ value sequencer start start-is
+            ∷ value rows-type rows rows-are ∷ reads u8 acks ∷ writes u8 carried carried-room
+            ∷ writes u8 levels levels-room ∷ []
 
-        abbrev Λ : Loops 𝓤 H
-        Λ = 𝓣 .Λ
+        abbrev bound : walkOf 𝓤 H A run′.ended stayed (run′.clauses 𝓤 H A mem run) .Ghost
+        bound = (bind args (at-entry args) (own args), tt)
 
-        frames : FmC 𝓤 H (W .laws) C
-        frames = fmOf 𝓤 H (W .laws) 𝓣
+        abbrev Post : Val → SProp 𝓤
+        Post = walkOf 𝓤 H A run′.ended stayed (run′.clauses 𝓤 H A mem run) .post bound
+
+        abbrev begun : Turn
+        begun =
+            record {
+              sequencer = start;
+              table = table .slice .now;
+              carried = carried .slice .now;
+              levels = levels .slice .now;
+            }
+
+        -- the lists of a turn, and what is borrowed at them
+        abbrev lists : Turn → Lists args
+        lists turn = (turn .table, (tt, (tt, (tt, (tt, (turn .carried, (turn .levels, tt)))))))
+
+        abbrev Refs : Turn → List (Item 𝓤)
+        Refs turn = items args (lists turn)
+
+        abbrev To : Turn → Turn → Type 0
+        To = Reached count rows (acks .slice .now)
+
+        -- what a turn has
+        record State : Type 0 where
+          turn : Turn
+          is : Is sequencer-row (turn .sequencer) (sequencer .val (turn .sequencer) ∷ [])
+          table-long : AsLong usi-row table (turn .table)
+          carried-long : AsLong u8 carried (turn .carried)
+          levels-long : AsLong u8 levels (turn .levels)
+          same : (final : Turn) → To turn final → To begun final
+
+        ends : (x : State) → x .turn .sequencer .running ≡ false
+            → ent 𝓤 (⋆ 𝓤 H A (Refs (x .turn))) (Post (sequencer .val (x .turn .sequencer)))
+        ends x over =
+            qed W (Refs (x .turn)) ∵
+            suffices ! _ (ends-at 𝓤 H A run′.ended stayed (run′.clauses 𝓤 H A mem run) W bound
+            (sequencer .val (x .turn .sequencer)) (x .turn .sequencer) (lists (x .turn))
+            (x .table-long, (tt, (tt, (tt, (tt, (x .carried-long, (x .levels-long, tt)))))))) $
+            by ! (ending 𝓤 H A W args (lists (x .turn)) sequencer (x .turn .sequencer) (x .is)
+            (certain 𝓤 (x .same (x .turn) (ended (x .turn) over))))
+
+        abbrev left : State → ℕ
+        left x = weight (length (acks .slice .now)) (x .turn .sequencer)
+
+        abbrev Less : State → State → Type 0
+        Less x y = left x < left y
+
+        Less-wf : WellFounded Less
+        Less-wf = InvImage·wf left (Nat·lt-wfRel .wf)
+
+        module _ (x : State) where
+          -- the sequencer with its bytes taken, the pass of the turn, the table after it, what the modules then show, and the
+          -- sequencer after it
+          abbrev prepared : Sequencer
+          prepared = ready rows (x .turn .sequencer)
+
+          abbrev passing : Pass
+          passing = passOf prepared
+
+          abbrev stepped : List Usi
+          stepped = passed count passing (x .turn .table)
+
+          abbrev shown : Seen
+          shown = seenBy count stepped
+
+          abbrev after : Sequencer
+          after =
+              turned (length (x .turn .carried)) (length (x .turn .levels)) (acks .slice .now) shown prepared
+
+          abbrev carried-after : List ℕ
+          carried-after = carriedAfter (acks .slice .now) shown prepared (x .turn .carried)
+
+          abbrev levels-after : List ℕ
+          levels-after = levelsAfter shown prepared (x .turn .levels)
+
+          taken : x .turn .sequencer .loading ≡ true → loaded rows (x .turn .sequencer) ≡ prepared
+          unfolding ready
+          taken loading = rw loading
+
+          had : x .turn .sequencer .loading ≡ false → x .turn .sequencer ≡ prepared
+          unfolding ready
+          had loading = rw loading
+
+          within : count ≤ length (x .turn .table)
+          within = omega (arith, enough, x .table-long)
+
+          next : x .turn .sequencer .running ≡ true → Is sequencer-row after (sequencer .val after ∷ [])
+              → AsLong u8 carried carried-after → AsLong u8 levels levels-after → State
+          unfolding turnAfter
+          next running is carried-long levels-long =
+              record {
+                turn = record { sequencer = after; table = stepped; carried = carried-after; levels = levels-after };
+                is = is;
+                table-long = passed-long passing (x .turn .table) count ∙ x .table-long;
+                carried-long = carried-long;
+                levels-long = levels-long;
+                same = λ final reached. x .same final (more (x .turn) final running reached);
+              }
 
         abbrev table-ref-type : Ty
         table-ref-type = tyRef erased mut (pointee (usi-row .written))
@@ -274,15 +270,6 @@ module _
             (result-at table-at count-at sequencer-at rows-at acks-at carried-at levels-at pass-at seen-at test-at : ℕ)
             (table-ref-at table-lent-at carried-ref-at carried-lent-at levels-ref-at levels-lent-at : ℕ)
           where
-            abbrev En : Env 𝓤 H
-            En =
-                (sequencer-mir, result-at) ∷ (table-type, table-at) ∷ (tyInt w64, count-at) ∷ (sequencer-mir, sequencer-at)
-                ∷ (rows-mir, rows-at) ∷ (acks-type, acks-at) ∷ (carried-type, carried-at)
-                ∷ (levels-type, levels-at) ∷ (pass-mir, pass-at) ∷ (seen-mir, seen-at) ∷ (tyBool, test-at)
-                ∷ (table-ref-type, table-ref-at) ∷ (sliceTy table-ref-type, table-lent-at)
-                ∷ (buffer-ref-type, carried-ref-at) ∷ (sliceTy buffer-ref-type, carried-lent-at)
-                ∷ (buffer-ref-type, levels-ref-at) ∷ (sliceTy buffer-ref-type, levels-lent-at) ∷ []
-
             -- the last local first, by the test, the sequencer and the result
             abbrev Standing-at : Local → Sequencer → Local → List Local
             Standing-at test s result =
@@ -297,6 +284,9 @@ module _
 
             abbrev Standing : Sequencer → Local → List Local
             Standing s result = Standing-at (empty tyBool test-at) s result
+
+            abbrev En : Env 𝓤 H
+            En = environment (Standing start (empty sequencer-mir result-at)) []
 
             abbrev At : State → List (Item 𝓤)
             At x = Refs (x .turn) ++ locals (Standing (x .turn .sequencer) (empty sequencer-mir result-at)) []
@@ -446,32 +436,17 @@ module _
             starts result-at table-at count-at sequencer-at rows-at acks-at carried-at levels-at pass-at seen-at test-at
             table-ref-at table-lent-at carried-ref-at carried-lent-at levels-ref-at levels-lent-at)))))))))))))))))
 
-module _
-    {X : Type 1}
-    (𝓤 : URA X)
-    (H : Heap 𝓤)
-    (A : Atoms 𝓤)
-    (W : Given 𝓤 H A)
-    (mem : Memory → SProp 𝓤)
-    (run : Routine → Fun 𝓤)
-    (𝓣 : Tables 𝓤 H)
-    (pass-known : Triple 𝓤 (𝓣 .C pass-def.name) (PassOf 𝓤 H A mem run))
-    (loaded-known : Triple 𝓤 (𝓣 .C loaded-def.name) (LoadedOf 𝓤 H A mem run))
-    (step-all-known : Triple 𝓤 (𝓣 .C step-all-def.name) (StepAll 𝓤 H A mem run))
-    (next-known : Triple 𝓤 (𝓣 .C next-def.name) (Next 𝓤 H A mem run))
-  where
     meets : Meets 𝓤 H A run′.signature (WpFn 𝓤 H (𝓣 .C) (𝓣 .Λ) code.function) (run′.spec 𝓤 H A mem run)
     meets =
         walk-proves 𝓤 H A W run′.signature params (run′.clauses 𝓤 H A mem run) 𝓣 code.function
         (λ κs qs bounds a g are. needs 𝓤 ((a .1 .0 ≤ maxMasters) × (a .1 .0 ≤ length (a .0 .now))) _ (λ asked.
-        walk 𝓤 H A W mem run
-        (record { slice = a .0; lifetime = κs .0; share = qs .0 }) (a .1 .0) (a .1 .1 .0) (a .1 .1 .1 .0)
+        walk (record { slice = a .0; lifetime = κs .0; share = qs .0 }) (a .1 .0) (a .1 .1 .0) (a .1 .1 .1 .0)
         (record { slice = a .1 .1 .1 .1 .0; lifetime = κs .1 .0; share = qs .1 .0 })
         (record { slice = a .1 .1 .1 .1 .1 .0; lifetime = κs .1 .1 .0; share = qs .1 .1 .0 })
         (record { slice = a .1 .1 .1 .1 .1 .1 .0; lifetime = κs .1 .1 .1 .0; share = qs .1 .1 .1 .0 })
         (are .1 .0 .1) (are .1 .1 .0) (are .1 .1 .1 .0) (are .0 .0 .1) (are .1 .1 .1 .1 .0 .0 .1)
         (are .1 .1 .1 .1 .1 .0 .0 .1) (are .1 .1 .1 .1 .1 .1 .0 .0 .1)
-        (asked .0) (asked .1) 𝓣 pass-known loaded-known step-all-known next-known))
+        (asked .0) (asked .1)))
 
 pub run-spec : {M : Type 1} → stated.statement M
 unfolding code.routine tablesOf

@@ -17,8 +17,7 @@ use prog.Wp.{Heap, Env, Calls, Loops, WpFn, Tables}
 use ghost.Atoms.{Atoms}
 use contract.Monad.{Fun}
 use contract.Running.{givenOf, tables, tablesOf}
-use types.Kit.{Given, Item, ‵, raw, ⋆, atRet, runs, Sq, _$_, _∵_, !, qed, by, move}
-use types.Kit.{rewrite, suffices}
+use types.Kit.{Given, Item, ‵, raw, ⋆, atRet, runs, Sq, _$_, _∵_, !, qed, by, move, rewrite, suffices}
 use types.Run.{look, init, forget, stop, hop, fld, from, of-opd, addr, and-then, no-more, first, branches, exec}
 use types.Run.{returns, enter, alloc1, alloc0, params1, pass1, pass0}
 use types.Part.{whole, sub, look-in, agg}
@@ -49,15 +48,15 @@ use Rattle.arbitration.proofs.table.sample_all.Met as sample-all-met
 use Rattle.arbitration.proofs.table.write_all as write-all
 use Rattle.arbitration.proofs.table.write_all.Symbol as write-all-def
 use Rattle.arbitration.proofs.table.write_all.Met as write-all-met
-use Rattle.arbitration.proofs.Walk.{uint, truth, typed, unpack, Local, empty, holds, locals, free-locals}
-use Rattle.arbitration.proofs.Walk.{local-at, field-at, sets, puts, puts-last, holds-true, fails-false, Meant}
-use Rattle.arbitration.proofs.Walk.{by-value}
+use Rattle.arbitration.proofs.Walk.{environment, uint, truth, typed, unpack, Local, empty, holds, locals}
+use Rattle.arbitration.proofs.Walk.{free-locals, local-at, field-at, sets, puts, puts-last, holds-true}
+use Rattle.arbitration.proofs.Walk.{fails-false, Meant, by-value}
 use Rattle.arbitration.proofs.Lent.{word, Borrowed, mine, Fits}
-use Rattle.arbitration.proofs.Handed.{Arg, value, writes, Lists, at-entry, long-entry, own, anew, bind, items, entering, ending}
-use Rattle.arbitration.proofs.Handed.{certain, beside, hands-last}
+use Rattle.arbitration.proofs.Handed.{Arg, value, writes, Lists, at-entry, long-entry, own, anew, bind, items}
+use Rattle.arbitration.proofs.Handed.{entering, ending, certain, beside, hands-last}
 use Rattle.arbitration.proofs.Params.{Params, plainly, written, stays, walk-proves}
-use Rattle.arbitration.proofs.Module.{usi-row, pass-row, pass-mir, pass, sampling-mir, sampling}
-use Rattle.arbitration.proofs.Module.{seen-row, seen-mir, seen}
+use Rattle.arbitration.proofs.Module.{usi-row, pass-row, pass-mir, pass, sampling-mir, sampling, seen-row}
+use Rattle.arbitration.proofs.Module.{seen-mir, seen}
 use Rattle.arbitration.proofs.PassLaws.{passed-long, sampling-passed}
 use Rattle.arbitration.proofs.table.step_all as step-all
 use Rattle.arbitration.proofs.table.step_all.Statement as stated
@@ -93,56 +92,56 @@ module _
     (W : Given 𝓤 H A)
     (mem : Memory → SProp 𝓤)
     (run : Routine → Fun 𝓤)
-    (table : Borrowed Usi)
-    (count : ℕ)
-    (passing : Pass)
-    (count-fits : count < 2 ^ 64)
-    (passing-is : Is pass-row passing (pass .val passing ∷ []))
-    (room : Fits usi-row table)
-    (few : count ≤ maxMasters)
-    (enough : count ≤ length (table .slice .now))
+    (𝓣 : Tables 𝓤 H)
+    (samples-known : Triple 𝓤 (𝓣 .C samples-def.name) (Samples 𝓤 H A mem run))
+    (sampling-known : Triple 𝓤 (𝓣 .C sampling-def.name) (SamplingOf 𝓤 H A mem run))
+    (sample-all-known : Triple 𝓤 (𝓣 .C sample-all-def.name) (SampleAll 𝓤 H A mem run))
+    (write-all-known : Triple 𝓤 (𝓣 .C write-all-def.name) (WriteAll 𝓤 H A mem run))
   where
-    abbrev args : List Arg
-    args = writes usi-row table room ∷ value (uint w64) count (refl, count-fits) ∷ value pass passing passing-is ∷ []
+    abbrev C : Calls 𝓤 H
+    C = 𝓣 .C
 
-    abbrev bound : walkOf 𝓤 H A step-all.ended stayed (step-all.clauses 𝓤 H A mem run) .Ghost
-    bound = (bind args (at-entry args) (own args), tt)
+    abbrev Λ : Loops 𝓤 H
+    Λ = 𝓣 .Λ
 
-    abbrev Post : Val → SProp 𝓤
-    Post = walkOf 𝓤 H A step-all.ended stayed (step-all.clauses 𝓤 H A mem run) .post bound
-
-    -- the table after the pass, and what the modules show
-    abbrev after : List Usi
-    after = passed count passing (table .slice .now)
-
-    abbrev shown : Seen
-    shown = seenBy count after
-
-    abbrev last : Lists args
-    last = (after, (tt, (tt, tt)))
-
-    ends : Is seen-row shown (seen .val shown ∷ []) → ent 𝓤 (⋆ 𝓤 H A (items args last)) (Post (seen .val shown))
-    ends is =
-        qed W (items args last) ∵
-        suffices ! _ (ends-at 𝓤 H A step-all.ended stayed (step-all.clauses 𝓤 H A mem run) W bound (seen .val shown)
-        shown last (passed-long passing (table .slice .now) count, (tt, (tt, tt)))) $
-        by ! (ending 𝓤 H A W args last seen shown is (certain 𝓤 (refl, refl)))
+    frames : FmC 𝓤 H (W .laws) C
+    frames = fmOf 𝓤 H (W .laws) 𝓣
 
     module _
-        (𝓣 : Tables 𝓤 H)
-        (samples-known : Triple 𝓤 (𝓣 .C samples-def.name) (Samples 𝓤 H A mem run))
-        (sampling-known : Triple 𝓤 (𝓣 .C sampling-def.name) (SamplingOf 𝓤 H A mem run))
-        (sample-all-known : Triple 𝓤 (𝓣 .C sample-all-def.name) (SampleAll 𝓤 H A mem run))
-        (write-all-known : Triple 𝓤 (𝓣 .C write-all-def.name) (WriteAll 𝓤 H A mem run))
+        (table : Borrowed Usi)
+        (count : ℕ)
+        (passing : Pass)
+        (count-fits : count < 2 ^ 64)
+        (passing-is : Is pass-row passing (pass .val passing ∷ []))
+        (room : Fits usi-row table)
+        (few : count ≤ maxMasters)
+        (enough : count ≤ length (table .slice .now))
       where
-        abbrev C : Calls 𝓤 H
-        C = 𝓣 .C
+        abbrev args : List Arg
+        args = writes usi-row table room ∷ value (uint w64) count (refl, count-fits) ∷ value pass passing passing-is ∷ []
 
-        abbrev Λ : Loops 𝓤 H
-        Λ = 𝓣 .Λ
+        abbrev bound : walkOf 𝓤 H A step-all.ended stayed (step-all.clauses 𝓤 H A mem run) .Ghost
+        bound = (bind args (at-entry args) (own args), tt)
 
-        frames : FmC 𝓤 H (W .laws) C
-        frames = fmOf 𝓤 H (W .laws) 𝓣
+        abbrev Post : Val → SProp 𝓤
+        Post = walkOf 𝓤 H A step-all.ended stayed (step-all.clauses 𝓤 H A mem run) .post bound
+
+        -- the table after the pass, and what the modules show
+        abbrev after : List Usi
+        after = passed count passing (table .slice .now)
+
+        abbrev shown : Seen
+        shown = seenBy count after
+
+        abbrev last : Lists args
+        last = (after, (tt, (tt, tt)))
+
+        ends : Is seen-row shown (seen .val shown ∷ []) → ent 𝓤 (⋆ 𝓤 H A (items args last)) (Post (seen .val shown))
+        ends is =
+            qed W (items args last) ∵
+            suffices ! _ (ends-at 𝓤 H A step-all.ended stayed (step-all.clauses 𝓤 H A mem run) W bound (seen .val shown)
+            shown last (passed-long passing (table .slice .now) count, (tt, (tt, tt)))) $
+            by ! (ending 𝓤 H A W args last seen shown is (certain 𝓤 (refl, refl)))
 
         abbrev ref-type : Ty
         ref-type = tyRef erased mut (pointee (usi-row .written))
@@ -154,12 +153,6 @@ module _
             (result-at table-at count-at pass-at test-at seen-at : ℕ)
             (sampled-ref-at sampled-lent-at sampling-at written-ref-at written-lent-at : ℕ)
           where
-            abbrev En : Env 𝓤 H
-            En =
-                (seen-mir, result-at) ∷ (table-type, table-at) ∷ (tyInt w64, count-at) ∷ (pass-mir, pass-at)
-                ∷ (tyBool, test-at) ∷ (seen-mir, seen-at) ∷ (ref-type, sampled-ref-at) ∷ (sliceTy ref-type, sampled-lent-at)
-                ∷ (sampling-mir, sampling-at) ∷ (ref-type, written-ref-at) ∷ (sliceTy ref-type, written-lent-at) ∷ []
-
             -- the last local first, by what is known of `seen` and of the result
             abbrev Standing : Local → Local → List Local
             Standing seen result =
@@ -167,6 +160,9 @@ module _
                 ∷ empty (sliceTy ref-type) sampled-lent-at ∷ empty ref-type sampled-ref-at ∷ seen ∷ empty tyBool test-at
                 ∷ holds pass-mir pass-at (pass .val passing) ∷ holds (tyInt w64) count-at (vint w64 count)
                 ∷ holds table-type table-at (word (table .slice)) ∷ result ∷ []
+
+            abbrev En : Env 𝓤 H
+            En = environment (Standing (empty seen-mir seen-at) (empty seen-mir result-at)) []
 
             -- after the call: what the modules show is returned
             leaves : Is seen-row shown (seen .val shown ∷ [])
@@ -248,26 +244,12 @@ module _
             starts result-at table-at count-at pass-at test-at seen-at sampled-ref-at sampled-lent-at sampling-at
             written-ref-at written-lent-at)))))))))))
 
-module _
-    {X : Type 1}
-    (𝓤 : URA X)
-    (H : Heap 𝓤)
-    (A : Atoms 𝓤)
-    (W : Given 𝓤 H A)
-    (mem : Memory → SProp 𝓤)
-    (run : Routine → Fun 𝓤)
-    (𝓣 : Tables 𝓤 H)
-    (samples-known : Triple 𝓤 (𝓣 .C samples-def.name) (Samples 𝓤 H A mem run))
-    (sampling-known : Triple 𝓤 (𝓣 .C sampling-def.name) (SamplingOf 𝓤 H A mem run))
-    (sample-all-known : Triple 𝓤 (𝓣 .C sample-all-def.name) (SampleAll 𝓤 H A mem run))
-    (write-all-known : Triple 𝓤 (𝓣 .C write-all-def.name) (WriteAll 𝓤 H A mem run))
-  where
     meets : Meets 𝓤 H A step-all.signature (WpFn 𝓤 H (𝓣 .C) (𝓣 .Λ) code.function) (step-all.spec 𝓤 H A mem run)
     meets =
         walk-proves 𝓤 H A W step-all.signature params (step-all.clauses 𝓤 H A mem run) 𝓣 code.function
         (λ κs qs bounds a g are. needs 𝓤 ((a .1 .0 ≤ maxMasters) × (a .1 .0 ≤ length (a .0 .now))) _ (λ asked.
-        walk 𝓤 H A W mem run (record { slice = a .0; lifetime = κs .0; share = qs .0 }) (a .1 .0) (a .1 .1 .0) (are .1 .0 .1)
-        (are .1 .1 .0) (are .0 .0 .1) (asked .0) (asked .1) 𝓣 samples-known sampling-known sample-all-known write-all-known))
+        walk (record { slice = a .0; lifetime = κs .0; share = qs .0 }) (a .1 .0) (a .1 .1 .0) (are .1 .0 .1)
+        (are .1 .1 .0) (are .0 .0 .1) (asked .0) (asked .1)))
 
 pub step-all-spec : {M : Type 1} → stated.statement M
 unfolding code.routine tablesOf
