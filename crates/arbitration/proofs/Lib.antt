@@ -1,5 +1,6 @@
 pub mod Walk
 pub mod Lent
+pub mod Args
 pub mod Handed
 pub mod Params
 pub mod Module

@@ -55,8 +55,8 @@ use Rattle.arbitration_pass.proofs.noted.Symbol as noted-def
 use Rattle.arbitration.proofs.Walk.{environment, unpack, ByValue, uint, have, typed, Local, empty, holds, locals}
 use Rattle.arbitration.proofs.Walk.{local-at, field-at, sets, sets-last, puts, Meant, by-value}
 use Rattle.arbitration.proofs.Lent.{word, Borrowed, elements, Fits, open-table}
-use Rattle.arbitration.proofs.Handed.{Arg, value, writes, Lists, at-entry, own, bind, items, certain, entering}
-use Rattle.arbitration.proofs.Handed.{ending}
+use Rattle.arbitration.proofs.Args.{Arg, value, writes, Lists, at-entry, own, bind, items}
+use Rattle.arbitration.proofs.Handed.{certain, entering, ending}
 use Rattle.arbitration.proofs.Params.{Params, plainly, written, stays, Kept-all, walk-proves}
 use Rattle.arbitration.proofs.Module.{usi-row, usi-mir, usi, seen-row, seen-mir, seen}
 use Rattle.arbitration.proofs.TableLoop.{Counting, State, Less, near, i-fits, i-next, within-table}

@@ -58,8 +58,8 @@ use Rattle.arbitration.proofs.Lent.{word, Borrowed, AsLong, Fits}
 use Rattle.arbitration.proofs.Module.{usi-row, sequencer-row, sequencer-mir, sequencer, prepared-row}
 use Rattle.arbitration.proofs.Module.{prepared-mir, prepared, reply-row, reply-mir, reply, rows-row, rows-mir}
 use Rattle.arbitration.proofs.Module.{rows as rows-type}
-use Rattle.arbitration.proofs.Handed.{Arg, value, reads, writes, Lists, at-entry, long-entry, own, anew, bind}
-use Rattle.arbitration.proofs.Handed.{items, certain, beside, entering, ending, hands}
+use Rattle.arbitration.proofs.Args.{Arg, value, reads, writes, Lists, at-entry, long-entry, own, anew, bind, items}
+use Rattle.arbitration.proofs.Handed.{certain, beside, entering, ending, hands}
 use Rattle.arbitration.proofs.Params.{Params as Slots, read, written, stays, walk-proves}
 use Rattle.arbitration.proofs.arbitrate as arbitrate
 use Rattle.arbitration.proofs.arbitrate.Statement as stated

@@ -48,8 +48,8 @@ use Rattle.arbitration.proofs.Lent.{word, Borrowed, AsLong, Fits, in-bl
 use Rattle.arbitration.proofs.Module.{usi-row, usi-mir, usi, reply-row, reply-mir, reply, rehearsed-row}
 use Rattle.arbitration.proofs.Module.{rehearsed-mir, rehearsed-word, rehearsed-is, rehearsed-makes}
 use Rattle.arbitration.proofs.Module.{rehearsed-typed}
-use Rattle.arbitration.proofs.Handed.{Arg, value, reads, writes, Lists, at-entry, long-entry, own, anew, bind}
-use Rattle.arbitration.proofs.Handed.{items, certain, beside, entering, ending-in, hands}
+use Rattle.arbitration.proofs.Args.{Arg, value, reads, writes, Lists, at-entry, long-entry, own, anew, bind, items}
+use Rattle.arbitration.proofs.Handed.{certain, beside, entering, ending-in, hands}
 use Rattle.arbitration.proofs.Params.{Params as Slots, plainly, read, written, stays, walk-proves}
 use Rattle.arbitration.proofs.rehearse as rehearse
 use Rattle.arbitration.proofs.rehearse.Statement as stated

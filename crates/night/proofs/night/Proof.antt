@@ -37,7 +37,7 @@ use Rattle.night.specs.Lent.{Nights, Settles, placed}
 use Rattle.arbitration.proofs.Walk.{environment, uint, typed, unpack, Local, empty, holds, locals, free-locals}
 use Rattle.arbitration.proofs.Walk.{local-at, field-at, sets, puts, Meant}
 use Rattle.arbitration.proofs.Lent.{word, Borrowed, AsLong, Fits}
-use Rattle.arbitration.proofs.Handed.{Arg, value, reads, writes, Lists, at-entry, long-entry, own, anew, bind, items}
+use Rattle.arbitration.proofs.Args.{Arg, value, reads, writes, Lists, at-entry, long-entry, own, anew, bind, items}
 use Rattle.arbitration.proofs.Handed.{certain, beside, entering, ending, hands}
 use Rattle.arbitration.proofs.Params.{Params as Slots, read, written, stays, walk-proves}
 use Rattle.arbitration.proofs.Module.{usi-row}

@@ -59,7 +59,7 @@ use Rattle.arbitration.proofs.Walk.{environment, uint, typed, unpack, L
 use Rattle.arbitration.proofs.Walk.{local-at, field-at, sets, puts, puts-last, holds-true, fails-false}
 use Rattle.arbitration.proofs.Walk.{while-test, if-test, beyond, Meant, by-value}
 use Rattle.arbitration.proofs.Lent.{word, Borrowed, mine, AsLong, Fits}
-use Rattle.arbitration.proofs.Handed.{Arg, value, reads, writes, Lists, at-entry, own, anew, bind, items}
+use Rattle.arbitration.proofs.Args.{Arg, value, reads, writes, Lists, at-entry, own, anew, bind, items}
 use Rattle.arbitration.proofs.Handed.{entering, certain, beside, ending, hands, hands-last}
 use Rattle.arbitration.proofs.Params.{Params, plainly, read, written, stays, walk-proves}
 use Rattle.arbitration.proofs.Module.{usi-row, pass-mir, pass, seen-row, seen-mir, seen, sequencer-row}

@@ -52,7 +52,7 @@ use Rattle.arbitration.proofs.Walk.{environment, uint, truth, typed, un
 use Rattle.arbitration.proofs.Walk.{free-locals, local-at, field-at, sets, puts, puts-last, holds-true}
 use Rattle.arbitration.proofs.Walk.{fails-false, Meant, by-value}
 use Rattle.arbitration.proofs.Lent.{word, Borrowed, mine, Fits}
-use Rattle.arbitration.proofs.Handed.{Arg, value, writes, Lists, at-entry, long-entry, own, anew, bind, items}
+use Rattle.arbitration.proofs.Args.{Arg, value, writes, Lists, at-entry, long-entry, own, anew, bind, items}
 use Rattle.arbitration.proofs.Handed.{entering, ending, certain, beside, hands-last}
 use Rattle.arbitration.proofs.Params.{Params, plainly, written, stays, walk-proves}
 use Rattle.arbitration.proofs.Module.{usi-row, pass-row, pass-mir, pass, sampling-mir, sampling, seen-row}

@@ -40,7 +40,8 @@ use Rattle.usi.specs.Module.{powerUp}
 use Rattle.arbitration.proofs.Walk.{environment, unpack, uint, have, typed, Local, empty, holds, locals, local-at}
 use Rattle.arbitration.proofs.Walk.{field-at, sets, sets-last, puts, Meant, by-value}
 use Rattle.arbitration.proofs.Lent.{word, Borrowed, elements, Fits, open-table}
-use Rattle.arbitration.proofs.Handed.{Arg, value, writes, at-entry, own, bind, items, certain, entering, ending}
+use Rattle.arbitration.proofs.Args.{Arg, value, writes, at-entry, own, bind, items}
+use Rattle.arbitration.proofs.Handed.{certain, entering, ending}
 use Rattle.arbitration.proofs.Params.{Params, plainly, written, stays, walk-proves}
 use Rattle.arbitration.proofs.TableLoop.{Counting, State, Less, near, i-fits, i-next, place-is-there, next, falls, Open}
 use Rattle.arbitration.proofs.TableLoop.{Turned, tests, goes-round, leaving}
