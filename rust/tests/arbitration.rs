@@ -1,5 +1,8 @@
 //! P8 to P12, the run list, the lent table, and the runner against the outcome from messages alone.
 
+mod lent;
+
+use lent::LENT;
 use rehearsal_model::arbitration::outcome::{first_difference, least, outcome};
 use rehearsal_model::arbitration::runner::run;
 use rehearsal_model::arbitration::{
@@ -10,18 +13,6 @@ use rehearsal_model::module::Module;
 use rehearsal_model::packed::Asked;
 use rehearsal_model::random::Random;
 use rehearsal_model::refusal::{Reason, Refusal};
-
-/// What a table holds before a call: no module after power-up, nor one that a run leaves.
-const LENT: Module = Module {
-    registers: [0xA5, 0x5A, 0xA5, 0x5A, 0xA5, 0x5A],
-    latch: false,
-    enable: true,
-    phase: false,
-    seen: true,
-    scl: false,
-    sda: true,
-    stretch: true,
-};
 
 /// The call with room for all but perhaps the table.
 fn ask_with(messages: &[&[u8]], acks: &[u8], table: &mut [Module]) -> Result<Run, Refusal> {

@@ -1,5 +1,8 @@
 //! The night: refusals in their order, rounds one after the other, and the rounds against the order of the messages.
 
+mod lent;
+
+use lent::LENT;
 use rehearsal_model::arbitration::{Message, Request, MASTERS};
 use rehearsal_model::compare::arbitration::draw_request;
 use rehearsal_model::module::Module;
@@ -11,18 +14,8 @@ use rehearsal_model::refusal::{Reason, Refusal};
 /// What the registers of a message's master read after its own round.
 const CARRIED: [u8; 6] = [0xC8, 0x45, 0x22, 0x00, 0xFF, 0x00];
 
-/// What the lent slices hold before a call.
+/// What the lent slice of rounds holds before a call.
 const ROUND: u32 = 777;
-const LENT: Module = Module {
-    registers: [0xA5, 0x5A, 0xA5, 0x5A, 0xA5, 0x5A],
-    latch: false,
-    enable: true,
-    phase: false,
-    seen: true,
-    scl: false,
-    sda: true,
-    stretch: true,
-};
 
 /// A message as it is written: `02 / 04`.
 fn message(text: &str) -> Message {

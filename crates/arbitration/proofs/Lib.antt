@@ -1,7 +1,10 @@
 pub mod Walk
 pub mod Lent
+pub mod Args
+pub mod Handed
+pub mod Params
 pub mod Module
-pub mod Inputs
+pub mod TableLoop
 pub mod PassLaws
 pub mod PassLoop
 pub mod Given

@@ -1,4 +1,5 @@
-// What a call is to do, decided before anything is written: the refusal, or the run's beginning; and its messages as rows.
+// What a call is to do, decided before anything is written: the refusal, or the run's beginning; and its messages as
+// rows.
 ghost use mathlib.Core.Path.{_≡_};
 ghost use mathlib.Core.Bool.{cond};
 ghost use mathlib.Core.List.{[]};
@@ -22,8 +23,8 @@ pub(crate) struct Prepared {
     pub(crate) first: Sequencer,
 }
 
-// Whether a lent slice is too short (8): a buffer for so many bytes carried, or levels recorded, or the table for so many
-// masters.
+// Whether a lent slice is too short (8): a buffer for so many bytes carried, or levels recorded, or the table for so
+// many masters.
 fn short(
     masters: usize,
     count: usize,

@@ -36,6 +36,11 @@ abbrev pub cut : List ℕ → List ℕ → List (List ℕ)
 cut [] list = []
 cut (count ∷ counts) list = take count list ∷ cut counts (drop count list)
 
+-- Lists put so into one.
+abbrev pub joined : List (List ℕ) → List ℕ
+joined [] = []
+joined (list ∷ lists) = list ++ joined lists
+
 abbrev pub total : List ℕ → ℕ
 total [] = 0
 total (count ∷ counts) = count + total counts

@@ -7,15 +7,16 @@ use native.Mathlib.Nat.{not-suc-le-zero, le-of-suc-le-suc}
 use native.Mathlib.Numerals.{add-one}
 use native.Mathlib.Omega.{arith}
 use lib.ListN.{length, getD, take, drop}
-use lib.Seq.{take-all, drop-at, drop-drop, take-at}
+use lib.Seq.{take-all, drop-drop}
 use Rattle.text.specs.Output.{Put}
 use Rattle.text.proofs.Runs.{to-end}
 use Rattle.text.proofs.Putting.{put-then, put-as}
 use Rattle.laws.proofs.Lists.{take-least, drop-least}
 use Rattle.arbitration_rules.specs.Limits.{maxMasters, maxLength}
-use Rattle.arbitration_rules.specs.Reply.{Request, asked, cut, total, partsOf, lengthsOf}
+use Rattle.arbitration_rules.specs.Reply.{Request, asked, cut, joined, total, partsOf, lengthsOf}
+use Rattle.arbitration_rules.proofs.Cut.{cut-joined}
 use Rattle.load_text.specs.Boards.{boardOf, masters}
-use Rattle.load_text.specs.Messages.{chosen, messagesIn, joined, unless, partsIn, partCounts}
+use Rattle.load_text.specs.Messages.{chosen, messagesIn, unless, partsIn, partCounts}
 
 -- a board's message, cut out of the rows
 pub messages-length : (counts rows : List ℕ) → length (messagesIn rows counts) ≡ length counts
@@ -147,13 +148,6 @@ chosen-at (false ∷ silent) (a ∷ all) zero empty less enough = refl
 chosen-at (false ∷ silent) (a ∷ all) (suc master) empty less enough =
     chosen-at silent all master empty (omega arith) (le-of-suc-le-suc enough)
 
--- lists put one after the other are told apart again by their lengths
-told-apart : (lists : List (List ℕ)) → cut (map length lists) (joined lists) ≡ lists
-told-apart [] = refl
-told-apart (list ∷ lists) =
-    ap₂ _∷_ (take-at list (joined lists) (length list) refl)
-    (ap (cut (map length lists)) (drop-at list (joined lists) (length list) refl) ∙ told-apart lists)
-
 chosen-map : {A B : Type 0} (f : A → B) (silent : List Bool) (all : List A)
     → chosen silent (map f all) ≡ map f (chosen silent all)
 chosen-map f [] all = refl
@@ -165,7 +159,7 @@ chosen-apart : (silent : List Bool) (lists : List (List ℕ))
     → cut (chosen silent (map length lists)) (joined (chosen silent lists)) ≡ chosen silent lists
 chosen-apart silent lists =
     ap (λ (l : List ℕ). cut l (joined (chosen silent lists))) (chosen-map length silent lists)
-    ∙ told-apart (chosen silent lists)
+    ∙ cut-joined (chosen silent lists)
 
 -- what the library is handed: the messages in rows of bytes, their parts in rows like them, and acknowledges
 module _ (silent : List Bool) (counts rows starts acknowledges : List ℕ) where

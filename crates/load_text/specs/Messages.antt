@@ -1,6 +1,6 @@
 -- What is handed to the library of the boards that are not silent, in the order of their numbers.
 use mathlib.Core.Bool.{Bool, true, false, cond}
-use mathlib.Core.List.{List, [], _∷_, _++_, map}
+use mathlib.Core.List.{List, [], _∷_, map}
 use Prim.Native.Nat.{ℕ, zero, suc}
 use lib.ListN.{length, take, drop, replicate}
 use Rattle.arbitration_rules.specs.Limits.{maxMasters, maxLength}
@@ -16,11 +16,6 @@ chosen (false ∷ others) (a ∷ all) = a ∷ chosen others all
 abbrev pub messagesIn : List ℕ → List ℕ → List (List ℕ)
 messagesIn rows [] = []
 messagesIn rows (count ∷ counts) = take count rows ∷ messagesIn (drop maxLength rows) counts
-
--- messages one after the other
-abbrev pub joined : List (List ℕ) → List ℕ
-joined [] = []
-joined (message ∷ messages) = message ++ joined messages
 
 -- nothing, of a board that is silent
 abbrev pub unless : {A : Type 0} → Bool → List A → List A

@@ -4,27 +4,22 @@ use Prim.Native.Nat.{ℕ, zero, suc, _+_, _≤_}
 use native.Mathlib.Omega.{arith}
 use mathlib.Core.Path.{_≡_, refl, sym, ap, ap₂, _∙_}
 use mathlib.Core.Bool.{false}
-use mathlib.Core.List.{List, [], _∷_, _++_, map, zipWith}
+use mathlib.Core.List.{List, [], _∷_, map, zipWith}
 use lib.ListN.{length, take, drop, replicate, length-append, length-drop, length-map}
-use lib.Seq.{take-append-seam, drop-append-seam, length-take-le}
+use lib.Seq.{length-take-le}
 use borrow.Author.Tests.{ne-eqb, le-ltb}
 use Rattle.laws.specs.Everyone.{Everyone, nobody, also}
 use Rattle.laws.specs.Search.{any}
 use Rattle.arbitration_rules.specs.Limits.{maxLength}
-use Rattle.arbitration_rules.specs.Reply.{Request, asked, cut, total, partsOf, lengthsOf, messagesOf, marksOf}
-use Rattle.arbitration_rules.specs.Reply.{badMessage, itself}
+use Rattle.arbitration_rules.specs.Reply.{Request, asked, cut, joined, total, partsOf, lengthsOf, messagesOf}
+use Rattle.arbitration_rules.specs.Reply.{marksOf, badMessage, itself}
+use Rattle.arbitration_rules.proofs.Cut.{cut-joined}
 use Rattle.arbitration_rules.proofs.Pieces.{pieces, messages-are, Good}
 use Rattle.arbitration_messages.proofs.Sums.{total-append}
 use Rattle.night_rules.specs.Night.{waiting}
-use Rattle.night.specs.Waiting.{joined, waitingIn}
+use Rattle.night.specs.Waiting.{waitingIn}
 
--- lists cut from where they were joined
-pub cut-joined : (lists : List (List ℕ)) → cut (map length lists) (joined lists) ≡ lists
-cut-joined [] = refl
-cut-joined (list ∷ lists) =
-    ap₂ _∷_ (take-append-seam list (joined lists))
-    (ap (cut (map length lists)) (drop-append-seam list (joined lists)) ∙ cut-joined lists)
-
+-- lists that were joined, summed
 pub joined-length : (lists : List (List ℕ)) → total (map length lists) ≡ length (joined lists)
 joined-length [] = refl
 joined-length (list ∷ lists) = omega (arith, length-append list (joined lists), joined-length lists)

@@ -11,11 +11,11 @@ use lib.Seq.{sets, sets-eq, paste, paste-suc, drop-cons, take-append-seam, take-
 use Rattle.laws.proofs.Buffer.{Writing, writing-none, writing-long, writing-room, writing-more, writing-done}
 use Rattle.laws.proofs.Buffer.{progress-done}
 use Rattle.laws.proofs.Buffer.{length-filled}
-use Rattle.arbitration_rules.specs.Reply.{cut}
+use Rattle.arbitration_rules.specs.Reply.{cut, joined}
 use Rattle.arbitration_rules.proofs.Cut.{cut-count}
 use Rattle.arbitration_messages.proofs.Walk.{At, at-start, at-more, in-messages, message-is}
 use Rattle.night_rules.specs.Night.{waiting, waits}
-use Rattle.night.specs.Waiting.{joined, waitingIn, Holds}
+use Rattle.night.specs.Waiting.{waitingIn, Holds}
 
 -- numbers stored one after the other
 module _ (list numbers : List ℕ) (at : ℕ) where
@@ -122,19 +122,6 @@ module _ (rounds lengths list entry : List ℕ) where
         entry out size room-for (gathering .writing) piece next split in
         omega (arith, within, piece-size, gathering-long)
 
-    gathering-more : (stored : List ℕ) → stored ≡ sets out size piece
-        → Gathering rounds lengths list entry stored (i + 1) to (size + (stop - from))
-    gathering-more stored is =
-        record {
-          at = at-more lengths list i from to (gathering .at) less end;
-          writing =
-              subst (λ (k : ℕ). Writing (waitingIn rounds lengths list) next entry stored (size + k)) piece-size
-              (subst
-              (λ (l : List ℕ). Writing (waitingIn rounds lengths list) next entry l (size + length piece)) (sym is)
-              (writing-more (waitingIn rounds lengths list) (joined (waiting (drop i rounds) (drop i messages)))
-              entry out size room-for (gathering .writing) piece next split));
-        }
-
     -- what a turn of the loop asks
     pub record Turn : Type 0 where
       pub after : from ≤ stop
@@ -153,7 +140,17 @@ module _ (rounds lengths list entry : List ℕ) where
           sized = piece-size;
           room = gathering-room;
           long = gathering-long;
-          next-holds = gathering-more;
+          next-holds =
+              λ stored is.
+              record {
+                at = at-more lengths list i from to (gathering .at) less end;
+                writing =
+                    subst (λ (k : ℕ). Writing (waitingIn rounds lengths list) next entry stored (size + k)) piece-size
+                    (subst
+                    (λ (l : List ℕ). Writing (waitingIn rounds lengths list) next entry l (size + length piece)) (sym is)
+                    (writing-more (waitingIn rounds lengths list) (joined (waiting (drop i rounds) (drop i messages)))
+                    entry out size room-for (gathering .writing) piece next split));
+              };
         }
 
   pub gathering-done : (out : List ℕ) (i from size : ℕ) → Gathering rounds lengths list entry out i from size

@@ -1,15 +1,10 @@
 -- The lists that wait, put together anew, for contracts inside the crate.
 use Prim.Native.Nat.{ℕ, _≤_}
 use mathlib.Core.Path.{_≡_}
-use mathlib.Core.List.{List, [], _∷_, _++_}
+use mathlib.Core.List.{List}
 use lib.ListN.{length, take}
-use Rattle.arbitration_rules.specs.Reply.{cut}
+use Rattle.arbitration_rules.specs.Reply.{cut, joined}
 use Rattle.night_rules.specs.Night.{waiting}
-
--- lists one after the other in one
-abbrev pub joined : List (List ℕ) → List ℕ
-joined [] = []
-joined (list ∷ lists) = list ++ joined lists
 
 -- of lists that lie so in one, each of its length, those that wait
 abbrev pub waitingIn : List ℕ → List ℕ → List ℕ → List ℕ
