@@ -1,6 +1,6 @@
-/* Every function of include/kanaouvel.h that takes a field out of an answer, on answers of the proved library. What
- * each field must be is worked out by hand from document 01: its worked numbers P1 to P12, its rules, and 02's requests
- * where they are named. C11 and C++17. */
+/* Every function of include/kanaouvel.h that takes a field out of an answer, and every name that it gives a number, on
+ * answers of the proved library. What each must be is worked out by hand from document 01: its worked numbers P1 to
+ * P12, its rules, and 02's requests where they are named. C11 and C++17. */
 #include "../include/kanaouvel.h"
 #include <stdio.h>
 
@@ -77,6 +77,7 @@ static void cleared_flags(void)
     u = kan_usi_write(u, KAN_USICTL1, 0x0F);
     check(kan_step_cleared(kan_usi_write(u, KAN_USICNT, 0x08)) == (KAN_IFG | KAN_STP), "a count clears IFG and STP");
     check(kan_step_cleared(kan_usi_write(u, KAN_USICTL1, 0x07)) == KAN_AL, "AL");
+    check(kan_step_cleared(kan_usi_write(u, KAN_USICTL1, 0x0B)) == KAN_STP, "STP");
     check(kan_step_cleared(kan_usi_write(u, KAN_USICTL1, 0x0D)) == KAN_STTIFG, "STTIFG");
     check(kan_step_cleared(kan_usi_write(u, KAN_USICTL1, 0x00)) == 15, "all four");
 }
@@ -90,7 +91,9 @@ static void lines(void)
     u = kan_usi_write(u, KAN_USICTL0, 0xCA);
     output(u, 0, 1, 1, "P5: both hold");
     check(kan_lines_sda_low(kan_usi_lines(u)), "P5");
-    u = kan_usi_sample(kan_usi_sample(fitted(0x22, 0xC0), kan_level(1, 1)), kan_level(1, 0));
+    u = kan_usi_sample(fitted(0x22, 0xC0), kan_level(1, 1));
+    remembers(u, 1, 1, 1, 0, "before START");
+    u = kan_usi_sample(u, kan_level(1, 0));
     check(kan_module_usictl1(u) == 0x43, "START sets STTIFG");
     remembers(u, 1, 1, 0, 0, "after START");
     u = kan_usi_sample(u, kan_level(0, 0));
@@ -158,6 +161,7 @@ static void event_numbers(void)
     uint16_t found[5];
     check(kan_encode_count(kan_bus_encode(list, 5, 0, 1, stamps, 44, levels, 44)) == 44, "44 samples");
     check(kan_decode_count(kan_bus_decode(stamps, 44, levels, 44, found, 5)) == 5, "five events");
+    check(!kan_event_is_byte(found[0]) && kan_event_is_byte(511), "START is no byte, 511 is one");
     check(kan_event_is_byte(found[1]) && kan_event_byte(found[1]) == 0xA0, "A0h");
     check(!kan_event_not_acknowledged(found[1]), "acknowledged");
     check(found[2] == KAN_REPEATED_START && !kan_event_is_byte(found[2]), "repeated START");
@@ -172,7 +176,8 @@ static void dumps(void)
 {
     static const uint32_t stamps[] = {5, 6, 9};
     static const uint8_t levels[] = {3, 3, 1};
-    static uint8_t text[KAN_MAX_DUMP_READ + 1];
+    static uint8_t text[KAN_MAX_DUMP_BYTES + 1], most_levels[KAN_MAX_SAMPLES];
+    static uint32_t most_stamps[KAN_MAX_SAMPLES];
     uint32_t read_stamps[3];
     uint8_t read_levels[3];
     uint64_t reply = kan_bus_dump(stamps, 3, levels, 3, text, sizeof text);
@@ -183,6 +188,13 @@ static void dumps(void)
     check(kan_refusal(reply) == KAN_DUMP_CUT && kan_place(reply) == 141 && kan_count(reply) == 0, "23 at the end");
     reply = kan_bus_read_dump(text, KAN_MAX_DUMP_READ + 1, read_stamps, 3, read_levels, 3);
     check(kan_refusal(reply) == KAN_DUMP_LONG && kan_place(reply) == 0, "60,001 bytes");
+    reply = kan_bus_read_dump(text, KAN_MAX_DUMP_READ, read_stamps, 3, read_levels, 3);
+    check(kan_refusal(reply) != KAN_DUMP_LONG, "60,000 bytes");
+    /* the longest: 127 bytes, and 18 for each sample with a stamp of ten digits at which both lines change */
+    for (uint32_t i = 0; i < KAN_MAX_SAMPLES; i++)
+        most_stamps[i] = 1000000000 + i, most_levels[i] = kan_level(i % 2, i % 2);
+    reply = kan_bus_dump(most_stamps, KAN_MAX_SAMPLES, most_levels, KAN_MAX_SAMPLES, text, sizeof text);
+    check(kan_count(reply) == KAN_MAX_DUMP_BYTES, "the longest dump");
 }
 
 /* P8 with a third message A0 01, which loses to 90 at bit 2; 14 with its place */
@@ -205,6 +217,8 @@ static void seats(void)
         check(kan_seat_cleared(seat[i]) == (KAN_STTIFG | KAN_IFG), "STTIFG and IFG (02, request 12)");
     registers(modules[0], 0xC0, 0x4D, 0x22, 0x80, 0x0F, 0, "P8: the first master");
     registers(modules[1], 0xC8, 0x45, 0x22, 0x00, 0xFF, 0, "P8: the second");
+    check(kan_seat_cleared(30) == 15 && kan_seat_position(30) == 0, "bits 1 to 4 of a seat");
+    check(kan_seat_byte(32 * (9 * 63 + 7)) == 63 && kan_seat_bit(32 * (9 * 63 + 7)) == 7, "the last bit of 64 bytes");
     check(kan_levels_drawn(2, 0) == 41 && kan_levels_drawn(KAN_MAX_BYTES, 63) == KAN_MAX_LEVELS, "levels");
     reply = kan_arbitrate(reads, 6, parts, 3, counts, 3, acks, 2, carried, KAN_MAX_BYTES, levels, KAN_MAX_LEVELS,
                           modules, 3, seat, 3);
@@ -213,6 +227,92 @@ static void seats(void)
     reply = kan_night(bytes, 6, parts, 3, counts, 3, acks, 2, rounds, 3, modules, 3);
     check(kan_refusal(reply) == KAN_DONE && kan_count(reply) == 3, "a night of three rounds");
     check(rounds[0] == 2 && rounds[1] == 1 && rounds[2] == 3, "from the least to the largest");
+}
+
+/* the refusal of messages of one part each, at most 17, of so many bytes, or of a night of them */
+static int refused(int night, const uint8_t *bytes, size_t bytes_length, const uint32_t *parts, size_t masters,
+                   const uint8_t *acks, size_t acks_length)
+{
+    static const uint32_t counts[] = {1, 1, 1, 1, 1, 1, 1, 1, 1, 1, 1, 1, 1, 1, 1, 1, 1};
+    static uint8_t carried[KAN_MAX_BYTES], levels[KAN_MAX_LEVELS];
+    uint64_t modules[17];
+    uint32_t table[17];
+    uint64_t reply = night ? kan_night(bytes, bytes_length, parts, masters, counts, masters, acks, acks_length, table,
+                                       17, modules, 17)
+                           : kan_arbitrate(bytes, bytes_length, parts, masters, counts, masters, acks, acks_length,
+                                           carried, KAN_MAX_BYTES, levels, KAN_MAX_LEVELS, modules, 17, table, 17);
+    return kan_refusal(reply);
+}
+
+/* P9 to P11, 12, 13, 15, and 43 (02, request 14) */
+static void refused_messages(void)
+{
+    static const uint8_t same[] = {2, 2, 2, 2, 2, 2, 2, 2, 2, 2, 2, 2, 2, 2, 2, 2, 2}, longer[] = {0x90, 0x90, 0x00};
+    static const uint32_t ones[] = {1, 1, 1, 1, 1, 1, 1, 1, 1, 1, 1, 1, 1, 1, 1, 1, 1}, one_two[] = {1, 2};
+    static const uint8_t acks[] = {0, 0, 2}, nack[] = {1, 0};
+    check(refused(0, same, KAN_MAX_MASTERS, ones, KAN_MAX_MASTERS, acks, 1) == KAN_DONE, "sixteen messages");
+    check(refused(0, same, KAN_MAX_MASTERS + 1, ones, KAN_MAX_MASTERS + 1, acks, 1) == KAN_MASTER_COUNT, "12");
+    check(refused(0, same, 3, ones, 2, acks, 1) == KAN_MESSAGE_LENGTH, "13");
+    check(refused(0, same, 2, ones, 2, acks + 2, 1) == KAN_ACKNOWLEDGES, "15");
+    check(refused(0, longer, 3, one_two, 2, acks, 2) == KAN_UNDECIDED, "P10");
+    check(refused(0, longer, 3, one_two, 2, nack, 2) == KAN_DONE, "P11");
+    check(refused(1, longer, 3, one_two, 2, acks, 2) == KAN_UNDECIDED, "16 of a night");
+    check(refused(1, longer, 3, one_two, 2, nack, 2) == KAN_NOT_ACKNOWLEDGED, "43 before 16");
+}
+
+/* of a trace of three samples: 5, 8, 9, 11, 18 (02, request 9: SCL low for 46 units of 100 ns), 19 */
+static void refused_traces(void)
+{
+    static const uint16_t list[] = {KAN_START, 0xA0, KAN_STOP};
+    static const uint32_t early[] = {0, 10, 56};
+    static const uint8_t low[] = {3, 2, 3}, start[] = {3, 1, 1};
+    static uint32_t stamps[23];
+    static uint8_t out[200];
+    uint16_t found[3];
+    check(kan_refusal(kan_bus_decode(early, 2, low, 3, found, 3)) == KAN_UNEQUAL_LENGTHS, "5");
+    check(kan_refusal(kan_bus_decode(early, 3, start, 3, found, 0)) == KAN_SHORT_BUFFER, "8");
+    check(kan_refusal(kan_bus_encode(list, 2, 0, 1, stamps, 23, out, 23)) == KAN_INCOMPLETE_LIST, "9");
+    check(kan_refusal(kan_bus_encode(list, 3, 4294967274, 1, stamps, 23, out, 23)) == KAN_LAST_STAMP, "11");
+    check(kan_refusal(kan_bus_decode_standard(early, 3, low, 3, found, 3)) == KAN_SHORT_PHASE, "18");
+    check(kan_refusal(kan_bus_dump(early, 0, low, 0, out, 200)) == KAN_NO_SAMPLE, "19");
+}
+
+/* a text that begins with two wires, a and b, and goes on so (02, request 8) */
+static int refused_dump(const char *goes_on)
+{
+    char text[200];
+    uint32_t stamps[9];
+    uint8_t levels[9];
+    int length = snprintf(text, sizeof text,
+                          "$var wire 1 a x $end $var wire 1 b y $end $enddefinitions $end\n%s\n", goes_on);
+    return kan_refusal(kan_bus_read_dump((const uint8_t *)text, (size_t)length, stamps, 9, levels, 9));
+}
+
+static void refused_dumps(void)
+{
+    check(refused_dump("#5 1a 1b") == KAN_DONE, "a dump of one sample");
+    check(refused_dump("#5 xa") == KAN_DUMP_UNKNOWN, "20");
+    check(refused_dump("#5 1a 1b #5") == KAN_DUMP_STAMP, "21");
+    check(refused_dump("#5 1c") == KAN_DUMP_IDENTIFIER, "22");
+    check(refused_dump("#5 1a #6") == KAN_DUMP_WIRES, "24");
+    check(refused_dump("#4294967296") == KAN_DUMP_LARGE_STAMP, "25");
+    check(refused_dump("1a") == KAN_DUMP_FORM, "27");
+}
+
+/* 02, request 10: a catalogue of one board, 5, with a message of one byte */
+static int refused_board(uint32_t board, const uint32_t *boards, size_t boards_length, const uint32_t *lengths)
+{
+    static const uint8_t block[] = {2};
+    return kan_catalogue_number(board, block, 1, boards, boards_length, lengths, 1, NULL, 0, NULL, 0, NULL, 0);
+}
+
+static void refused_boards(void)
+{
+    static const uint32_t boards[] = {5, 5}, lengths[] = {1, 2};
+    check(refused_board(5, boards, 1, lengths) == KAN_DONE, "a board that is found");
+    check(refused_board(5, boards, 2, lengths) == KAN_BOARDS_FALL, "40");
+    check(refused_board(5, boards, 1, lengths + 1) == KAN_BOARD_LENGTHS, "41");
+    check(refused_board(6, boards, 1, lengths) == KAN_BOARD_ABSENT, "42");
 }
 
 int main(void)
@@ -226,6 +326,10 @@ int main(void)
     event_numbers();
     dumps();
     seats();
+    refused_messages();
+    refused_traces();
+    refused_dumps();
+    refused_boards();
     printf("fields: %d checks, %d failed\n", checks, failures);
     return failures != 0;
 }
