@@ -67,8 +67,8 @@ returns-2 c =
     let settled = c .before .before .before .settle in
     let lent = lentAt (c .before .before .before .before .before) in
     let passes = settled-none (lent .request) (rw (settled .ensures) at (c .if2 .left)) .0 in
-    let tight : short lent || shortTable lent ≡ true =
-    rw (c .before .before .before .before .if1 .taken) (or-true (short lent)) in
+    let tables : shortTable lent ≡ true = c .before .before .before .before .if1 .taken in
+    let tight : short lent || shortTable lent ≡ true = rw tables (or-true (short lent)) in
     let all = refused-short lent 8 passes tight refl in
     (all .returns, all .follows)
 
