@@ -1,7 +1,7 @@
 #!/usr/bin/env python3
 """The library's dumps read by sigrok's I2C decoder (Debian packages sigrok-cli, libsigrokdecode4).
 
-A program in C draws random complete event lists with `bus_encode` and writes them with `bus_dump`; sigrok-cli reads the
+A program in C draws random complete event lists with `kan_bus_encode` and writes them with `kan_bus_dump`; sigrok-cli reads the
 text, with one stamp more, since libsigrok never decodes the last change of a file. Its events must be those of the list.
 Exit status 1 at the first difference, 2 where a tool is missing: `rt staticlib export` writes the archive."""
 import os, random, shutil, subprocess, sys, tempfile
@@ -16,15 +16,18 @@ PROGRAM = """
 #include <stdio.h>
 #include <stdlib.h>
 static uint16_t events[1024];
-static uint32_t stamps[4096];
-static uint8_t levels[4096], text[73855];
+static uint32_t stamps[KAN_MAX_SAMPLES];
+static uint8_t levels[KAN_MAX_SAMPLES], text[KAN_MAX_DUMP_BYTES];
 int main(int argc, char **argv)
 {
     for (int i = 2; i < argc; i++)
         events[i - 2] = (uint16_t)atoi(argv[i]);
-    uint64_t drawn = bus_encode(events, (size_t)(argc - 2), 0, (uint32_t)atoi(argv[1]), stamps, 4096, levels, 4096);
-    uint64_t written = bus_dump(stamps, drawn >> 8, levels, drawn >> 8, text, sizeof text);
-    return drawn & 255 || written & 255 || fwrite(text, 1, written >> 24, stdout) != written >> 24;
+    uint64_t drawn = kan_bus_encode(events, (size_t)(argc - 2), 0, (uint32_t)atoi(argv[1]), stamps, KAN_MAX_SAMPLES,
+                                    levels, KAN_MAX_SAMPLES);
+    size_t count = kan_encode_count(drawn);
+    uint64_t written = kan_bus_dump(stamps, count, levels, count, text, sizeof text);
+    return kan_refusal(drawn) || kan_refusal(written)
+        || fwrite(text, 1, kan_count(written), stdout) != kan_count(written);
 }
 """
 

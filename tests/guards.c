@@ -8,7 +8,7 @@
 enum { GUARD = 64, ROOM = 2048, FILL = 0xA5 };
 
 /* the most masters, bytes of a message and levels: every byte a part of its own */
-enum { MASTERS = 16, BYTES = 64, LEVELS = 5 + 18 * BYTES + 3 * (BYTES - 1) };
+enum { MASTERS = KAN_MAX_MASTERS, BYTES = KAN_MAX_BYTES, LEVELS = KAN_MAX_LEVELS };
 
 static int checks, failures;
 
@@ -60,14 +60,15 @@ struct load {
     size_t acks_length;
 };
 
+#define MESSAGES(l) (l)->bytes, (l)->bytes_length, (l)->parts, (l)->parts_length, (l)->counts, (l)->counts_length
+
 static void run(struct lent *l, const struct load *load, size_t carried, size_t levels, size_t modules, size_t seats)
 {
     uint8_t *c = lend(&l->carried, carried), *v = lend(&l->levels, levels);
     uint64_t *m = lend(&l->modules, 8 * modules);
     uint32_t *s = lend(&l->seats, 4 * seats);
-    l->answer = arbitrate(load->bytes, load->bytes_length, load->parts, load->parts_length, load->counts,
-                          load->counts_length, load->acks, load->acks_length, c, carried, v, levels, m, modules, s,
-                          seats);
+    l->answer = kan_arbitrate(MESSAGES(load), load->acks, load->acks_length, c, carried, v, levels, m, modules, s,
+                              seats);
 }
 
 static void refused(const char *what, const struct load *load, size_t carried, size_t levels, size_t modules,
@@ -107,9 +108,8 @@ static void overwrites(const struct lent *l, const struct load *load)
     uint64_t modules[MASTERS + 1] = {0};
     uint32_t seats[MASTERS + 1] = {0};
     size_t masters = load->counts_length;
-    uint64_t answer = arbitrate(load->bytes, load->bytes_length, load->parts, load->parts_length, load->counts, masters,
-                                load->acks, load->acks_length, carried, BYTES, levels, LEVELS, modules, MASTERS + 1,
-                                seats, MASTERS + 1);
+    uint64_t answer = kan_arbitrate(MESSAGES(load), load->acks, load->acks_length, carried, BYTES, levels, LEVELS,
+                                    modules, MASTERS + 1, seats, MASTERS + 1);
     check(answer == l->answer, "over 0: the answer");
     check(memcmp(modules, l->modules.all + GUARD, 8 * masters) == 0, "over 0: modules");
     check(memcmp(seats, l->seats.all + GUARD, 4 * masters) == 0, "over 0: seats");
@@ -232,18 +232,19 @@ static void wrong_parts(void)
     }
 }
 
-#define MESSAGES(l) (l)->bytes, (l)->bytes_length, (l)->parts, (l)->parts_length, (l)->counts, (l)->counts_length
-
 static void least(void)
 {
     const struct load five = {
         "least", {2, 4, 2, 2, 4, 2, 4, 6, 2}, 9, {2, 1, 1, 1, 1, 1, 1, 1}, 8, {1, 1, 2, 2, 2}, 5, {0, 0}, 2};
     const struct load none = {"least of none", {0}, 0, {0}, 0, {0}, 0, {0}, 0};
     const struct load empty = {"least with an empty part", {2, 4}, 2, {2, 0}, 2, {1, 1}, 2, {0}, 1};
-    check(least_message(MESSAGES(&five)) == 2 && least_comparisons(MESSAGES(&five)) == 4, "02/04 is least of five");
-    check(least_message(MESSAGES(&none)) == 0 && least_comparisons(MESSAGES(&none)) == 0, "least where 12 applies");
-    check(least_message(MESSAGES(&empty)) == 0 && least_comparisons(MESSAGES(&empty)) == 0, "least where 13 applies");
-    check(least_message(NULL, 0, NULL, 0, NULL, 0) == 0, "least: nothing lent");
+    check(kan_least_message(MESSAGES(&five)) == 2, "02/04 is least of five");
+    check(kan_least_comparisons(MESSAGES(&five)) == 4, "four comparisons of five");
+    check(kan_least_message(MESSAGES(&none)) == 0, "least where 12 applies");
+    check(kan_least_comparisons(MESSAGES(&none)) == 0, "comparisons where 12 applies");
+    check(kan_least_message(MESSAGES(&empty)) == 0, "least where 13 applies");
+    check(kan_least_comparisons(MESSAGES(&empty)) == 0, "comparisons where 13 applies");
+    check(kan_least_message(NULL, 0, NULL, 0, NULL, 0) == 0, "least: nothing lent");
 }
 
 /* 12 to 16 come before 8, each before the next, with short buffers and tables too */
@@ -262,8 +263,7 @@ static void refusals(void)
         for (int lent = 0; lent < 2; lent++) {
             static struct lent l;
             run(&l, all[i], lent ? BYTES : 0, lent ? LEVELS : 0, lent ? MASTERS : 0, lent ? MASTERS : 0);
-            check((l.answer & 255) == numbers[i], all[i]->name);
-            check(l.answer >> 24 == 0, all[i]->name);
+            check(kan_refusal(l.answer) == numbers[i] && kan_count(l.answer) == 0, all[i]->name);
             check(kept_past(&l.carried, 0) && kept_past(&l.levels, 0) && kept_past(&l.modules, 0)
                       && kept_past(&l.seats, 0),
                   all[i]->name);
@@ -300,8 +300,8 @@ static void rounds(const struct load *load, size_t room, size_t modules, uint64_
     static struct guarded rounds, table;
     uint32_t *r = lend(&rounds, 4 * room);
     uint64_t *m = lend(&table, 8 * modules);
-    size_t masters = answer & 255 ? 0 : load->counts_length;
-    check(night(MESSAGES(load), load->acks, load->acks_length, r, room, m, modules) == answer, load->name);
+    size_t masters = kan_refusal(answer) ? 0 : load->counts_length;
+    check(kan_night(MESSAGES(load), load->acks, load->acks_length, r, room, m, modules) == answer, load->name);
     check(kept_past(&rounds, 4 * masters) && kept_past(&table, 8 * masters), load->name);
     for (size_t i = 0; i < masters; i++)
         check(r[i] == expected[i] && (m[i] & 0xFFFFFFFFFFFF) == 0x00FF002245C8, load->name);
@@ -314,7 +314,7 @@ static void nights(void)
                                {0, 0}, 2};
     const struct load refused = {"43 before 16", {2, 2, 4}, 3, {1, 2}, 2, {1, 1}, 2, {0, 1}, 2};
     const struct load last = {"43 at the last byte", {2, 4, 6, 8}, 4, {2, 2}, 2, {1, 1}, 2, {0, 1}, 2};
-    const struct load ends = {"16 of two that are not least", {0, 2, 2, 4}, 4, {1, 1, 1, 1}, 4, {1, 1, 2}, 3, {0, 0}, 2};
+    const struct load ends = {"16 of two not least", {0, 2, 2, 4}, 4, {1, 1, 1, 1}, 4, {1, 1, 2}, 3, {0, 0}, 2};
     const struct load reads = {"14 before 43", {2, 3}, 2, {1, 1}, 2, {2}, 1, {1, 1}, 2};
     const struct load acks = {"15 before 43", {2, 4}, 2, {1, 1}, 2, {2}, 1, {1}, 1};
     for (size_t more = 0; more < 20; more++)
@@ -329,7 +329,7 @@ static void nights(void)
         rounds(all[i], 4, 4, answers[i], NULL);
         rounds(all[i], 0, 0, answers[i], NULL);
     }
-    check(night(NULL, 0, NULL, 0, NULL, 0, NULL, 0, NULL, 0, NULL, 0) == 12, "12: nothing lent");
+    check(kan_night(NULL, 0, NULL, 0, NULL, 0, NULL, 0, NULL, 0, NULL, 0) == 12, "12: nothing lent");
 }
 
 static void traces(void)
@@ -339,46 +339,48 @@ static void traces(void)
     const uint8_t drawn[] = {3, 1, 2, 3, 0, 1, 2, 3, 0, 1, 0, 1, 0, 1, 0, 1, 0, 1, 0, 1, 0, 1, 3};
     uint32_t *t = lend(&stamps, 4 * 25);
     uint8_t *v = lend(&levels, 24);
-    check(bus_encode(list, 3, 10, 5, t, 25, v, 24) == 256 * 23, "P7 drawn");
+    check(kan_bus_encode(list, 3, 10, 5, t, 25, v, 24) == 256 * 23, "P7 drawn");
     check(memcmp(v, drawn, 23) == 0 && t[0] == 10 && t[22] == 120, "P7 levels and stamps");
     check(kept_past(&stamps, 4 * 23) && kept_past(&levels, 23), "P7 rest");
     uint32_t read_stamps[23];
     memcpy(read_stamps, t, sizeof read_stamps);
     uint16_t *e = lend(&events, 2 * 5);
-    check(bus_decode(read_stamps, 23, drawn, 23, e, 5) == (uint64_t)3 << 24, "P7 read");
+    check(kan_bus_decode(read_stamps, 23, drawn, 23, e, 5) == (uint64_t)3 << 24, "P7 read");
     check(memcmp(e, list, sizeof list) == 0 && kept_past(&events, sizeof list), "P7 events");
 
     e = lend(&events, 2 * 2);
-    check((bus_decode(read_stamps, 23, drawn, 23, e, 2) & 255) == 8 && kept_past(&events, 0), "8: events");
+    check(kan_bus_decode(read_stamps, 23, drawn, 23, e, 2) == 8 && kept_past(&events, 0), "8: events");
     e = lend(&events, 2 * 5);
-    check((bus_decode(read_stamps, 22, drawn, 23, e, 5) & 255) == 5 && kept_past(&events, 0), "5");
+    check(kan_bus_decode(read_stamps, 22, drawn, 23, e, 5) == 5 && kept_past(&events, 0), "5");
     read_stamps[7] = read_stamps[6];
-    check(bus_decode(read_stamps, 23, drawn, 23, e, 5) == 7 + 256 * 7 && kept_past(&events, 0), "7 at sample 7");
+    check(kan_bus_decode(read_stamps, 23, drawn, 23, e, 5) == 7 + 256 * 7 && kept_past(&events, 0), "7 at sample 7");
     for (int i = 0; i < 23; i++)
         read_stamps[i] = 47 * i;
-    check(bus_decode_standard(read_stamps, 23, drawn, 23, e, 5) == (uint64_t)3 << 24, "gap 47 read");
+    check(kan_bus_decode_standard(read_stamps, 23, drawn, 23, e, 5) == (uint64_t)3 << 24, "gap 47 read");
     check(memcmp(e, list, sizeof list) == 0 && kept_past(&events, sizeof list), "gap 47 events");
     e = lend(&events, 2 * 5);
     read_stamps[2]++;
-    check(bus_decode_standard(read_stamps, 23, drawn, 23, e, 5) == 18 + 256 * 3 && kept_past(&events, 0), "18 at 3");
-    check(bus_decode_standard(read_stamps, 23, drawn, 23, NULL, 0) == 18 + 256 * 3, "18 before 8");
-    check(bus_decode_fast(read_stamps, 23, drawn, 23, e, 5) == (uint64_t)3 << 24, "fast reads it");
+    check(kan_bus_decode_standard(read_stamps, 23, drawn, 23, e, 5) == 18 + 256 * 3, "18 at 3");
+    check(kept_past(&events, 0), "18 at 3, all kept");
+    check(kan_bus_decode_standard(read_stamps, 23, drawn, 23, NULL, 0) == 18 + 256 * 3, "18 before 8");
+    check(kan_bus_decode_fast(read_stamps, 23, drawn, 23, e, 5) == (uint64_t)3 << 24, "fast reads it");
     e = lend(&events, 2 * 5);
     for (int i = 0; i < 23; i++)
         read_stamps[i] = 12 * i;
-    check(bus_decode_fast(read_stamps, 23, drawn, 23, e, 5) == 18 + 256 * 3 && kept_past(&events, 0), "gap 12");
+    check(kan_bus_decode_fast(read_stamps, 23, drawn, 23, e, 5) == 18 + 256 * 3 && kept_past(&events, 0), "gap 12");
     read_stamps[22] = 0;
-    check(bus_decode_fast(read_stamps, 23, drawn, 23, e, 5) == 7 + 256 * 22 && kept_past(&events, 0), "7 before 18");
+    check(kan_bus_decode_fast(read_stamps, 23, drawn, 23, e, 5) == 7 + 256 * 22, "7 before 18");
+    check(kept_past(&events, 0), "7 before 18, all kept");
     t = lend(&stamps, 4 * 22), v = lend(&levels, 24);
-    check((bus_encode(list, 3, 10, 5, t, 22, v, 24) & 255) == 8, "8: stamps");
+    check(kan_bus_encode(list, 3, 10, 5, t, 22, v, 24) == 8, "8: stamps");
     check(kept_past(&stamps, 0) && kept_past(&levels, 0), "8: stamps, all kept");
     t = lend(&stamps, 4 * 25), v = lend(&levels, 22);
-    check((bus_encode(list, 3, 10, 5, t, 25, v, 22) & 255) == 8, "8: levels");
+    check(kan_bus_encode(list, 3, 10, 5, t, 25, v, 22) == 8, "8: levels");
     check(kept_past(&stamps, 0) && kept_past(&levels, 0), "8: levels, all kept");
     v = lend(&levels, 24);
-    check((bus_encode(list, 3, 10, 0, t, 25, v, 24) & 255) == 10, "10");
-    check((bus_encode(list, 2, 10, 5, t, 25, v, 24) & 255) == 9, "9");
-    check((bus_encode(list, 3, 0xFFFFFFFF, 5, t, 25, v, 24) & 255) == 11, "11");
+    check(kan_bus_encode(list, 3, 10, 0, t, 25, v, 24) == 10, "10");
+    check(kan_bus_encode(list, 2, 10, 5, t, 25, v, 24) == 9, "9");
+    check(kan_bus_encode(list, 3, 0xFFFFFFFF, 5, t, 25, v, 24) == 11, "11");
     check(kept_past(&stamps, 0) && kept_past(&levels, 0), "9, 10, 11: all kept");
 }
 
@@ -394,7 +396,7 @@ static void dumps(void)
     const uint8_t levels[] = {3, 3, 1}, high[] = {3, 4, 1};
     for (size_t room = 0; room < 150; room++) {
         uint8_t *t = lend(&text, room);
-        uint64_t answer = bus_dump(stamps, 3, levels, 3, t, room);
+        uint64_t answer = kan_bus_dump(stamps, 3, levels, 3, t, room);
         check(answer == (room < 142 ? 8 : (uint64_t)142 << 24), "the case's reply");
         check(kept_past(&text, room < 142 ? 0 : 142), "the case's rest");
         check(room < 142 || memcmp(t, dumped, 142) == 0, "the case");
@@ -403,15 +405,15 @@ static void dumps(void)
         for (size_t room = 0; room < 20; room++) {
             size_t left = from < 142 ? 142 - from : 0, count = left < room ? left : room;
             uint8_t *t = lend(&text, room);
-            check(bus_dump_piece(stamps, 3, levels, 3, from, t, room) == count, "a piece's count");
+            check(kan_bus_dump_piece(stamps, 3, levels, 3, from, t, room) == count, "a piece's count");
             check(memcmp(t, dumped + 142 - left, count) == 0 && kept_past(&text, count), "a piece");
         }
     uint8_t *t = lend(&text, 200);
-    check(bus_dump_piece(stamps, 3, levels, 3, SIZE_MAX, t, 200) == 0 && kept_past(&text, 0), "a piece past all");
-    check(bus_dump(stamps, 1, levels, 0, t, 200) == 5 && kept_past(&text, 0), "5 before 19");
-    check(bus_dump(level, 3, high, 3, t, 200) == 4 + 256 && kept_past(&text, 0), "4 at sample 1 before 7");
-    check(bus_dump(level, 3, levels, 3, t, 0) == 7 + 256 && kept_past(&text, 0), "7 at sample 1 before 8");
-    check(bus_dump(NULL, 0, NULL, 0, NULL, 0) == 19, "19 before 8");
+    check(kan_bus_dump_piece(stamps, 3, levels, 3, SIZE_MAX, t, 200) == 0 && kept_past(&text, 0), "a piece past all");
+    check(kan_bus_dump(stamps, 1, levels, 0, t, 200) == 5 && kept_past(&text, 0), "5 before 19");
+    check(kan_bus_dump(level, 3, high, 3, t, 200) == 4 + 256 && kept_past(&text, 0), "4 at sample 1 before 7");
+    check(kan_bus_dump(level, 3, levels, 3, t, 0) == 7 + 256 && kept_past(&text, 0), "7 at sample 1 before 8");
+    check(kan_bus_dump(NULL, 0, NULL, 0, NULL, 0) == 19, "19 before 8");
 }
 
 /* what is wrong in the text of a dump, its number and the byte where it stands; both slices as they were */
@@ -420,9 +422,10 @@ static void unread(const char *text, uint64_t number, uint64_t place)
     static struct guarded stamps, levels;
     uint32_t *t = lend(&stamps, 40);
     uint8_t *v = lend(&levels, 10);
-    check(bus_read_dump((const uint8_t *)text, strlen(text), t, 10, v, 10) == number + 256 * place, "a dump's refusal");
+    uint64_t reply = kan_bus_read_dump((const uint8_t *)text, strlen(text), t, 10, v, 10);
+    check(reply == number + 256 * place, "a dump's refusal");
     check(kept_past(&stamps, 0) && kept_past(&levels, 0), "a dump's refusal: all kept");
-    check(bus_dump_timescale((const uint8_t *)text, strlen(text)) == 0, "a dump's refusal: no timescale");
+    check(kan_bus_dump_timescale((const uint8_t *)text, strlen(text)) == 0, "a dump's refusal: no timescale");
 }
 
 /* document 02, request 8: the case of request 2 read back, in slices of every length about it */
@@ -435,12 +438,12 @@ static void dump_texts(void)
             uint32_t *t = lend(&stamps, 4 * a);
             uint8_t *v = lend(&levels, b);
             int reads = a >= 2 && b >= 2;
-            check(bus_read_dump(text, 142, t, a, v, b) == (reads ? (uint64_t)2 << 24 : 8), "the case read back");
+            check(kan_bus_read_dump(text, 142, t, a, v, b) == (reads ? (uint64_t)2 << 24 : 8), "the case read back");
             check(kept_past(&stamps, reads ? 8 : 0) && kept_past(&levels, reads ? 2 : 0), "its rest");
             check(!reads || (t[0] == 5 && t[1] == 9 && v[0] == 3 && v[1] == 1), "its samples");
         }
-    check(bus_dump_timescale(text, 142) == 100000000, "its timescale");
-    check(bus_read_dump(NULL, 0, NULL, 0, NULL, 0) == 24, "24 of an empty text");
+    check(kan_bus_dump_timescale(text, 142) == 100000000, "its timescale");
+    check(kan_bus_read_dump(NULL, 0, NULL, 0, NULL, 0) == 24, "24 of an empty text");
     unread("$enddefinitions $end\n", 24, 0);
     unread("$date today", 23, 11);
     unread("1!\n", 27, 0);
@@ -452,49 +455,50 @@ static void dump_texts(void)
     unread(strcat(strcpy(all, wires), "#4294967296\n"), 25, 63);
     static uint8_t blanks[60001];
     memset(blanks, ' ', sizeof blanks);
-    check(bus_read_dump(blanks, 60001, NULL, 0, NULL, 0) == 26, "26");
+    check(kan_bus_read_dump(blanks, 60001, NULL, 0, NULL, 0) == 26, "26");
 }
 
 static void modules(void)
 {
-    uint64_t u = usi_power_up(0, 0);
-    check(usi_read(usi_write(u, 0x7B, 0x08), 0x79) == 0x00, "P1");
-    check(usi_write(u, 0x7B, 0x08) >> 60 == 1, "P1 clears IFG");
-    check((usi_write(u, 0x7E, 0) >> 55 & 31) == 1 && usi_write(u, 0x7E, 0) >> 60 == 0, "1, nothing cleared");
-    check(usi_read(usi_write(u, 0x7B, 0x28), 0x79) == 0x01, "P2");
-    check(usi_read(usi_write(usi_write(u, 0x7B, 0x28), 0x7B, 0x00), 0x79) == 0x01, "P3");
-    u = usi_write(usi_write(usi_write(u, 0x7A, 0x22), 0x79, 0x41), 0x78, 0xC8);
-    check((usi_lines(u) & 2) == 0, "SDA is let go");
-    u = usi_write(u, 0x78, 0xCE);
-    check((usi_lines(u) & 2) == 2, "P4");
-    check((usi_lines(usi_write(u, 0x78, 0xCA)) & 2) == 2, "P5");
-    uint64_t slave = usi_write(usi_write(usi_write(usi_power_up(0, 0), 0x7A, 0x22), 0x79, 0x41), 0x78, 0xC0);
-    slave = usi_sample(usi_sample(slave, 3), 1);
-    check((usi_lines(usi_sample(slave, 0)) & 1) == 1, "P6: held");
-    check((usi_lines(usi_sample(usi_write(slave, 0x7B, 0x80), 0)) & 1) == 0, "P6: let go");
-    check(usi_write(u, 0x80, 1) == (u | (uint64_t)1 << 55), "1: the module stays");
-    check(usi_sample(u, 4) == (u | (uint64_t)4 << 55), "4: the module stays");
-    check(usi_read(u, 0x77) >> 16 == 1 && usi_read_word(u, 0x79) >> 16 == 2, "1 and 2 of reads");
-    check(usi_spi_lines(u) == 0 && usi_spi_lines(usi_power_up(0, 0)) == 0, "nothing is driven outside SPI");
+    uint64_t u = kan_usi_power_up(0, 0);
+    check(kan_usi_read(kan_usi_write(u, 0x7B, 0x08), 0x79) == 0x00, "P1");
+    check(kan_step_cleared(kan_usi_write(u, 0x7B, 0x08)) == 1, "P1 clears IFG");
+    check(kan_usi_write(u, 0x7E, 0) == (u | (uint64_t)1 << 55), "1, nothing cleared");
+    check(kan_usi_read(kan_usi_write(u, 0x7B, 0x28), 0x79) == 0x01, "P2");
+    check(kan_usi_read(kan_usi_write(kan_usi_write(u, 0x7B, 0x28), 0x7B, 0x00), 0x79) == 0x01, "P3");
+    u = kan_usi_write(kan_usi_write(kan_usi_write(u, 0x7A, 0x22), 0x79, 0x41), 0x78, 0xC8);
+    check(!kan_lines_sda_low(kan_usi_lines(u)), "SDA is let go");
+    u = kan_usi_write(u, 0x78, 0xCE);
+    check(kan_lines_sda_low(kan_usi_lines(u)), "P4");
+    check(kan_lines_sda_low(kan_usi_lines(kan_usi_write(u, 0x78, 0xCA))), "P5");
+    uint64_t slave = kan_usi_write(kan_usi_write(kan_usi_power_up(0, 0), 0x7A, 0x22), 0x79, 0x41);
+    slave = kan_usi_sample(kan_usi_sample(kan_usi_write(slave, 0x78, 0xC0), 3), 1);
+    check(kan_lines_scl_low(kan_usi_lines(kan_usi_sample(slave, 0))), "P6: held");
+    check(!kan_lines_scl_low(kan_usi_lines(kan_usi_sample(kan_usi_write(slave, 0x7B, 0x80), 0))), "P6: let go");
+    check(kan_usi_write(u, 0x80, 1) == (u | (uint64_t)1 << 55), "1: the module stays");
+    check(kan_usi_sample(u, 4) == (u | (uint64_t)4 << 55), "4: the module stays");
+    check(kan_usi_read(u, 0x77) == 1 << 16 && kan_usi_read_word(u, 0x79) == 2 << 16, "1 and 2 of reads");
+    check(kan_usi_spi_lines(u) == 0 && kan_usi_spi_lines(kan_usi_power_up(0, 0)) == 0, "nothing is driven outside SPI");
 }
 
 /* SPI (request 1), a master with CKPH=0 and CKPL=0 that sends A5h: SCLK + 4 * SDO, each 0, 2 low or 3 high */
 static void spi(void)
 {
-    uint64_t u = usi_write(usi_write(usi_power_up(0xA5, 0), 0x79, 0x00), 0x78, 0xEA);
-    u = usi_sample(usi_write(u, 0x7B, 0x08), 0);
-    check(usi_spi_lines(u) == 2, "SCLK rests low, SDO is let go");
-    u = usi_tick(u);
-    check(usi_spi_lines(u) == 3, "a tick raises SCLK");
-    u = usi_sample(u, 1);
-    check(usi_spi_lines(u) == 15, "bit 7 is out: 1");
-    u = usi_sample(usi_tick(u), 2);
-    check(usi_spi_lines(u) == 14 && usi_read(u, 0x7C) == 0x4B && usi_read(u, 0x7B) == 0x07, "1 is received");
-    u = usi_sample(usi_tick(u), 1);
-    check(usi_spi_lines(u) == 11 && usi_lines(u) == 0, "bit 6 is out: 0; no line is pulled as in I2C");
-    check(usi_spi_lines(usi_write(u, 0x78, 0xE2)) == 8, "a slave drives SDO alone");
-    u = usi_write(u, 0x78, 0xCA);
-    check(usi_spi_lines(u) == 0 && usi_tick(u) == (u | (uint64_t)3 << 55), "3 with PE5=0, the module stays");
+    uint64_t u = kan_usi_write(kan_usi_write(kan_usi_power_up(0xA5, 0), 0x79, 0x00), 0x78, 0xEA);
+    u = kan_usi_sample(kan_usi_write(u, 0x7B, 0x08), 0);
+    check(kan_usi_spi_lines(u) == 2, "SCLK rests low, SDO is let go");
+    u = kan_usi_tick(u);
+    check(kan_usi_spi_lines(u) == 3, "a tick raises SCLK");
+    u = kan_usi_sample(u, 1);
+    check(kan_usi_spi_lines(u) == 15, "bit 7 is out: 1");
+    u = kan_usi_sample(kan_usi_tick(u), 2);
+    check(kan_usi_spi_lines(u) == 14, "SCLK is low again");
+    check(kan_usi_read(u, 0x7C) == 0x4B && kan_usi_read(u, 0x7B) == 0x07, "1 is received");
+    u = kan_usi_sample(kan_usi_tick(u), 1);
+    check(kan_usi_spi_lines(u) == 11 && kan_usi_lines(u) == 0, "bit 6 is out: 0; no line is pulled as in I2C");
+    check(kan_usi_spi_lines(kan_usi_write(u, 0x78, 0xE2)) == 8, "a slave drives SDO alone");
+    u = kan_usi_write(u, 0x78, 0xCA);
+    check(kan_usi_spi_lines(u) == 0 && kan_usi_tick(u) == (u | (uint64_t)3 << 55), "3 with PE5=0, the module stays");
 }
 
 struct catalogue {
@@ -511,10 +515,10 @@ struct catalogue {
 static void located(const char *what, uint32_t board, const struct catalogue *c, const struct catalogue *s, int number,
                     int corrected, uint64_t offset, uint32_t length)
 {
-    check(catalogue_number(board, CATALOGUE(c), CATALOGUE(s)) == number, what);
-    check(catalogue_corrected(board, CATALOGUE(c), CATALOGUE(s)) == corrected, what);
-    check(catalogue_offset(board, CATALOGUE(c), CATALOGUE(s)) == offset, what);
-    check(catalogue_length(board, CATALOGUE(c), CATALOGUE(s)) == length, what);
+    check(kan_catalogue_number(board, CATALOGUE(c), CATALOGUE(s)) == number, what);
+    check(kan_catalogue_corrected(board, CATALOGUE(c), CATALOGUE(s)) == corrected, what);
+    check(kan_catalogue_offset(board, CATALOGUE(c), CATALOGUE(s)) == offset, what);
+    check(kan_catalogue_length(board, CATALOGUE(c), CATALOGUE(s)) == length, what);
 }
 
 /* the numbers of document 02, request 10 */
@@ -532,7 +536,7 @@ static void catalogues(void)
     located("41 of the corrections", 9, &unsummed, &equal, 41, 0, 0, 0);
     located("40 of the standing catalogue", 9, &corrections, &equal, 40, 0, 0, 0);
     located("41: a sum beyond 32 bits", 9, &corrections, &beyond, 41, 0, 0, 0);
-    check(catalogue_number(0, NULL, 0, NULL, 0, NULL, 0, NULL, 0, NULL, 0, NULL, 0) == 42, "42: nothing lent");
+    check(kan_catalogue_number(0, NULL, 0, NULL, 0, NULL, 0, NULL, 0, NULL, 0, NULL, 0) == 42, "42: nothing lent");
 }
 
 int main(void)

@@ -6,16 +6,16 @@ use crate::phases::Mode;
 use std::fmt::Debug;
 
 extern "C" {
-    fn usi_power_up(usisrl: u8, usisrh: u8) -> u64;
-    fn usi_write(module: u64, address: u16, value: u8) -> u64;
-    fn usi_write_word(module: u64, address: u16, value: u16) -> u64;
-    fn usi_sample(module: u64, level: u8) -> u64;
-    fn usi_tick(module: u64) -> u64;
-    fn usi_read(module: u64, address: u16) -> u32;
-    fn usi_read_word(module: u64, address: u16) -> u32;
-    fn usi_lines(module: u64) -> u8;
-    fn usi_spi_lines(module: u64) -> u8;
-    fn bus_decode(
+    fn kan_usi_power_up(usisrl: u8, usisrh: u8) -> u64;
+    fn kan_usi_write(module: u64, address: u16, value: u8) -> u64;
+    fn kan_usi_write_word(module: u64, address: u16, value: u16) -> u64;
+    fn kan_usi_sample(module: u64, level: u8) -> u64;
+    fn kan_usi_tick(module: u64) -> u64;
+    fn kan_usi_read(module: u64, address: u16) -> u32;
+    fn kan_usi_read_word(module: u64, address: u16) -> u32;
+    fn kan_usi_lines(module: u64) -> u8;
+    fn kan_usi_spi_lines(module: u64) -> u8;
+    fn kan_bus_decode(
         stamps: *const u32,
         stamps_len: usize,
         levels: *const u8,
@@ -23,7 +23,7 @@ extern "C" {
         events: *mut u16,
         events_len: usize,
     ) -> u64;
-    fn bus_decode_standard(
+    fn kan_bus_decode_standard(
         stamps: *const u32,
         stamps_len: usize,
         levels: *const u8,
@@ -31,7 +31,7 @@ extern "C" {
         events: *mut u16,
         events_len: usize,
     ) -> u64;
-    fn bus_decode_fast(
+    fn kan_bus_decode_fast(
         stamps: *const u32,
         stamps_len: usize,
         levels: *const u8,
@@ -39,7 +39,7 @@ extern "C" {
         events: *mut u16,
         events_len: usize,
     ) -> u64;
-    fn bus_encode(
+    fn kan_bus_encode(
         events: *const u16,
         events_len: usize,
         start: u32,
@@ -49,7 +49,7 @@ extern "C" {
         levels: *mut u8,
         levels_len: usize,
     ) -> u64;
-    fn bus_dump(
+    fn kan_bus_dump(
         stamps: *const u32,
         stamps_len: usize,
         levels: *const u8,
@@ -57,7 +57,7 @@ extern "C" {
         out: *mut u8,
         out_len: usize,
     ) -> u64;
-    fn bus_dump_piece(
+    fn kan_bus_dump_piece(
         stamps: *const u32,
         stamps_len: usize,
         levels: *const u8,
@@ -66,7 +66,7 @@ extern "C" {
         out: *mut u8,
         out_len: usize,
     ) -> usize;
-    fn bus_read_dump(
+    fn kan_bus_read_dump(
         text: *const u8,
         text_len: usize,
         stamps: *mut u32,
@@ -74,8 +74,8 @@ extern "C" {
         levels: *mut u8,
         levels_len: usize,
     ) -> u64;
-    fn bus_dump_timescale(text: *const u8, text_len: usize) -> u64;
-    fn arbitrate(
+    fn kan_bus_dump_timescale(text: *const u8, text_len: usize) -> u64;
+    fn kan_arbitrate(
         bytes: *const u8,
         bytes_len: usize,
         parts: *const u32,
@@ -93,7 +93,7 @@ extern "C" {
         seats: *mut u32,
         seats_len: usize,
     ) -> u64;
-    fn least_message(
+    fn kan_least_message(
         bytes: *const u8,
         bytes_len: usize,
         parts: *const u32,
@@ -101,7 +101,7 @@ extern "C" {
         counts: *const u32,
         counts_len: usize,
     ) -> u64;
-    fn least_comparisons(
+    fn kan_least_comparisons(
         bytes: *const u8,
         bytes_len: usize,
         parts: *const u32,
@@ -109,7 +109,7 @@ extern "C" {
         counts: *const u32,
         counts_len: usize,
     ) -> u64;
-    fn night(
+    fn kan_night(
         bytes: *const u8,
         bytes_len: usize,
         parts: *const u32,
@@ -149,51 +149,60 @@ macro_rules! of_catalogues {
 }
 
 of_catalogues! {
-    catalogue_number -> u8;
-    catalogue_corrected -> u8;
-    catalogue_offset -> u64;
-    catalogue_length -> u32;
+    kan_catalogue_number -> u8;
+    kan_catalogue_corrected -> u8;
+    kan_catalogue_offset -> u64;
+    kan_catalogue_length -> u32;
+}
+
+/// Calls a C function: a number or none, what is read, numbers, what is lent. A slice goes as a pointer and a length; it
+/// outlives the call, and the functions keep no pointer.
+macro_rules! call {
+    ($name:ident, $($first:ident;)? [$($read:expr),*], [$($number:expr),*], [$($lent:expr),*]) => {
+        unsafe {
+            $name($($first,)? $($read.as_ptr(), $read.len(),)* $($number,)* $($lent.as_mut_ptr(), $lent.len(),)*)
+        }
+    };
 }
 
 /// The proved library.
 pub struct Archive;
 
-// Each call passes numbers, or pointers with the lengths of slices that outlive it; the functions keep no pointer.
 impl Interface for Archive {
     fn power_up(&self, usisrl: u8, usisrh: u8) -> u64 {
-        unsafe { usi_power_up(usisrl, usisrh) }
+        unsafe { kan_usi_power_up(usisrl, usisrh) }
     }
 
     fn write(&self, module: u64, address: u16, value: u8) -> u64 {
-        unsafe { usi_write(module, address, value) }
+        unsafe { kan_usi_write(module, address, value) }
     }
 
     fn write_word(&self, module: u64, address: u16, value: u16) -> u64 {
-        unsafe { usi_write_word(module, address, value) }
+        unsafe { kan_usi_write_word(module, address, value) }
     }
 
     fn sample(&self, module: u64, level: u8) -> u64 {
-        unsafe { usi_sample(module, level) }
+        unsafe { kan_usi_sample(module, level) }
     }
 
     fn tick(&self, module: u64) -> u64 {
-        unsafe { usi_tick(module) }
+        unsafe { kan_usi_tick(module) }
     }
 
     fn read(&self, module: u64, address: u16) -> u32 {
-        unsafe { usi_read(module, address) }
+        unsafe { kan_usi_read(module, address) }
     }
 
     fn read_word(&self, module: u64, address: u16) -> u32 {
-        unsafe { usi_read_word(module, address) }
+        unsafe { kan_usi_read_word(module, address) }
     }
 
     fn lines(&self, module: u64) -> u8 {
-        unsafe { usi_lines(module) }
+        unsafe { kan_usi_lines(module) }
     }
 
     fn spi_lines(&self, module: u64) -> u8 {
-        unsafe { usi_spi_lines(module) }
+        unsafe { kan_usi_spi_lines(module) }
     }
 
     fn decode(&self, stamps: &[u32], levels: &[u8], events: &mut [u16]) -> u64 {
@@ -201,170 +210,77 @@ impl Interface for Archive {
     }
 
     fn decode_in(&self, mode: Mode, stamps: &[u32], levels: &[u8], events: &mut [u16]) -> u64 {
-        let call = match mode {
-            Mode::Unchecked => bus_decode,
-            Mode::Standard => bus_decode_standard,
-            Mode::Fast => bus_decode_fast,
+        let decode = match mode {
+            Mode::Unchecked => kan_bus_decode,
+            Mode::Standard => kan_bus_decode_standard,
+            Mode::Fast => kan_bus_decode_fast,
         };
-        unsafe {
-            call(
-                stamps.as_ptr(),
-                stamps.len(),
-                levels.as_ptr(),
-                levels.len(),
-                events.as_mut_ptr(),
-                events.len(),
-            )
-        }
+        call!(decode, [stamps, levels], [], [events])
     }
 
     fn encode(&self, events: &[u16], start: u32, gap: u32, stamps: &mut [u32], levels: &mut [u8]) -> u64 {
-        unsafe {
-            bus_encode(
-                events.as_ptr(),
-                events.len(),
-                start,
-                gap,
-                stamps.as_mut_ptr(),
-                stamps.len(),
-                levels.as_mut_ptr(),
-                levels.len(),
-            )
-        }
+        call!(kan_bus_encode, [events], [start, gap], [stamps, levels])
     }
 
     fn dump(&self, stamps: &[u32], levels: &[u8], out: &mut [u8]) -> u64 {
-        unsafe {
-            bus_dump(
-                stamps.as_ptr(),
-                stamps.len(),
-                levels.as_ptr(),
-                levels.len(),
-                out.as_mut_ptr(),
-                out.len(),
-            )
-        }
+        call!(kan_bus_dump, [stamps, levels], [], [out])
     }
 
     fn dump_piece(&self, stamps: &[u32], levels: &[u8], from: usize, out: &mut [u8]) -> usize {
-        unsafe {
-            bus_dump_piece(
-                stamps.as_ptr(),
-                stamps.len(),
-                levels.as_ptr(),
-                levels.len(),
-                from,
-                out.as_mut_ptr(),
-                out.len(),
-            )
-        }
+        call!(kan_bus_dump_piece, [stamps, levels], [from], [out])
     }
 
     fn read_dump(&self, text: &[u8], stamps: &mut [u32], levels: &mut [u8]) -> u64 {
-        unsafe {
-            bus_read_dump(
-                text.as_ptr(),
-                text.len(),
-                stamps.as_mut_ptr(),
-                stamps.len(),
-                levels.as_mut_ptr(),
-                levels.len(),
-            )
-        }
+        call!(kan_bus_read_dump, [text], [], [stamps, levels])
     }
 
     fn dump_timescale(&self, text: &[u8]) -> u64 {
-        unsafe { bus_dump_timescale(text.as_ptr(), text.len()) }
+        call!(kan_bus_dump_timescale, [text], [], [])
     }
 
     fn arbitrate(&self, asked: &Asked, lent: Lent) -> u64 {
-        unsafe {
-            arbitrate(
-                asked.bytes.as_ptr(),
-                asked.bytes.len(),
-                asked.parts.as_ptr(),
-                asked.parts.len(),
-                asked.counts.as_ptr(),
-                asked.counts.len(),
-                asked.acks.as_ptr(),
-                asked.acks.len(),
-                lent.carried.as_mut_ptr(),
-                lent.carried.len(),
-                lent.levels.as_mut_ptr(),
-                lent.levels.len(),
-                lent.modules.as_mut_ptr(),
-                lent.modules.len(),
-                lent.seats.as_mut_ptr(),
-                lent.seats.len(),
-            )
-        }
+        let Asked { bytes, parts, counts, acks } = asked;
+        let Lent { carried, levels, modules, seats } = lent;
+        call!(kan_arbitrate, [bytes, parts, counts, acks], [], [carried, levels, modules, seats])
     }
 
     fn least(&self, asked: &Asked) -> (u64, u64) {
         let Asked { bytes, parts, counts, .. } = asked;
-        macro_rules! ask {
-            ($call:ident) => {
-                unsafe {
-                    $call(
-                        bytes.as_ptr(),
-                        bytes.len(),
-                        parts.as_ptr(),
-                        parts.len(),
-                        counts.as_ptr(),
-                        counts.len(),
-                    )
-                }
-            };
-        }
-        (ask!(least_message), ask!(least_comparisons))
+        (
+            call!(kan_least_message, [bytes, parts, counts], [], []),
+            call!(kan_least_comparisons, [bytes, parts, counts], [], []),
+        )
     }
 
     fn night(&self, asked: &Asked, rounds: &mut [u32], modules: &mut [u64]) -> u64 {
-        unsafe {
-            night(
-                asked.bytes.as_ptr(),
-                asked.bytes.len(),
-                asked.parts.as_ptr(),
-                asked.parts.len(),
-                asked.counts.as_ptr(),
-                asked.counts.len(),
-                asked.acks.as_ptr(),
-                asked.acks.len(),
-                rounds.as_mut_ptr(),
-                rounds.len(),
-                modules.as_mut_ptr(),
-                modules.len(),
-            )
-        }
+        let Asked { bytes, parts, counts, acks } = asked;
+        call!(kan_night, [bytes, parts, counts, acks], [], [rounds, modules])
     }
 
     fn place(&self, board: u32, corrections: &Catalogue, standing: &Catalogue) -> Place {
         macro_rules! ask {
-            ($call:ident) => {
-                unsafe {
-                    $call(
-                        board,
-                        corrections.block.as_ptr(),
-                        corrections.block.len(),
-                        corrections.boards.as_ptr(),
-                        corrections.boards.len(),
-                        corrections.lengths.as_ptr(),
-                        corrections.lengths.len(),
-                        standing.block.as_ptr(),
-                        standing.block.len(),
-                        standing.boards.as_ptr(),
-                        standing.boards.len(),
-                        standing.lengths.as_ptr(),
-                        standing.lengths.len(),
-                    )
-                }
+            ($name:ident) => {
+                call!(
+                    $name,
+                    board;
+                    [
+                        corrections.block,
+                        corrections.boards,
+                        corrections.lengths,
+                        standing.block,
+                        standing.boards,
+                        standing.lengths
+                    ],
+                    [],
+                    []
+                )
             };
         }
         Place {
-            number: ask!(catalogue_number),
-            corrected: ask!(catalogue_corrected),
-            offset: ask!(catalogue_offset),
-            length: ask!(catalogue_length),
+            number: ask!(kan_catalogue_number),
+            corrected: ask!(kan_catalogue_corrected),
+            offset: ask!(kan_catalogue_offset),
+            length: ask!(kan_catalogue_length),
         }
     }
 }

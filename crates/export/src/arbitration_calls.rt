@@ -70,7 +70,7 @@ fn put_seats(seats: [Seat; MAX_MASTERS], count: usize, table: &mut [u32])
 // message, and how many parts each message has: refused by 12, 13, 14, 15, 16 and 8 in this order, and then everything
 // lent stays as it was. What a run returns is what follows from messages and acknowledges alone (01: demand 3).
 #[no_mangle]
-pub extern "C" fn arbitrate(
+pub extern "C" fn kan_arbitrate(
     bytes: &[u8],
     parts: &[u32],
     counts: &[u32],

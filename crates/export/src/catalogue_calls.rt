@@ -5,7 +5,7 @@ ghost use Rattle.catalogue.specs.Catalogue.{lent, located, numberOf};
 
 // The number of the refusal, 0 where the board is found.
 #[no_mangle]
-pub extern "C" fn catalogue_number(
+pub extern "C" fn kan_catalogue_number(
     board: u32,
     corrections: &[u8],
     correction_boards: &[u32],
@@ -31,7 +31,7 @@ pub extern "C" fn catalogue_number(
 
 // 1 where the message lies in the corrections, 0 where it lies in the standing catalogue, and at a refusal.
 #[no_mangle]
-pub extern "C" fn catalogue_corrected(
+pub extern "C" fn kan_catalogue_corrected(
     board: u32,
     corrections: &[u8],
     correction_boards: &[u32],
@@ -59,7 +59,7 @@ pub extern "C" fn catalogue_corrected(
 
 // The offset of the message in its block, 0 at a refusal.
 #[no_mangle]
-pub extern "C" fn catalogue_offset(
+pub extern "C" fn kan_catalogue_offset(
     board: u32,
     corrections: &[u8],
     correction_boards: &[u32],
@@ -87,7 +87,7 @@ pub extern "C" fn catalogue_offset(
 
 // The length of the message, 0 at a refusal.
 #[no_mangle]
-pub extern "C" fn catalogue_length(
+pub extern "C" fn kan_catalogue_length(
     board: u32,
     corrections: &[u8],
     correction_boards: &[u32],

@@ -24,7 +24,7 @@ fn dump_answer(d: Dumped) -> u64
 
 // The whole text.
 #[no_mangle]
-pub extern "C" fn bus_dump(stamps: &[u32], levels: &[u8], out: &mut [u8]) -> u64
+pub extern "C" fn kan_bus_dump(stamps: &[u32], levels: &[u8], out: &mut [u8]) -> u64
     ensures answer { λ r. ⌜ r ≡ packedDumped
         (dumped (now (stamps .entry)) (now (levels .entry)) (length (now (out .entry)))) ⌝ }
     ensures buffer { λ r. ⌜ now (out .exit) ≡ textAfter
@@ -36,7 +36,7 @@ pub extern "C" fn bus_dump(stamps: &[u32], levels: &[u8], out: &mut [u8]) -> u64
 
 // The text from a byte on, as much of it as there is room for.
 #[no_mangle]
-pub extern "C" fn bus_dump_piece(
+pub extern "C" fn kan_bus_dump_piece(
     stamps: &[u32],
     levels: &[u8],
     from: usize,
@@ -69,7 +69,7 @@ fn timescale_of(d: DumpRead) -> u64
 
 // A dump read into two slices.
 #[no_mangle]
-pub extern "C" fn bus_read_dump(text: &[u8], stamps: &mut [u32], levels: &mut [u8]) -> u64
+pub extern "C" fn kan_bus_read_dump(text: &[u8], stamps: &mut [u32], levels: &mut [u8]) -> u64
     ensures answer { λ r. ⌜ r ≡ packedDumpRead
         (dumpRead (now (text .entry)) (length (now (stamps .entry))) (length (now (levels .entry)))) ⌝ }
     ensures stamped { λ r. ⌜ now (stamps .exit) ≡ stampsAfter
@@ -84,7 +84,7 @@ pub extern "C" fn bus_read_dump(text: &[u8], stamps: &mut [u32], levels: &mut [u
 
 // The unit of a dump's stamps in femtoseconds: 0 where it says none, and where the text is refused.
 #[no_mangle]
-pub extern "C" fn bus_dump_timescale(text: &[u8]) -> u64
+pub extern "C" fn kan_bus_dump_timescale(text: &[u8]) -> u64
     ensures { λ r. ⌜ r ≡ readNumbers (dumpRead (now (text .entry)) maxSamples maxSamples) .timescale ⌝ }
 {
     let mut stamps = [0u32; MAX_SAMPLES];

@@ -103,56 +103,56 @@ fn read_answer(r: Read) -> u32
 }
 
 #[no_mangle]
-pub extern "C" fn usi_power_up(low: u8, high: u8) -> u64
+pub extern "C" fn kan_usi_power_up(low: u8, high: u8) -> u64
     ensures { λ r. ⌜ r ≡ packedModule (powerUp low high) ⌝ }
 {
     packed(Usi::power_up(low, high))
 }
 
 #[no_mangle]
-pub extern "C" fn usi_write(state: u64, address: u16, value: u8) -> u64
+pub extern "C" fn kan_usi_write(state: u64, address: u16, value: u8) -> u64
     ensures { λ r. ⌜ r ≡ packedWritten (written (unpackedNumber state) address value) ⌝ }
 {
     write_answer(unpacked(state).write(address, value))
 }
 
 #[no_mangle]
-pub extern "C" fn usi_write_word(state: u64, address: u16, value: u16) -> u64
+pub extern "C" fn kan_usi_write_word(state: u64, address: u16, value: u16) -> u64
     ensures { λ r. ⌜ r ≡ packedWritten (writtenWord (unpackedNumber state) address value) ⌝ }
 {
     write_answer(unpacked(state).write_word(address, value))
 }
 
 #[no_mangle]
-pub extern "C" fn usi_sample(state: u64, level: u8) -> u64
+pub extern "C" fn kan_usi_sample(state: u64, level: u8) -> u64
     ensures { λ r. ⌜ r ≡ packedStep (sampleRule (unpackedNumber state) level) ⌝ }
 {
     answer(unpacked(state).sample(level))
 }
 
 #[no_mangle]
-pub extern "C" fn usi_tick(state: u64) -> u64
+pub extern "C" fn kan_usi_tick(state: u64) -> u64
     ensures { λ r. ⌜ r ≡ packedStep (tickRule (unpackedNumber state)) ⌝ }
 {
     answer(unpacked(state).tick())
 }
 
 #[no_mangle]
-pub extern "C" fn usi_read(state: u64, address: u16) -> u32
+pub extern "C" fn kan_usi_read(state: u64, address: u16) -> u32
     ensures { λ r. ⌜ r ≡ packedRead (readByte (unpackedNumber state) address) ⌝ }
 {
     read_answer(unpacked(state).read(address))
 }
 
 #[no_mangle]
-pub extern "C" fn usi_read_word(state: u64, address: u16) -> u32
+pub extern "C" fn kan_usi_read_word(state: u64, address: u16) -> u32
     ensures { λ r. ⌜ r ≡ packedRead (readWord (unpackedNumber state) address) ⌝ }
 {
     read_answer(unpacked(state).read_word(address))
 }
 
 #[no_mangle]
-pub extern "C" fn usi_lines(state: u64) -> u8
+pub extern "C" fn kan_usi_lines(state: u64) -> u8
     ensures { λ r. ⌜ r ≡ lines (unpackedNumber state) ⌝ }
 {
     let u = unpacked(state);
@@ -170,7 +170,7 @@ fn line_number(line: Driven) -> u8
 }
 
 #[no_mangle]
-pub extern "C" fn usi_spi_lines(state: u64) -> u8
+pub extern "C" fn kan_usi_spi_lines(state: u64) -> u8
     ensures { λ r. ⌜ r ≡ spiNumber (unpackedNumber state) ⌝ }
 {
     let lines = unpacked(state).spi_lines();

@@ -36,7 +36,7 @@ fn put_rounds(rounds: [u32; MAX_MASTERS], count: usize, table: &mut [u32])
 // stays as it was. The table of rounds gets the round of each message, from 1, that of modules its module as that round
 // left it.
 #[no_mangle]
-pub extern "C" fn night(
+pub extern "C" fn kan_night(
     bytes: &[u8],
     parts: &[u32],
     counts: &[u32],

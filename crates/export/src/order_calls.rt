@@ -6,7 +6,7 @@ ghost use Rattle.arbitration_checks.specs.Order.{leastOf};
 
 // The index of the least message, the first of equal ones; 0 where 12 or 13 applies.
 #[no_mangle]
-pub extern "C" fn least_message(bytes: &[u8], parts: &[u32], counts: &[u32]) -> u64
+pub extern "C" fn kan_least_message(bytes: &[u8], parts: &[u32], counts: &[u32]) -> u64
     ensures { λ r. ⌜ r ≡ leastOf (asked (now (bytes .entry)) (now (parts .entry)) (now (counts .entry)) []) .index ⌝ }
 {
     let found = arbitration_checks::least_message(bytes, parts, counts);
@@ -15,7 +15,7 @@ pub extern "C" fn least_message(bytes: &[u8], parts: &[u32], counts: &[u32]) -> 
 
 // How many comparisons of two messages find it: one for each message but the first; 0 where 12 or 13 applies.
 #[no_mangle]
-pub extern "C" fn least_comparisons(bytes: &[u8], parts: &[u32], counts: &[u32]) -> u64
+pub extern "C" fn kan_least_comparisons(bytes: &[u8], parts: &[u32], counts: &[u32]) -> u64
     ensures { λ r. ⌜ r
         ≡ leastOf (asked (now (bytes .entry)) (now (parts .entry)) (now (counts .entry)) []) .comparisons ⌝ }
 {

@@ -43,7 +43,7 @@ fn encode_answer(e: Encoded) -> u64
 
 // The events of a trace.
 #[no_mangle]
-pub extern "C" fn bus_decode(stamps: &[u32], levels: &[u8], events: &mut [u16]) -> u64
+pub extern "C" fn kan_bus_decode(stamps: &[u32], levels: &[u8], events: &mut [u16]) -> u64
     ensures answer { λ r. ⌜ r ≡ packedDecoded
         (decoded (now (stamps .entry)) (now (levels .entry)) (length (now (events .entry)))) ⌝ }
     ensures buffer { λ r. ⌜ now (events .exit) ≡ eventsAfter
@@ -55,7 +55,7 @@ pub extern "C" fn bus_decode(stamps: &[u32], levels: &[u8], events: &mut [u16]) 
 
 // The events of a trace with stamps in units of 100 ns, 18 for a phase of SCL too short for Standard-mode.
 #[no_mangle]
-pub extern "C" fn bus_decode_standard(stamps: &[u32], levels: &[u8], events: &mut [u16]) -> u64
+pub extern "C" fn kan_bus_decode_standard(stamps: &[u32], levels: &[u8], events: &mut [u16]) -> u64
     ensures answer { λ r. ⌜ r ≡ packedDecoded
         (decodedIn mode.Standard (now (stamps .entry)) (now (levels .entry)) (length (now (events .entry)))) ⌝ }
     ensures buffer { λ r. ⌜ now (events .exit) ≡ eventsAfter
@@ -67,7 +67,7 @@ pub extern "C" fn bus_decode_standard(stamps: &[u32], levels: &[u8], events: &mu
 
 // The same for Fast-mode.
 #[no_mangle]
-pub extern "C" fn bus_decode_fast(stamps: &[u32], levels: &[u8], events: &mut [u16]) -> u64
+pub extern "C" fn kan_bus_decode_fast(stamps: &[u32], levels: &[u8], events: &mut [u16]) -> u64
     ensures answer { λ r. ⌜ r ≡ packedDecoded
         (decodedIn mode.Fast (now (stamps .entry)) (now (levels .entry)) (length (now (events .entry)))) ⌝ }
     ensures buffer { λ r. ⌜ now (events .exit) ≡ eventsAfter
@@ -79,7 +79,7 @@ pub extern "C" fn bus_decode_fast(stamps: &[u32], levels: &[u8], events: &mut [u
 
 // The trace of an event list.
 #[no_mangle]
-pub extern "C" fn bus_encode(
+pub extern "C" fn kan_bus_encode(
     events: &[u16],
     start: u32,
     gap: u32,
