@@ -5,7 +5,9 @@ use mathlib.Core.List.{List, [], _∷_, _++_}
 use Prim.Native.Nat.{ℕ, zero, suc}
 use lib.ListN.{length, replicate}
 use Rattle.decode.specs.declared.Decoded.the-variants.{Events}
+use Rattle.decode.specs.Decode.{takes, next, cut, lists}
 use Rattle.decode.specs.DecodeReply.{decoded}
+use Rattle.levels.specs.Levels.{starts, stops}
 use Rattle.trace_thin.specs.declared.Thinned.the-variants.{Left, Refused}
 use Rattle.trace_thin.specs.ThinReply.{thinAnswer, stampsAfter, levelsAfter}
 
@@ -24,7 +26,7 @@ start-thinned = (refl, refl, refl)
 
 -- decode finds the START in both
 pub start-found : (decoded stamps levels 6 ≡ Events 1 true 0 0) × (decoded (10 ∷ 13 ∷ []) (3 ∷ 1 ∷ []) 6 ≡ Events 1 true 0 0)
-unfolding decoded
+unfolding decoded lists starts stops takes next cut
 start-found = (refl, refl)
 
 -- a sample of the level before it is dropped, however often the level comes back
