@@ -57,10 +57,12 @@ pub(crate) fn write(stamps: &[u32], levels: &[u8], thin_stamps: &mut [u32], thin
     requires { ⌜ (length (now stamps) ≡ length (now levels))
         × (length (changesFrom 4 (samples (now stamps) (now levels))) ≤ length (now «thin_stamps»))
         × (length (changesFrom 4 (samples (now stamps) (now levels))) ≤ length (now «thin_levels»)) ⌝ }
-    ensures stamps_stored { λ r. ⌜ now («thin_stamps» .exit) ≡ filled
-        (stampsOf (changesFrom 4 (samples (now (stamps .entry)) (now (levels .entry))))) (now («thin_stamps» .entry)) ⌝ }
-    ensures levels_stored { λ r. ⌜ now («thin_levels» .exit) ≡ filled
-        (levelsOf (changesFrom 4 (samples (now (stamps .entry)) (now (levels .entry))))) (now («thin_levels» .entry)) ⌝ }
+    ensures stamps_stored { λ r. ⌜ now («thin_stamps» .exit)
+        ≡ filled (stampsOf (changesFrom 4 (samples (now (stamps .entry)) (now (levels .entry)))))
+        (now («thin_stamps» .entry)) ⌝ }
+    ensures levels_stored { λ r. ⌜ now («thin_levels» .exit)
+        ≡ filled (levelsOf (changesFrom 4 (samples (now (stamps .entry)) (now (levels .entry)))))
+        (now («thin_levels» .entry)) ⌝ }
 {
     let mut last = NO_LEVEL;
     let mut found: usize = 0;

@@ -21,8 +21,10 @@ refused-requires-2 c κs = search needs
 
 returns-2 : tie.Need-returns-2
 returns-2 c =
-    let levels = c .before .before .before .before .before .before .args .levels .now in
-    rw (eq-eqb _ _ (c .before .before .before .if1 .left), any-first badLevel levels, ← c .before .before .bad-level .ensures)
+    let at3 = c .before .before .before in
+    let at6 = at3 .before .before .before in
+    let levels = at6 .args .levels .now in
+    rw (eq-eqb _ _ (at3 .if1 .left), any-first badLevel levels, ← c .before .before .bad-level .ensures)
     (rw (lt-ltb _ _ (c .before .if2 .taken)) (c .refused2 .ensures))
 
 bad-stamp-requires : tie.Need-bad-stamp-requires
@@ -33,9 +35,13 @@ refused-requires-3 c κs = search needs
 
 returns-3 : tie.Need-returns-3
 returns-3 c =
-    let args = c .before .before .before .before .before .before .before .before .args in
-    rw (eq-eqb _ _ (c .before .before .before .before .before .if1 .left), any-first badLevel (args .levels .now), ← c .before .before .before .before .bad-level .ensures)
-    (rw (le-ltb _ _ (c .before .before .before .if2 .left), bad-within (args .stamps .now))
+    let at3 = c .before .before .before in
+    let at4 = at3 .before in
+    let at5 = at4 .before in
+    let at8 = at5 .before .before .before in
+    let args = at8 .args in
+    rw (eq-eqb _ _ (at5 .if1 .left), any-first badLevel (args .levels .now), ← at4 .bad-level .ensures)
+    (rw (le-ltb _ _ (at3 .if2 .left), bad-within (args .stamps .now))
     (rw (← c .before .before .bad-stamp .ensures, lt-ltb _ _ (c .before .if3 .taken)) (c .refused3 .ensures)))
 
 refused-requires-4 : tie.Need-refused-requires-4
@@ -43,9 +49,13 @@ refused-requires-4 c κs = search needs
 
 returns-4 : tie.Need-returns-4
 returns-4 c =
-    let args = c .before .before .before .before .before .before .before .before .args in
-    rw (eq-eqb _ _ (c .before .before .before .before .before .if1 .left), any-first badLevel (args .levels .now), ← c .before .before .before .before .bad-level .ensures)
-    (rw (le-ltb _ _ (c .before .before .before .if2 .left), bad-within (args .stamps .now))
+    let at3 = c .before .before .before in
+    let at4 = at3 .before in
+    let at5 = at4 .before in
+    let at8 = at5 .before .before .before in
+    let args = at8 .args in
+    rw (eq-eqb _ _ (at5 .if1 .left), any-first badLevel (args .levels .now), ← at4 .bad-level .ensures)
+    (rw (le-ltb _ _ (at3 .if2 .left), bad-within (args .stamps .now))
     (rw (← c .before .before .bad-stamp .ensures, le-ltb _ _ (c .before .if3 .left)) (c .refused4 .ensures)))
 
 pub check-spec : {M : Type 1} → statement M
