@@ -4,6 +4,7 @@
 
 pub mod arbitration;
 pub mod bus;
+pub mod capture;
 pub mod cases;
 pub mod catalogue;
 pub mod compare;

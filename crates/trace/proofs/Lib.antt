@@ -2,3 +2,4 @@ pub mod Pairs
 pub mod Scanned
 pub mod Checked
 pub mod Samples
+pub mod Ordered

@@ -3,3 +3,4 @@ pub mod Limits
 pub mod Events
 pub mod Trace
 pub mod Samples
+pub mod Ordered

@@ -1,0 +1,2 @@
+-- What comparing two lists of events means.
+pub mod Match

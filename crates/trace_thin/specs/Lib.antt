@@ -1,0 +1,3 @@
+-- What thinning a capture means.
+pub mod Changes
+pub mod ThinReply
