@@ -24,6 +24,8 @@ use Rattle.arbitration_rules.specs.Reply as reply
 use Rattle.arbitration_rules.specs.Reply.{Request, refusal, refused, answered}
 use Rattle.arbitration_rules.specs.Run.{wire, performed, through, restarting, run}
 use Rattle.arbitration_rules.specs.Cleared.{clearedAt, clearedIn, clearedBy}
+use Rattle.night_rules.specs.Night as night
+use Rattle.night_rules.specs.Night.{arbitration, afterRound, nightOf}
 use Rattle.arbitration_messages.specs.Gathered.{passing}
 use Rattle.arbitration_checks.specs.declared.order.Least.{Least}
 use Rattle.arbitration_checks.specs.Order.{leastOf}
@@ -99,3 +101,26 @@ levelsAfter request found buffer = reply.levelsAfter request found buffer
 unfoldable pub least : Request → Least
 unfolding zipWith passing
 least request = leastOf request
+
+-- what a night is refused by, how many rounds its reply counts, and the lent slice and the table after it
+unfoldable pub nightRefusal : Request → ℕ → ℕ → Refusal
+unfolding zipWith night.nightRefusal
+nightRefusal request roundsRoom tableRoom = night.nightRefusal request roundsRoom tableRoom
+
+unfoldable pub nightRun : Request → List Usi → night.Night
+unfolding countFlags conditionFlags conditionCount lossControl lossFlags endFlags phaseAfter followed settled writeByte
+    edged fallen risen step.sample step.tick zipWith applied judged wire performed through restarting run
+    arbitration afterRound nightOf
+nightRun request table = night.nightFor request table
+
+unfoldable pub roundsCounted : Request → Refusal → List Usi → ℕ
+unfolding nightRun night.roundsCounted
+roundsCounted request found table = night.roundsCounted request found table
+
+unfoldable pub roundsAfter : Request → Refusal → List Usi → List ℕ → List ℕ
+unfolding nightRun night.roundsAfter
+roundsAfter request found table buffer = night.roundsAfter request found table buffer
+
+unfoldable pub nightTableAfter : Request → Refusal → List Usi → List Usi
+unfolding nightRun night.tableAfter
+nightTableAfter request found table = night.tableAfter request found table

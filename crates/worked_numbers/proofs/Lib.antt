@@ -4,3 +4,4 @@ pub mod ModuleRules
 pub mod TraceRules
 pub mod ArbitrationRules
 pub mod RestartRules
+pub mod NightRules
