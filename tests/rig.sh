@@ -57,7 +57,7 @@ input() { printf '%s\n' "$@" >in; }
 load() { input "boards p q r" "load x" "$@" "end 1"; }
 
 commands() {
-    local names="expected clash, decode, dump, encode, night or session"
+    local names="expected clash, decode, dump, encode, night, session or sort"
     input
     expect 2 "error unknown command 'rehearse': $names" rehearse
     expect 2 "error unknown command '$(printf 'x%.0s' {1..32})..': $names" "$(printf 'x%.0s' {1..40})"
@@ -65,9 +65,12 @@ commands() {
     expect 2 "error expected a file, or - for standard input" clash
     expect 2 "error expected a file, or - for standard input" night
     expect 2 "error expected a file, or - for standard input" decode --room 3
+    expect 2 "error expected a file, or - for standard input" sort
     expect 2 "error cannot open none: no such file" decode none
     expect 2 "error cannot read .: it is a directory" decode .
     expect 2 "error cannot read .: it is a directory" session .
+    expect 2 "error cannot open none: no such file" sort none
+    expect 2 "error cannot read .: it is a directory" sort .
     expect 2 "error 0 loads: 1 fault outside the loads" clash none
     has "! cannot open none: no such file"
     expect 2 "error 0 loads: 1 fault outside the loads" night none
@@ -77,8 +80,10 @@ commands() {
     expect 2 "error unknown option '--room' for night" night --room 3
     expect 2 "error unknown option '--table' for decode" decode - --table
     expect 2 "error unknown option '--fast' for session" session --fast
+    expect 2 "error unknown option '--room' for sort" sort - --room 5
     expect 2 "error - stands twice: standard input is read once" clash - "$examples/sent.loads" -
     expect 2 "error - stands twice: standard input is read once" decode - -
+    expect 2 "error - stands twice: standard input is read once" sort - -
     expect 2 "error - stands twice: standard input is read once" clash - --corrections -
     expect 2 "error - stands twice: standard input is read once" night - --corrections -
     expect 2 "error expected a file after --corrections" clash - --corrections
@@ -86,6 +91,7 @@ commands() {
     expect 2 "error unknown option '--corrections' for decode" decode - --corrections x
     expect 2 "error --standard does not go with --fast" decode - --standard --fast
     expect 2 "error a second file 'b': decode reads one" decode a b
+    expect 2 "error a second file 'b': sort reads one" sort a b
     expect 2 "error --table goes with neither --registers nor --wave" clash - --table --wave
     expect 2 "error expected a number after --room" encode --room
     expect 2 "error expected a number after --room, not '-1'" encode --room -1
@@ -98,23 +104,23 @@ help() {
     input
     for command in help --help -h; do expect 0 "ok help" $command && has "usage: rig COMMAND .."; done
     expect 0 "ok help" && has "usage: rig COMMAND .."
-    for command in clash decode dump encode night session; do
+    for command in clash decode dump encode night session sort; do
         for words in "help $command" "$command --help" "$command -h" "$command x --help"; do
             # shellcheck disable=SC2086
             expect 0 "ok help" $words
             holds 'head -n 1 out | grep -q "^usage: rig $command"' "rig $words: $(head -n 1 out)"
         done
     done
-    expect 2 "error unknown command 'rehearse': expected clash, decode, dump, encode, night or session" help rehearse
+    expect 2 "error unknown command 'rehearse': expected clash, decode, dump, encode, night, session or sort" help rehearse
     expect 2 "error unexpected 'session' after help" help clash session
     expect 0 "ok version" --version
     has "rig $(cat "$root/VERSION"), for $(cat "$root/RATTLE-VERSION")"
-    (cd "$root" && sed -n 's/^example: //p' help/*.txt | sed 's|^rig |./rig |') >examples.sh
+    (cd "$root" && sed -n 's/^example: //p' help/*.txt | sed 's/^rig /.\/rig /; s/ | rig / | .\/rig /g') >examples.sh
     while IFS= read -r line; do
         (cd "$root" && eval "$line") >out 2>err </dev/null
         holds 'tail -n 1 out | grep -Eq "^(ok|look|refused) " || grep -q "^rig: ok " err' "the help's example '$line': $(tail -n 1 out)"
     done <examples.sh
-    holds '[ "$(wc -l <examples.sh)" = 6 ]' "six examples in the help"
+    holds '[ "$(wc -l <examples.sh)" = 7 ]' "seven examples in the help"
 }
 
 # What once went up with ok: a board that is missing, a message cut off, a forgotten line, slips.
@@ -428,7 +434,7 @@ traces() {
     seq 0 4095 | awk '{ print $1, 3 - 2 * ($1 % 2) }' >in
     expect 3 "look 4095 events in 4096 samples, frame open, 0 bits pending, $no_byte" decode -
     input "# stamps" "" "7 3" "7 1" &&
-        expect 1 "refused 7 sample 1 (line 4): a stamp is not above the one before it" decode - && alone
+        expect 1 "refused 7 sample 1 (line 4): a stamp is not above the one before it; its stamp is that of line 3" decode - && alone
     expect 1 "refused 8: the reply needs more room than was lent" decode "$examples/clean.trace" --room 7 && alone
     : >in && expect 3 "look 0 events in 0 samples, no frame open, 0 bits pending, $no_byte" decode -
     local short="a phase of SCL is too short for the mode"
@@ -457,8 +463,50 @@ captures() {
         decode "$examples/exchanged.trace"
     expect 3 "look 5 events in 60 samples, frame open, 5 bits pending, value 06h, 1 cut byte, 1 long gap" \
         decode "$examples/damaged.trace"
-    expect 1 "refused 7 sample 48 (line 50): a stamp is not above the one before it" \
-        decode "$examples/crossed.trace" && alone
+    expect 1 "$(crossed 48 50 "34 to 49" "50 to 65")" decode "$examples/crossed.trace" && alone
+}
+
+# crossed SAMPLE LINE LINES LINES: what is said of the sample on this line
+crossed() {
+    printf 'refused 7 sample %s (line %s): a stamp is not above the one before it; ' "$1" "$2"
+    printf 'lines %s and %s look exchanged: rig sort puts samples in order' "$3" "$4"
+}
+
+# A capture in the order of its stamps: the crossed example is the clean one again.
+sorts() {
+    local looks="this looks like a Value Change Dump: did you mean rig decode?"
+    : >in
+    expect 0 "ok 98 samples, 1 out of order" sort "$examples/crossed.trace"
+    holds 'cmp -s <(grep -v "^ok" out) <(grep -v "^#" "$examples/clean.trace")' "not the samples of the clean trace: $(cat out)"
+    "$rig" decode "$examples/clean.trace" >first 2>err
+    "$rig" sort "$examples/crossed.trace" 2>err | "$rig" decode - >second 2>>err
+    holds "[ $? = 0 ] && cmp -s first second" "sorted and decoded: $(cat second)"
+    "$rig" dump "$examples/clean.trace" >first 2>err
+    "$rig" sort "$examples/crossed.trace" 2>err | "$rig" dump - >second 2>>err
+    holds "[ $? = 0 ] && cmp -s first second" "sorted and dumped: $(cat second)"
+    expect 0 "ok 98 samples, all in order" sort "$examples/clean.trace"
+    expect 3 "look 0 samples" sort - && alone
+    input "60 1" "70 3" "# late" "40 2" "50 3" "ok" "20 0" "30 1" "0 3" "10 1"
+    expect 0 "ok 8 samples, 3 out of order" sort -
+    holds '[ "$(head -n 8 out | tr "\n" ,)" = "0 3,10 1,20 0,30 1,40 2,50 3,60 1,70 3," ]' "four packets: $(cat out)"
+    expect 1 "$(crossed 2 4 "1 to 2" "4 to 5")" decode - && alone
+    input "7 3" && expect 0 "ok 1 sample, all in order" sort - && has "7 3"
+    expect 2 "error line 1: expected STAMP LEVEL, two decimal numbers, not '\$timescale'; $looks" sort "$examples/case.vcd" && alone
+}
+
+# What cannot be sorted: two samples with one stamp, and what decode refuses but for the order.
+sorts_refused() {
+    local many="more than 4096 samples"
+    input "9 3" "8 3" "# again" "7 3" "8 1" "9 1"
+    expect 1 "refused 7 sample 3 (line 5): its stamp is that of line 2" sort - && alone
+    input "0 3" "50 4" "50 1" && expect 1 "refused 4 sample 1 (line 2): a level is above 3" sort - && alone
+    input "0 3" 50 "50 9" && expect 1 "refused 5: stamps and levels differ in number; line 2 has no level" sort - && alone
+    seq 4096 -1 0 | sed 's/$/ 3/' >in && expect 1 "refused 6: $many" sort - && alone
+    seq 4096 -1 1 | sed 's/$/ 3/' >in && expect 0 "ok 4096 samples, 4095 out of order" sort -
+    holds 'cmp -s <(head -n 4096 out) <(seq 4096 | sed "s/$/ 3/")' "4096 samples that fall"
+    input "1 x" && expect 2 "error line 1: expected STAMP LEVEL, two decimal numbers, not 'x'" sort - && alone
+    input "4294967296 3" && expect 2 "error line 1: the stamp is above 4294967295: '4294967296'" sort - && alone
+    input "5 3" "4 256" && expect 2 "error line 2: the level is above 255: '256'" sort - && alone
 }
 
 lists() {
@@ -512,7 +560,7 @@ streams() {
         "$rig" $words >&- 2>err
         holds "[ $? = 2 ] && grep -q 'not all output' err" "rig $words, standard output closed: $(cat err)"
     done
-    for words in "clash -" "decode -" encode "night -" session; do
+    for words in "clash -" "decode -" encode "night -" session "sort -"; do
         # shellcheck disable=SC2086
         timeout 20 "$rig" $words <&- >out 2>err
         holds "[ $? = 2 ]" "rig $words, standard input closed: another status"
@@ -542,7 +590,7 @@ early() {
 terminal() {
     command -v script >/dev/null || return 0
     local words
-    for words in encode "encode - --room 5" session "clash -" "decode -" "night -"; do
+    for words in encode "encode - --room 5" session "clash -" "decode -" "dump -" "night -" "sort -"; do
         printf '\004' | script -qec "$rig $words" /dev/null >out 2>&1
         holds 'grep -q "^rig: waiting for .*Ctrl-D" out' "rig $words at a terminal: $(cat out)"
     done
@@ -552,7 +600,7 @@ terminal() {
         printf '\004' | script -qec "$rig $words" /dev/null >out 2>&1
         holds '! grep -q waiting out' "a file is read, and it says that it waits"
     done
-    for words in clash decode dump night; do
+    for words in clash decode dump night sort; do
         printf '\004' | script -qec "$rig $words" /dev/null >out 2>&1
         holds '! grep -q waiting out' "rig $words has no file, and says that it waits"
     done
@@ -565,7 +613,8 @@ dumps() {
     holds "[ $? = 0 ] && cmp -s out '$examples/case.vcd'" "the dump of document 02: $(cat out)"
     holds 'grep -qx "rig: ok 142 bytes for 3 samples" err' "the last line of a dump: $(cat err)"
     for bad in "1 refused 19: the trace has no sample" "1 refused 4 sample 0 (line 1): a level is above 3|5 4" \
-        "1 refused 7 sample 1 (line 2): a stamp is not above the one before it|5 3|5 1" \
+        "1 refused 7 sample 1 (line 2): a stamp is not above the one before it; its stamp is that of line 1|5 3|5 1" \
+        "1 $(crossed 2 3 2 3)|4 3|6 1|5 3" \
         "2 error line 1: expected STAMP LEVEL, two decimal numbers, not 'x'|x"; do
         printf '%s\n' "$bad" | tr '|' '\n' | tail -n +2 >in
         "$rig" dump - <in >out 2>err
@@ -832,6 +881,8 @@ truncated() {
     run_on "clash $examples/sent.loads --corrections" cut/*.corrections >>all
     run_on "night $examples/sent.loads --corrections" cut/*.corrections >>all
     run_on decode cut/*.trace cut/*.vcd >>all
+    run_on dump cut/*.trace >>all
+    run_on sort cut/*.trace >>all
     run_on encode cut/*.events >>all
     run_on session cut/*.session >>all
     judge
@@ -868,6 +919,7 @@ random() {
     run_on night random/*0 random/*4 >>all
     run_on "clash $examples/sent.loads --corrections" random/*8 >>all
     run_on decode random/*1 random/*5 random/*9 >>all
+    run_on sort random/*1 random/*9 >>all
     run_on encode random/*2 random/*6 >>all
     run_on session random/*3 random/*7 >>all
     judge
@@ -895,8 +947,8 @@ rehearsal=${RIG_PROGRAM:+$program}
 rehearsal=${rehearsal:-$root/target/bin/rig_clash}
 [ -z "${RIG_PROGRAM:-}" ] || export RIG_PROGRAM=$program
 for part in commands help slips corrections cut_corrections cut_short refusals most_boards wrong_lines night rounds rounds_refused most_rounds \
-    many_loads sessions traces captures lists round_trips dumps dumps_refused dumps_read dumps_back corpus streams terminal $builds stored \
-    truncated random answers; do
+    many_loads sessions traces captures sorts sorts_refused lists round_trips dumps dumps_refused dumps_read dumps_back corpus streams terminal \
+    $builds stored truncated random answers; do
     $part
 done
 if [ "$failures" -gt 0 ]; then

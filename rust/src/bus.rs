@@ -64,6 +64,15 @@ pub fn frame_open_after(levels: &[u8]) -> Vec<bool> {
 
 /// Refusals 5, 6, 4, 7, each looked for in the whole record before the next.
 pub fn check_record(stamps: &[u32], levels: &[u8]) -> Result<(), Refusal> {
+    check_samples(stamps, levels)?;
+    if let Some(before) = stamps.windows(2).position(|pair| pair[1] <= pair[0]) {
+        return Err(Reason::StampNotAbove.at(before + 1));
+    }
+    Ok(())
+}
+
+/// Those of them that do not ask in what order the samples stand: 5, 6, 4.
+pub fn check_samples(stamps: &[u32], levels: &[u8]) -> Result<(), Refusal> {
     if stamps.len() != levels.len() {
         return Err(Reason::StampsAndLevelsDiffer.refusal());
     }
@@ -72,9 +81,6 @@ pub fn check_record(stamps: &[u32], levels: &[u8]) -> Result<(), Refusal> {
     }
     if let Some(place) = levels.iter().position(|&level| level > 3) {
         return Err(Reason::Level.at(place));
-    }
-    if let Some(before) = stamps.windows(2).position(|pair| pair[1] <= pair[0]) {
-        return Err(Reason::StampNotAbove.at(before + 1));
     }
     Ok(())
 }

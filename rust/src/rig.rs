@@ -12,6 +12,7 @@ mod files;
 pub mod inputs;
 mod refusals;
 mod session;
+mod sort;
 mod text;
 
 use arguments::{Command, Options};
@@ -43,6 +44,7 @@ fn one_file(options: &Options, input: &mut dyn Read) -> String {
         Command::Decode => decode::decode(&contents, options),
         Command::Dump => dump::dumped(&contents),
         Command::Encode => encode::encode(&contents, options),
+        Command::Sort => sort::sorted(&contents),
         _ => session::session(&contents),
     }
 }

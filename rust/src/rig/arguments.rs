@@ -6,7 +6,7 @@ use crate::phases::Mode;
 /// The longest argument.
 const ARGUMENT_BYTES: usize = 4096;
 
-const NO_COMMAND: &str = "expected a command: clash, decode, dump, encode, night or session";
+const NO_COMMAND: &str = "expected a command: clash, decode, dump, encode, night, session or sort";
 const NO_FILE: &str = "expected a file, or - for standard input";
 const INPUT_TWICE: &str = "- stands twice: standard input is read once";
 const NO_NUMBER: &str = "expected a number after --room";
@@ -25,6 +25,7 @@ pub enum Command {
     Encode,
     Night,
     Session,
+    Sort,
 }
 
 /// What is to be run, on what, and how it is shown.
@@ -56,6 +57,7 @@ impl Command {
             Command::Encode,
             Command::Night,
             Command::Session,
+            Command::Sort,
         ];
         commands.into_iter().find(|command| command.word() == word)
     }
@@ -68,6 +70,7 @@ impl Command {
             Command::Encode => "encode",
             Command::Night => "night",
             Command::Session => "session",
+            Command::Sort => "sort",
         }
     }
 
@@ -177,7 +180,10 @@ pub fn parse(arguments: &[String]) -> Result<Options, String> {
     let mut rest = arguments.iter();
     let first = short(rest.next().ok_or(NO_COMMAND)?)?;
     let unknown = || {
-        format!("unknown command {}: expected clash, decode, dump, encode, night or session", quoted(first))
+        format!(
+            "unknown command {}: expected clash, decode, dump, encode, night, session or sort",
+            quoted(first)
+        )
     };
     let mut options = Options::new(Command::from_word(first).ok_or_else(unknown)?);
     while let Some(word) = rest.next() {

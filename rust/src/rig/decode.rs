@@ -11,6 +11,7 @@ use crate::refusal::{Reason, Refusal};
 use gaps::Gaps;
 
 mod capture;
+pub mod crossed;
 mod gaps;
 
 const LOOKS_LIKE_A_LIST: &str = "; this looks like an event list: did you mean rig encode?";
@@ -21,7 +22,7 @@ const LOOKS_LIKE_A_DUMP: &str = "; this looks like a Value Change Dump: did you 
 pub struct Record {
     pub stamps: Vec<u32>,
     pub levels: Vec<u8>,
-    lines: Vec<usize>,
+    pub lines: Vec<usize>,
     /// The first line with a stamp and no level.
     no_level: Option<usize>,
 }
@@ -73,6 +74,10 @@ impl Record {
         match (refusal.reason, self.no_level) {
             (Reason::StampsAndLevelsDiffer, Some(line)) => {
                 format!("{}; line {line} has no level", refusals::plain(refusal))
+            }
+            (Reason::StampNotAbove, _) => {
+                let more = crossed::hint(&self.stamps, &self.lines, refusal.place);
+                format!("{}; {more}", refusals::at_sample(refusal, &self.lines))
             }
             _ => refusals::at_sample(refusal, &self.lines),
         }

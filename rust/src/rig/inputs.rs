@@ -12,6 +12,7 @@ mod dump;
 mod encode;
 mod page;
 mod session;
+mod sort;
 mod tonight;
 
 /// A kind of input: the command it is for, and how its file is drawn.
@@ -23,13 +24,14 @@ pub struct Kind {
 }
 
 /// Well-formed files, one in four of them damaged; random bytes for each command; and command lines.
-pub const KINDS: [Kind; 11] = [
+pub const KINDS: [Kind; 12] = [
     Kind { word: "clash", command: "clash", text: |random| damage::some(random, clash::text) },
     Kind { word: "decode", command: "decode", text: |random| damage::some(random, decode::text) },
     Kind { word: "dump", command: "dump", text: |random| damage::some(random, decode::lines) },
     Kind { word: "encode", command: "encode", text: |random| damage::some(random, encode::text) },
     Kind { word: "night", command: "night", text: |random| damage::some(random, clash::night) },
     Kind { word: "session", command: "session", text: |random| damage::some(random, session::text) },
+    Kind { word: "sort", command: "sort", text: |random| damage::some(random, sort::text) },
     Kind { word: "clash-bytes", command: "clash", text: damage::bytes },
     Kind { word: "decode-bytes", command: "decode", text: damage::bytes },
     Kind { word: "encode-bytes", command: "encode", text: damage::bytes },

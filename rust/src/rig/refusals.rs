@@ -62,13 +62,18 @@ pub fn plain(refusal: Refusal) -> String {
 
 /// The same with the sample and its line, where 01's table gives a place.
 pub fn at_sample(refusal: Refusal, lines: &[usize]) -> String {
-    let (number, sample) = (refusal.number(), refusal.place);
     match refusal.reason {
         Reason::Level | Reason::StampNotAbove | Reason::ShortPhase => {
-            format!("refused {number} sample {sample} (line {}): {}", lines[sample], words(refusal.reason))
+            in_words(refusal, lines, words(refusal.reason))
         }
         _ => plain(refusal),
     }
+}
+
+/// The sample and its line, with other words.
+pub fn in_words(refusal: Refusal, lines: &[usize], words: &str) -> String {
+    let (number, sample) = (refusal.number(), refusal.place);
+    format!("refused {number} sample {sample} (line {}): {words}", lines[sample])
 }
 
 /// The same with the sample and its stamp.

@@ -171,7 +171,8 @@ fn errors() {
 #[test]
 fn places_and_their_lines() {
     assert_eq!(rig("decode -", "# a\n5 3\n6 4\n"), "refused 4 sample 1 (line 3): a level is above 3\n");
-    let refused = "refused 7 sample 2 (line 5): a stamp is not above the one before it\n";
+    let refused = "refused 7 sample 2 (line 5): a stamp is not above the one before it; \
+        its stamp is that of line 3\n";
     assert_eq!(rig("decode -", "5 3\nok\n6 3\n\n6 3\n5 3\n"), refused);
     assert_eq!(last("decode -", "5 3\n4294967295 3")[..4], *"look");
 }

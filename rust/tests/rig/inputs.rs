@@ -126,6 +126,25 @@ fn decode_inputs_reach_every_answer() {
     check_reach("decode", &texts.split('|').collect::<Vec<_>>());
 }
 
+/// A record that crossed, as decode and dump tell it.
+#[test]
+fn crossed_records_reach_every_answer() {
+    let texts = "it; its stamp is that of line |it; lines 1 and 2 look|it; lines 1 to 2 and 3 to 4 look\
+        |it; lines 1 and 2 to |it; lines 1 to 2 and 3 look";
+    check_reach("decode", &texts.split('|').collect::<Vec<_>>());
+    check_reach("dump", &texts.split('|').collect::<Vec<_>>());
+}
+
+#[test]
+fn sort_inputs_reach_every_answer() {
+    let texts = "refused 4 sample |refused 5: |; line 1 has no level|refused 6: |): its stamp is that of line \
+        |: expected STAMP|: the stamp is|: the level is|: longer than|: a byte that is no|looks like an event list\
+        |looks like a Value Change Dump|look 0 samples|ok 1 sample, all in order|ok 2 samples, 1 out of order\
+        | samples, all in order| out of order|ok 4096 samples, |ok 4096 samples, all|ok 4095 samples, \
+        | 4095 out of order";
+    check_reach("sort", &texts.split('|').collect::<Vec<_>>());
+}
+
 #[test]
 fn dumps_reach_every_answer() {
     let texts =
@@ -171,6 +190,6 @@ fn command_lines_reach_every_answer() {
         |unknown option '--brief'|unknown option '--odd|longer than 4096|no such file|it is a directory\
         |the name is too long|a second file '|--table goes with|aaaa..'\
         |expected a file after --corrections|unknown option '--corrections'|unknown option '--table' for night\
-        |unknown option '--room' for night";
+        |unknown option '--room' for night|unknown option '--room' for sort|: sort reads one";
     check_reach("arguments", &texts.split('|').collect::<Vec<_>>());
 }

@@ -14,6 +14,7 @@ mod night;
 mod refusals;
 mod restarts;
 mod session;
+mod sort;
 
 use rehearsal_model::rig::answer;
 

@@ -43,7 +43,18 @@ fn of_the_reader() {
         ("decode -", "5 3\n6 4", "4 sample 1 (line 2): a level is above 3"),
         ("decode -", "5 9\n\n6", "5: stamps and levels differ in number; line 3 has no level"),
         ("decode -", &samples, "6: more than 4096 samples"),
-        ("decode -", "5 3\n5 3", "7 sample 1 (line 2): a stamp is not above the one before it"),
+        (
+            "decode -",
+            "5 3\n5 3",
+            "7 sample 1 (line 2): a stamp is not above the one before it; its stamp is that of line 1",
+        ),
+        (
+            "dump -",
+            "5 3\n4 3",
+            "7 sample 1 (line 2): a stamp is not above the one before it; lines 1 and 2 look exchanged: rig sort \
+             puts samples in order",
+        ),
+        ("sort -", "5 3\n5 3", "7 sample 1 (line 2): its stamp is that of line 1"),
         ("decode - --room 0", "5 3\n6 1", "8: the reply needs more room than was lent"),
     ];
     for (arguments, input, words) in cases {

@@ -125,7 +125,9 @@ pub fn any(random: &mut Random, file: &[u8], tonight: &[u8]) -> Vec<Vec<u8>> {
             11 => tonight.to_vec(),
             12..=14 => random.pick(&["0", "23", "4096", "x", "99999999999999999999", "5x"]).into(),
             15 => b"-".to_vec(),
-            16 => random.pick(&["clash", "decode", "dump", "encode", "night", "session", "help"]).into(),
+            16 => {
+                random.pick(&["clash", "decode", "dump", "encode", "night", "session", "sort", "help"]).into()
+            }
             17 => [file, b"/below"].concat(),
             18 => [file, b".missing"].concat(),
             19 => random.pick(&["/", ".", "..", ""]).into(),
@@ -146,7 +148,8 @@ fn first(random: &mut Random) -> Vec<u8> {
         7 => b"dump".to_vec(),
         8..=11 => b"encode".to_vec(),
         12..=13 => b"night".to_vec(),
-        14..=16 => b"session".to_vec(),
+        14..=15 => b"session".to_vec(),
+        16 => b"sort".to_vec(),
         _ => b"clash".to_vec(),
     }
 }

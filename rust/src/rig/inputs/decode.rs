@@ -13,18 +13,25 @@ pub fn text(random: &mut Random) -> Vec<u8> {
     lines(random)
 }
 
-/// A record in lines: the drawing of a list, whole or spoilt, or any levels; now and then a file of another kind.
+/// A record in lines: the drawing of a list, whole or spoilt, or any levels; now and then in packets that crossed, or
+/// a file of another kind.
 pub fn lines(random: &mut Random) -> Vec<u8> {
     match random.below(40) {
         0 => return super::encode::words(random),
         1 => return super::dump::text(random),
+        2..=6 => return super::sort::packets(random),
         _ => {}
     }
     let levels = draw_levels(random);
     let stamps = draw_stamps(random, levels.len());
+    written(random, &stamps.into_iter().zip(levels).collect::<Vec<_>>())
+}
+
+/// A line for each sample, a stamp and a level, but for a few that are spoilt.
+pub fn written(random: &mut Random, samples: &[(u64, u64)]) -> Vec<u8> {
     let mut page = Page::new(random);
-    let spoiling = page.random.pick(&[2, 40, 100_000]) * (levels.len() + 1);
-    for (&stamp, &level) in stamps.iter().zip(&levels) {
+    let spoiling = page.random.pick(&[2, 40, 100_000]) * (samples.len() + 1);
+    for &(stamp, level) in samples {
         if page.random.once_in(spoiling) {
             spoilt_line(&mut page, stamp, level);
         } else {
