@@ -8,12 +8,14 @@ mod clash_table;
 mod corrections;
 mod decode;
 mod differ;
+mod draw;
 mod encode;
 mod inputs;
 mod night;
 mod refusals;
 mod restarts;
 mod session;
+mod svg;
 
 use rehearsal_model::rig::answer;
 
