@@ -59,7 +59,6 @@ pub fn load(page: &mut Page, spoiling: usize, index: usize) {
     }
     let titles = [
         "",
-        "pass plan",
         "heater limits",
         "m\u{e9}moire",
         "ok error",
