@@ -57,7 +57,7 @@ input() { printf '%s\n' "$@" >in; }
 load() { input "boards p q r" "load x" "$@" "end 1"; }
 
 commands() {
-    local names="expected clash, decode, dump, encode, night, session or sort"
+    local names="expected clash, decode, draw, dump, encode, night, session or sort"
     input
     expect 2 "error unknown command 'rehearse': $names" rehearse
     expect 2 "error unknown command '$(printf 'x%.0s' {1..32})..': $names" "$(printf 'x%.0s' {1..40})"
@@ -66,6 +66,10 @@ commands() {
     expect 2 "error expected a file, or - for standard input" night
     expect 2 "error expected a file, or - for standard input" decode --room 3
     expect 2 "error expected a file, or - for standard input" sort
+    expect 2 "error expected a file, or - for standard input" draw
+    expect 2 "error expected a load after the file" draw x
+    expect 2 "error unexpected 'z' after the load" draw x y z
+    expect 2 "error unexpected '-' after the load" draw - y -
     expect 2 "error cannot open none: no such file" decode none
     expect 2 "error cannot read .: it is a directory" decode .
     expect 2 "error cannot read .: it is a directory" session .
@@ -75,7 +79,11 @@ commands() {
     has "! cannot open none: no such file"
     expect 2 "error 0 loads: 1 fault outside the loads" night none
     has "! cannot open none: no such file"
+    expect 2 "error 0 loads: 2 faults outside the loads" draw none x
+    has "! cannot open none: no such file" "! no load 'x' in the files"
     expect 2 "error unknown option '--brief' for clash" clash - --brief
+    expect 2 "error unknown option '--room' for draw" draw - x --room 3
+    expect 2 "error unknown option '--svg' for clash" clash - --svg
     expect 2 "error unknown option '--table' for night" night - --table
     expect 2 "error unknown option '--room' for night" night --room 3
     expect 2 "error unknown option '--table' for decode" decode - --table
@@ -85,8 +93,10 @@ commands() {
     expect 2 "error - stands twice: standard input is read once" decode - -
     expect 2 "error - stands twice: standard input is read once" sort - -
     expect 2 "error - stands twice: standard input is read once" clash - --corrections -
+    expect 2 "error - stands twice: standard input is read once" draw - x --corrections -
     expect 2 "error - stands twice: standard input is read once" night - --corrections -
     expect 2 "error expected a file after --corrections" clash - --corrections
+    expect 2 "error expected a file after --corrections" draw - x --corrections
     expect 2 "error expected a file after --corrections" night - --corrections
     expect 2 "error unknown option '--corrections' for decode" decode - --corrections x
     expect 2 "error --standard does not go with --fast" decode - --standard --fast
@@ -104,14 +114,14 @@ help() {
     input
     for command in help --help -h; do expect 0 "ok help" $command && has "usage: rig COMMAND .."; done
     expect 0 "ok help" && has "usage: rig COMMAND .."
-    for command in clash decode dump encode night session sort; do
+    for command in clash decode draw dump encode night session sort; do
         for words in "help $command" "$command --help" "$command -h" "$command x --help"; do
             # shellcheck disable=SC2086
             expect 0 "ok help" $words
             holds 'head -n 1 out | grep -q "^usage: rig $command"' "rig $words: $(head -n 1 out)"
         done
     done
-    expect 2 "error unknown command 'rehearse': expected clash, decode, dump, encode, night, session or sort" help rehearse
+    expect 2 "error unknown command 'rehearse': expected clash, decode, draw, dump, encode, night, session or sort" help rehearse
     expect 2 "error unexpected 'session' after help" help clash session
     expect 0 "ok version" --version
     has "rig $(cat "$root/VERSION"), for $(cat "$root/RATTLE-VERSION")"
@@ -120,7 +130,7 @@ help() {
         (cd "$root" && eval "$line") >out 2>err </dev/null
         holds 'tail -n 1 out | grep -Eq "^(ok|look|refused) " || grep -q "^rig: ok " err' "the help's example '$line': $(tail -n 1 out)"
     done <examples.sh
-    holds '[ "$(wc -l <examples.sh)" = 7 ]' "seven examples in the help"
+    holds '[ "$(wc -l <examples.sh)" = 8 ]' "eight examples in the help"
 }
 
 # What once went up with ok: a board that is missing, a message cut off, a forgotten line, slips.
@@ -183,13 +193,14 @@ corrections() {
 
 # Corrections that are cut short anywhere stop everything.
 cut_corrections() {
-    local size n command
+    local size n words night=$examples/night.loads
     size=$(wc -c <"$examples/night.corrections")
     for ((n = 0; n < size - 2; n += 7)); do
         head -c $n "$examples/night.corrections" >in
-        for command in clash night; do
-            "$rig" $command "$examples/night.loads" --corrections - <in >out 2>err
-            holds "[ $? = 2 ]" "$command, the first $n bytes of night.corrections: $(tail -n 1 out)"
+        for words in "clash $night" "draw $night upload-17" "night $night"; do
+            # shellcheck disable=SC2086
+            "$rig" $words --corrections - <in >out 2>err
+            holds "[ $? = 2 ]" "$words, the first $n bytes of night.corrections: $(tail -n 1 out)"
             holds '[ "$(wc -l <out)" = 2 ] && head -n 1 out | grep -q "; nothing is rehearsed$"' "it is rehearsed: $(cat out)"
         done
     done
@@ -197,13 +208,14 @@ cut_corrections() {
 
 # A file that is cut short anywhere never ends with ok, and its last load is not rehearsed.
 cut_short() {
-    local size n command
+    local size n words
     size=$(wc -c <"$examples/sent.loads")
     for ((n = 0; n < size - 2; n += 7)); do
         head -c $n "$examples/sent.loads" >in
-        for command in clash night; do
-            "$rig" $command - <in >out 2>err
-            holds "[ $? = 2 ]" "$command, the first $n bytes of sent.loads: $(tail -n 1 out)"
+        for words in "clash -" "draw - alone" "night -"; do
+            # shellcheck disable=SC2086
+            "$rig" $words <in >out 2>err
+            holds "[ $? = 2 ]" "$words, the first $n bytes of sent.loads: $(tail -n 1 out)"
         done
     done
     head -c 4000 "$examples/night.loads" >in
@@ -560,7 +572,7 @@ streams() {
         "$rig" $words >&- 2>err
         holds "[ $? = 2 ] && grep -q 'not all output' err" "rig $words, standard output closed: $(cat err)"
     done
-    for words in "clash -" "decode -" encode "night -" session "sort -"; do
+    for words in "clash -" "decode -" "draw - x" encode "night -" session "sort -"; do
         # shellcheck disable=SC2086
         timeout 20 "$rig" $words <&- >out 2>err
         holds "[ $? = 2 ]" "rig $words, standard input closed: another status"
@@ -590,17 +602,17 @@ early() {
 terminal() {
     command -v script >/dev/null || return 0
     local words
-    for words in encode "encode - --room 5" session "clash -" "decode -" "dump -" "night -" "sort -"; do
+    for words in encode "encode - --room 5" session "clash -" "decode -" "draw - x" "draw - x --svg" "dump -" "night -" "sort -"; do
         printf '\004' | script -qec "$rig $words" /dev/null >out 2>&1
         holds 'grep -q "^rig: waiting for .*Ctrl-D" out' "rig $words at a terminal: $(cat out)"
     done
-    for words in "clash $examples/p8.loads" "night $examples/p8.loads"; do
+    for words in "clash $examples/p8.loads" "draw $examples/p8.loads p8" "night $examples/p8.loads"; do
         printf '\004' | script -qec "$rig $words --corrections -" /dev/null >out 2>&1
         holds 'grep -q "^rig: waiting for corrections; Ctrl-D" out' "corrections at a terminal: $(cat out)"
         printf '\004' | script -qec "$rig $words" /dev/null >out 2>&1
         holds '! grep -q waiting out' "a file is read, and it says that it waits"
     done
-    for words in clash decode dump night sort; do
+    for words in clash decode draw dump night sort; do
         printf '\004' | script -qec "$rig $words" /dev/null >out 2>&1
         holds '! grep -q waiting out' "rig $words has no file, and says that it waits"
     done
@@ -635,6 +647,86 @@ dumps() {
     expect 2 "error --trace goes with none of --table, --registers and --wave" clash x --trace y --wave
     "$rig" dump "$examples/clean.trace" >/dev/full 2>err
     holds "[ $? = 2 ]" "a dump to a full disk: $(cat err)"
+}
+
+# A picture of one load: its block with the waveform, a drawing alone on standard output, or a dump.
+drawings() {
+    local p8=$examples/p8.loads night=$examples/night.loads
+    : >in
+    expect 0 "ok 1 load: 1 sent" draw "$p8" p8
+    has "  byte 0   S|90               |0F                 P" "            1 0 0 1 0 0 0 0 A 0 0 0 0 1 1 1 1 A" \
+        '  scl     ""\/\/\/\/\/\/\/\/\/\/\/\/\/\/\/\/\/\/\/"' '  sda     "\/"\.../"\................./"""""""\.../' \
+        "  lost                              ^ 0 first"
+    expect 3 "look 1 load: 1 cut" draw "$night" upload-17
+    holds '[ "$(grep -c "^load " out)" = 1 ] && ! grep -q "^see " out' "one load is drawn: $(cat out)"
+    expect 1 "refused 16: 1 load: 1 refused" draw "$night" upload-40
+    has "  refused 16: attitude (line 440) ends with 50 18 C4 02, acknowledged, where payload (line 443) goes on with 7E"
+    expect 2 "error 0 loads: 1 fault outside the loads" draw "$night" nix
+    has "! no load 'nix' in the files"
+    expect 0 "ok 1 load: 1 sent, 1 corrected" draw "$night" upload-40 --corrections "$examples/night.corrections"
+    has "  corrected 1 thermal, 2 attitude"
+    drawn 0 "ok 1 load: 1 sent" "$p8" p8 --svg
+    holds 'cmp -s out "$root/docs/arbitration.svg"' "docs/arbitration.svg is not the drawing of p8"
+    drawn 3 "look 1 load: 1 cut" --svg "$night" upload-17
+    holds '[ "$(head -c 5 out)" = "<svg " ] && [ "$(tail -n 1 out)" = "</svg>" ]' "a drawing: $(cat out)"
+    drawn 1 "refused 16: 1 load: 1 refused" "$night" --svg upload-40
+    holds '[ ! -s out ]' "a load that is refused is drawn: $(cat out)"
+    drawn 2 "error expected a load after the file" "$p8" --svg
+    "$rig" draw "$p8" p8 --svg >/dev/full 2>err
+    holds "[ $? = 2 ]" "a drawing to a full disk: $(cat err)"
+}
+
+# drawn STATUS LAST-LINE WORDS..: ./rig draw WORDS says its last line on standard error, and nothing else there
+drawn() {
+    local status=$1 last=$2 got
+    shift 2
+    checks=$((checks + 1))
+    "$rig" draw "$@" <in >out 2>err
+    got=$?
+    [ "$got" = "$status" ] || failed "rig draw $*: status $got, expected $status: $(cat err)"
+    [ "$(cat err)" = "rig: $last" ] || failed "rig draw $*: '$(cat err)', expected 'rig: $last'"
+    holds '! grep -Eq "^(ok|look|refused|error) " out' "rig draw $*: the last line is on standard output: $(tail -n 1 out)"
+}
+
+# A load as a dump: on standard output what `rig dump` makes of its trace, and how that went on standard error.
+drawn_dumps() {
+    local words
+    : >in
+    for words in "$examples/p8.loads p8" "$examples/restarts.loads cut-in"; do
+        "$rig" clash "${words% *}" --trace "${words#* }" 2>err | "$rig" dump - >first 2>said
+        # shellcheck disable=SC2086
+        "$rig" draw $words --vcd <in >out 2>err
+        holds '[ -s first ] && cmp -s first out' "draw $words --vcd: not the dump of its trace: $(cat out)"
+        holds 'grep -qx "$(cat said)" err' "draw $words --vcd: $(cat err)"
+    done
+    "$rig" draw --vcd "$examples/p8.loads" p8 <in >out 2>err
+    holds "[ $? = 0 ] && [ -s out ]" "p8 as a dump: $(cat err)"
+    "$rig" draw "$examples/night.loads" upload-40 --vcd >out 2>err
+    holds "[ $? != 0 ] && ! grep -q '^[$]' out" "a dump of a load that is refused: $(cat out err)"
+    "$rig" draw "$examples/p8.loads" p8 --vcd >/dev/full 2>err
+    holds "[ $? = 2 ]" "a dump of a load to a full disk: $(cat err)"
+}
+
+# Every load of the examples that goes out is drawn as a document that an XML parser takes.
+documents() {
+    local file name status parse='import sys, xml.dom.minidom
+for name in sys.argv[1:]: assert xml.dom.minidom.parse(name).documentElement.tagName == "svg", name'
+    mkdir -p svg
+    for file in "$examples"/*.loads; do
+        while read -r name; do
+            "$rig" draw "$file" "$name" --svg </dev/null >out 2>err
+            status=$?
+            case $status in 0 | 3) mv out "svg/${file##*/}.$name" ;; esac
+            holds "[ -s err ]" "no last line on standard error: $file $name"
+        done < <(awk '$1 == "load" { print $2 }' "$file")
+    done
+    holds '[ "$(find svg -type f | wc -l)" -gt 50 ]' "few drawings: $(find svg -type f | wc -l)"
+    input "boards a<b>&amp; q" "load <x&y> 1 < 2 && 2 > 1 ]]> mémo" "board a<b>&amp; 92" "board q 90" "ack all" "end 1"
+    "$rig" draw - "<x&y>" --svg <in >svg/escaped 2>err
+    holds "[ $? = 0 ] && grep -qF '>0 a&lt;b&gt;&amp;amp; lost<' svg/escaped" "names are escaped: $(cat svg/escaped)"
+    command -v python3 >/dev/null || return 0
+    python3 -c "$parse" svg/* 2>err
+    holds "[ $? = 0 ]" "a drawing that is no XML: $(tail -n 1 err)"
 }
 
 # dump LINES..: a dump of two wires with a first sample, 76 bytes in four lines, and then these
@@ -827,6 +919,7 @@ stored() {
         case $command in
             table) "$rig" clash "$file" --table ;;
             whole) "$rig" clash "$file" --registers --wave ;;
+            draw) stored_drawing "${name#*.}" ;;
             corrected) "$rig" clash "${file%.corrections}.loads" --corrections "$file" ;;
             *) "$rig" "$command" "$file" ;;
         esac >out 2>>err
@@ -834,17 +927,35 @@ stored() {
     done
 }
 
+# stored_drawing NAME.loads or NAME.svg: of one load of the example NAME.loads
+stored_drawing() {
+    local file=$examples/${1%.*}.loads load=cut-in
+    case $1 in p8.*) load=p8 ;; esac
+    case $1 in
+        *.svg) "$rig" draw "$file" $load --svg ;;
+        *) "$rig" draw "$file" $load ;;
+    esac
+}
+
 # The program of a command, with its words perhaps.
-program_of() { case $1 in clash* | night*) echo "$rehearsal" ;; *) echo "$program" ;; esac; }
+program_of() { case $1 in clash* | draw* | night*) echo "$rehearsal" ;; *) echo "$program" ;; esac; }
+
+# The word after the file: for draw a load, the first of the file where there is one.
+after_file() {
+    case $1 in
+        draw*) awk '$1 == "load" { name = $2; exit } END { print name == "" ? "x" : name }' "$2" 2>>err | tr -d '\0' ;;
+    esac
+}
 
 # A run of the program on each file, all in one output, with a line between runs that no run prints.
 run_on() {
-    local command=$1 file
+    local command=$1 file after
     shift
     for file in "$@"; do
         printf '== %s %s\n' "$command" "$file"
+        after=$(after_file "$command" "$file")
         # shellcheck disable=SC2086
-        "$(program_of "$command")" $command "$file" 2>>err
+        "$(program_of "$command")" $command "$file" ${after:+"$after"} 2>>err
         printf '== status %s\n' $?
     done
 }
@@ -877,6 +988,8 @@ truncated() {
         for ((n = 1; n < size && n < 3000; n += 10)); do head -c $n "$file" >"cut/$n.${file##*/}"; done
     done
     run_on "clash --table" cut/*.loads >all
+    run_on draw cut/*.loads >>all
+    run_on "draw --svg" cut/*.loads >>all
     run_on night cut/*.loads >>all
     run_on "clash $examples/sent.loads --corrections" cut/*.corrections >>all
     run_on "night $examples/sent.loads --corrections" cut/*.corrections >>all
@@ -916,6 +1029,7 @@ random() {
         fi
     done
     run_on clash random/*0 random/*4 >all
+    run_on draw random/*0 random/*4 >>all
     run_on night random/*0 random/*4 >>all
     run_on "clash $examples/sent.loads --corrections" random/*8 >>all
     run_on decode random/*1 random/*5 random/*9 >>all
@@ -946,9 +1060,9 @@ program=$(readlink -f "${RIG_PROGRAM:-$root/target/bin/rig}")
 rehearsal=${RIG_PROGRAM:+$program}
 rehearsal=${rehearsal:-$root/target/bin/rig_clash}
 [ -z "${RIG_PROGRAM:-}" ] || export RIG_PROGRAM=$program
-for part in commands help slips corrections cut_corrections cut_short refusals most_boards wrong_lines night rounds rounds_refused most_rounds \
-    many_loads sessions traces captures sorts sorts_refused lists round_trips dumps dumps_refused dumps_read dumps_back corpus streams terminal \
-    $builds stored truncated random answers; do
+for part in commands help slips corrections cut_corrections cut_short refusals most_boards wrong_lines night rounds \
+    rounds_refused most_rounds many_loads sessions traces captures sorts sorts_refused lists round_trips dumps dumps_refused dumps_read \
+    dumps_back corpus drawings drawn_dumps documents streams terminal $builds stored truncated random answers; do
     $part
 done
 if [ "$failures" -gt 0 ]; then

@@ -94,8 +94,40 @@ fn examples() -> Vec<(String, Vec<u8>)> {
             answers.push((format!("{name}.{file}"), answer(&arguments, &mut std::io::empty()).output));
         }
     }
+    answers.extend(drawings());
     answers.sort();
     answers
+}
+
+/// The files of examples of which a load is drawn, and that load.
+const DRAWN: [(&str, &str); 2] = [("p8", "p8"), ("restarts", "cut-in")];
+
+/// Each of them as its block, and as an SVG document alone.
+fn drawings() -> Vec<(String, Vec<u8>)> {
+    let mut answers = Vec::new();
+    for (file, load) in DRAWN {
+        let path = format!("{}/examples/{file}.loads", top());
+        let drawn = |words: &[&str]| {
+            let arguments: Vec<Vec<u8>> = words.iter().map(|&word| word.into()).collect();
+            answer(&arguments, &mut std::io::empty()).output
+        };
+        answers.push((format!("draw.{file}.loads"), drawn(&["draw", &path, load])));
+        let mut document = drawn(&["draw", &path, load, "--svg"]);
+        let end = b"</svg>\n";
+        let last_line = document.windows(end.len()).position(|bytes| bytes == end).unwrap() + end.len();
+        document.truncate(last_line);
+        answers.push((format!("draw.{file}.svg"), document));
+    }
+    answers
+}
+
+/// The picture of the front page.
+fn front() -> String {
+    format!("{}/docs/arbitration.svg", top())
+}
+
+fn stored_drawing() -> Vec<u8> {
+    std::fs::read(format!("{}/tests/expected/draw.p8.svg", top())).unwrap()
 }
 
 fn stored_names() -> Vec<String> {
@@ -116,6 +148,11 @@ fn the_examples_are_stored() {
     }
 }
 
+#[test]
+fn the_picture_of_the_front_page_is_drawn() {
+    assert!(std::fs::read(front()).unwrap() == stored_drawing(), "docs/arbitration.svg");
+}
+
 /// Stores them anew: `cargo test --test scripts -- --ignored`.
 #[test]
 #[ignore]
@@ -126,6 +163,7 @@ fn store_the_examples() {
     for (name, answer) in examples() {
         std::fs::write(format!("{}/tests/expected/{name}", top()), answer).unwrap();
     }
+    std::fs::write(front(), stored_drawing()).unwrap();
 }
 
 #[test]

@@ -6,7 +6,7 @@ use crate::phases::Mode;
 /// The longest argument.
 const ARGUMENT_BYTES: usize = 4096;
 
-const NO_COMMAND: &str = "expected a command: clash, decode, dump, encode, night, session or sort";
+const NO_COMMAND: &str = "expected a command: clash, decode, draw, dump, encode, night, session or sort";
 const NO_FILE: &str = "expected a file, or - for standard input";
 const INPUT_TWICE: &str = "- stands twice: standard input is read once";
 const NO_NUMBER: &str = "expected a number after --room";
@@ -15,12 +15,14 @@ const LONG_ARGUMENT: &str = "an argument is longer than 4096 bytes";
 const ONE_MODE: &str = "--standard does not go with --fast";
 const NO_TRACE: &str = "expected a load after --trace";
 const TRACE_ALONE: &str = "--trace goes with none of --table, --registers and --wave";
+const NO_LOAD: &str = "expected a load after the file";
 const TABLE_ALONE: &str = "--table goes with neither --registers nor --wave";
 
 #[derive(Clone, Copy, PartialEq, Eq, Debug)]
 pub enum Command {
     Clash,
     Decode,
+    Draw,
     Dump,
     Encode,
     Night,
@@ -42,8 +44,10 @@ pub struct Options {
     pub room: Option<u64>,
     /// The file of tonight's corrections; `-` is standard input.
     pub corrections: Option<String>,
-    /// The name of the load whose levels are printed, and nothing else.
-    pub trace: Option<String>,
+    /// The name of the one load that is shown: its levels in clash, a picture in draw.
+    pub only: Option<String>,
+    /// The picture is an SVG document.
+    pub svg: bool,
     /// `-` stands among the words.
     reads_input: bool,
 }
@@ -53,6 +57,7 @@ impl Command {
         let commands = [
             Command::Clash,
             Command::Decode,
+            Command::Draw,
             Command::Dump,
             Command::Encode,
             Command::Night,
@@ -66,6 +71,7 @@ impl Command {
         match self {
             Command::Clash => "clash",
             Command::Decode => "decode",
+            Command::Draw => "draw",
             Command::Dump => "dump",
             Command::Encode => "encode",
             Command::Night => "night",
@@ -76,7 +82,7 @@ impl Command {
 
     /// Reads files of loads, with corrections over them.
     pub fn reads_loads(self) -> bool {
-        matches!(self, Command::Clash | Command::Night)
+        matches!(self, Command::Clash | Command::Draw | Command::Night)
     }
 }
 
@@ -84,7 +90,7 @@ impl Options {
     pub fn new(command: Command) -> Options {
         let files = Vec::new();
         let (table, registers, wave, standard, fast) = (false, false, false, false, false);
-        let (room, corrections, trace, reads_input) = (None, None, None, false);
+        let (room, corrections, only, svg, reads_input) = (None, None, None, false, false);
         Options {
             command,
             files,
@@ -95,7 +101,8 @@ impl Options {
             fast,
             room,
             corrections,
-            trace,
+            only,
+            svg,
             reads_input,
         }
     }
@@ -122,6 +129,14 @@ impl Options {
         Ok(word.to_string())
     }
 
+    /// The word after the file of draw; there is no third.
+    fn load(&mut self, word: &str) -> Result<(), String> {
+        match self.only.replace(word.to_string()) {
+            None => Ok(()),
+            Some(_) => Err(format!("unexpected {} after the load", quoted(word))),
+        }
+    }
+
     /// One word after the command; `--room` and `--corrections` take the next one too.
     fn word<'a>(&mut self, word: &str, rest: &mut impl Iterator<Item = &'a String>) -> Result<(), String> {
         let clash = self.command == Command::Clash;
@@ -138,10 +153,12 @@ impl Options {
                 let file = short(rest.next().ok_or(NO_CORRECTIONS)?)?;
                 self.corrections = Some(self.file(file)?);
             }
-            "--trace" if clash => self.trace = Some(short(rest.next().ok_or(NO_TRACE)?)?.to_string()),
+            "--svg" if self.command == Command::Draw => self.svg = true,
+            "--trace" if clash => self.only = Some(short(rest.next().ok_or(NO_TRACE)?)?.to_string()),
             word if word.starts_with("--") => {
                 return Err(format!("unknown option {} for {}", quoted(word), self.command.word()));
             }
+            word if self.command == Command::Draw && !self.files.is_empty() => self.load(word)?,
             "-" if self.reads_input => return Err(INPUT_TWICE.to_string()),
             word if !self.command.reads_loads() && !self.files.is_empty() => {
                 return Err(format!("a second file {}: {} reads one", quoted(word), self.command.word()));
@@ -165,8 +182,12 @@ impl Options {
         if self.table && (self.registers || self.wave) {
             return Err(TABLE_ALONE.to_string());
         }
-        if self.trace.is_some() && (self.table || self.registers || self.wave) {
+        if self.only.is_some() && (self.table || self.registers || self.wave) {
             return Err(TRACE_ALONE.to_string());
+        }
+        if self.command == Command::Draw {
+            self.only.as_ref().ok_or(NO_LOAD)?;
+            self.wave = true;
         }
         if self.standard && self.fast {
             return Err(ONE_MODE.to_string());
@@ -180,10 +201,8 @@ pub fn parse(arguments: &[String]) -> Result<Options, String> {
     let mut rest = arguments.iter();
     let first = short(rest.next().ok_or(NO_COMMAND)?)?;
     let unknown = || {
-        format!(
-            "unknown command {}: expected clash, decode, dump, encode, night, session or sort",
-            quoted(first)
-        )
+        let commands = "clash, decode, draw, dump, encode, night, session or sort";
+        format!("unknown command {}: expected {commands}", quoted(first))
     };
     let mut options = Options::new(Command::from_word(first).ok_or_else(unknown)?);
     while let Some(word) = rest.next() {

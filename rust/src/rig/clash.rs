@@ -1,5 +1,5 @@
 //! `rig clash`: loads of boards that start at the same time, who wins each, and whether its message goes out whole.
-//! `rig night`: the same loads by rounds, in which who lost tries again.
+//! `rig draw`: a picture of one of them. `rig night`: the same loads by rounds, in which who lost tries again.
 
 use super::arguments::Options;
 use super::files;
@@ -12,14 +12,17 @@ use tally::Tally;
 mod block;
 mod boards;
 mod corrections;
+mod draw;
 mod load;
 mod night;
 mod reading;
 mod refused;
 mod registers;
 mod rehearsal;
+mod svg;
 mod table;
 mod tally;
+mod wave;
 
 /// What is printed so far, on standard output and as notes, and what was counted.
 struct Report<'a> {
@@ -47,7 +50,7 @@ pub fn clash(options: &Options, input: &mut dyn Read) -> (String, String) {
         Ok(corrections) => report.rehearse(corrections.unwrap_or_default(), input),
         Err(words) => report.fault(&format!("{words}; nothing is rehearsed")),
     }
-    let last = report.tally.last_lines(options.trace.is_none());
+    let last = report.tally.last_lines(options.only.is_none());
     (report.output + &last, report.notes)
 }
 
@@ -57,7 +60,7 @@ impl Report<'_> {
         self.corrections = corrections;
         let files = &self.options.files;
         for file in files {
-            if files.len() > 1 && self.options.trace.is_none() {
+            if files.len() > 1 && self.options.only.is_none() {
                 self.line(format!("file {}", printable(file)));
             }
             Reading::new(self, file).whole(&files::read(file, input));
@@ -65,7 +68,7 @@ impl Report<'_> {
         for words in self.corrections.not_met() {
             self.fault(&words);
         }
-        if let (Some(name), true) = (&self.options.trace, self.tally.is_empty()) {
+        if let (Some(name), true) = (&self.options.only, self.tally.is_empty()) {
             self.fault(&format!("no load {} in the files", quoted(name)));
         }
     }

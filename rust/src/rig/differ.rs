@@ -121,10 +121,11 @@ impl Differ {
             .spawn()
     }
 
-    /// The program of a command: `rig_clash` beside `rig` is that of clash and night.
+    /// The program of a command: `rig_clash` beside `rig` is that of clash, draw and night.
     fn program_for(&self, case: &Case) -> PathBuf {
         let clash = self.program.with_file_name("rig_clash");
-        let of_loads = case.arguments.first().is_some_and(|word| word == b"clash" || word == b"night");
+        let commands: [&[u8]; 3] = [b"clash", b"draw", b"night"];
+        let of_loads = case.arguments.first().is_some_and(|word| commands.contains(&&word[..]));
         if of_loads && clash.exists() {
             clash
         } else {

@@ -27,6 +27,7 @@ pub struct Kind {
 pub const KINDS: [Kind; 12] = [
     Kind { word: "clash", command: "clash", text: |random| damage::some(random, clash::text) },
     Kind { word: "decode", command: "decode", text: |random| damage::some(random, decode::text) },
+    Kind { word: "draw", command: "draw", text: |random| damage::some(random, clash::text) },
     Kind { word: "dump", command: "dump", text: |random| damage::some(random, decode::lines) },
     Kind { word: "encode", command: "encode", text: |random| damage::some(random, encode::text) },
     Kind { word: "night", command: "night", text: |random| damage::some(random, clash::night) },
@@ -70,12 +71,12 @@ impl Kind {
         let mut random = Random::new(Random::new(seed).bits() ^ salt);
         let input = (self.text)(&mut random);
         let source = draw_source(&mut random);
-        let mut arguments = if self.command.is_empty() {
-            arguments::any(&mut random, file, tonight)
-        } else {
-            arguments::proper(&mut random, self.command, source, file)
+        let mut arguments = match self.command {
+            "" => arguments::any(&mut random, file, tonight),
+            "draw" => arguments::draw(&mut random, source, file, &input),
+            command => arguments::proper(&mut random, command, source, file),
         };
-        let corrected = ["clash", "night"].contains(&self.command) && random.once_in(3);
+        let corrected = ["clash", "draw", "night"].contains(&self.command) && random.once_in(3);
         if corrected {
             arguments::correct(&mut random, &mut arguments, file, tonight);
         }

@@ -13,11 +13,11 @@ fn error(arguments: &[&[u8]]) -> Vec<u8> {
 fn commands() {
     assert_eq!(
         rig("", ""),
-        "error expected a command: clash, decode, dump, encode, night, session or sort\n"
+        "error expected a command: clash, decode, draw, dump, encode, night, session or sort\n"
     );
     for word in ["Clash", "run", "--table", "help", "-h"] {
         let expected = format!(
-            "error unknown command '{word}': expected clash, decode, dump, encode, night, session or sort\n"
+            "error unknown command '{word}': expected clash, decode, draw, dump, encode, night, session or sort\n"
         );
         assert_eq!(rig(&format!("{word} x"), ""), expected);
     }
@@ -81,7 +81,7 @@ fn long_arguments() {
     let name = &long[..4096];
     assert_eq!(error(&[b"decode", name]), [b"cannot open ", name, b": the name is too long"].concat());
     let quoted = format!(
-        "unknown command '{}..': expected clash, decode, dump, encode, night, session or sort",
+        "unknown command '{}..': expected clash, decode, draw, dump, encode, night, session or sort",
         "a".repeat(32)
     );
     assert_eq!(error(&[&long[..33]]), quoted.as_bytes());
@@ -90,7 +90,7 @@ fn long_arguments() {
 #[test]
 fn words_are_quoted_printable() {
     let expected =
-        b"unknown command 'a?b??c\xE9': expected clash, decode, dump, encode, night, session or sort";
+        b"unknown command 'a?b??c\xE9': expected clash, decode, draw, dump, encode, night, session or sort";
     assert_eq!(error(&[b"a\x01b\x7F\nc\xE9"]), expected);
 }
 

@@ -48,8 +48,11 @@ load p12
 const LAST: &str = "see p9 p10 p11\nrefused 16: 5 loads: 2 sent, 2 undecided, 1 refused\n";
 
 const P8_WAVE: &str = r#"  carried 90 ACK, 0F ACK
-  scl:""\/\/\/\/\/\/\/\/\/\/\/\/\/\/\/\/\/\/\/"
-  sda:"\/"\.../"\................./"""""""\.../
+  byte 0   S|90               |0F                 P
+            1 0 0 1 0 0 0 0 A 0 0 0 0 1 1 1 1 A
+  scl     ""\/\/\/\/\/\/\/\/\/\/\/\/\/\/\/\/\/\/\/"
+  sda     "\/"\.../"\................./"""""""\.../
+  lost                              ^ 0 first
 "#;
 
 /// The final registers of P8, the loser's and the winner's.
@@ -87,8 +90,8 @@ fn registers_and_wave() {
 #[test]
 fn one_board_alone_draws_p7() {
     let output = rig("clash - --wave", "boards p\nload one\nboard p a0\nack all\nend 1");
-    assert!(output.contains("\n  scl:\"\"\\/\\/\\/\\/\\/\\/\\/\\/\\/\\/\"\n"), "{output}");
-    assert!(output.contains("\n  sda:\"\\/\"\\./\"\\............./\n"), "{output}");
+    assert!(output.contains("\n  scl     \"\"\\/\\/\\/\\/\\/\\/\\/\\/\\/\\/\"\n"), "{output}");
+    assert!(output.contains("\n  sda     \"\\/\"\\./\"\\............./\n"), "{output}");
     assert!(output.ends_with("\nok 1 load: 1 sent\n"));
 }
 

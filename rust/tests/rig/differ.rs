@@ -52,7 +52,7 @@ fn loads_have_a_program_of_their_own() {
     create_dir_all(Path::new(env!("CARGO_TARGET_TMPDIR")).join("two")).unwrap();
     script("two/rig_clash", "rig \"$@\"");
     let wrong = script("two/rig", "echo ok");
-    for kind in ["clash", "night"] {
+    for kind in ["clash", "draw", "night"] {
         let (equal, output) = differ(wrong.to_str().unwrap(), &["--count", "20", "--kind", kind]);
         assert!(equal, "{output}");
     }

@@ -56,7 +56,7 @@ fn check_reach(word: &str, texts: &[&str]) {
 fn clash_blocks_reach_every_answer() {
     let texts = "  WON    |  in     |  lost   |  silent |: sends 1, the bus is 0; |  UNDECIDED between \
         |CUT after |not acknowledged; | not acknowledged\n|  note: no ack line|  NOT AS EXPECTED\
-        |  regs   |  carried |  sda:|  refused 8: |every board is silent|refused 12: no board\
+        |  regs   |  carried |  byte 0   S|  byte 63 |  scl     |  sda     |  lost    |  refused 8: |every board is silent|refused 12: no board\
         |boards, and at most|has no bytes|bytes, and at most|which is odd|, the longest|neither 0 nor 1\
         |goes on with|  ERROR: not rehearsed|restarts after|ends with| ends\n| / |restarts with| ACK / |  WON    10 |  WON     9|  in     15 |  lost   15 |  lost    0 \
         |  silent 15 |  silent  0 |  regs   15 |  regs    0 |has 65 bytes|sent 64 of 64 bytes";
@@ -114,6 +114,17 @@ fn nights_reach_every_answer() {
         | not as expected| without an ack line| corrected\n|is in none of the files|; nothing is rehearsed\
         |more than 4096 loads|! cannot open|! cannot read|! no load in the file";
     check_reach("night", &texts.split('|').collect::<Vec<_>>());
+}
+
+#[test]
+fn drawings_reach_every_answer() {
+    let texts = "  WON    |  UNDECIDED between |  corrected 0 |  refused 1|  ERROR: not rehearsed|  note: no ack line\
+        |  NOT AS EXPECTED|  carried |  byte 0   S|  byte 3 |  byte 63 |  lost    |^ 0\n|^ 0 |^ 15 | Sr|^ 3 b&<c>\n\
+        |<svg xmlns|width=\"720\"|width=\"960\"|height=\"142\"|>Sr</text>|>N</text>|>byte 63</text>\
+        |>0 lost</text>|>15 |b&amp;&lt;c&gt; lost|upload-00 1 &lt; 2 &amp;&amp; 2 &gt; 1; \"x\"</title>|m??moire<\
+        |! no load '|! line |! corrections|; nothing is rehearsed|! cannot open|! cannot read|\nok 1 load: 1 sent\n|\nlook \
+        |\nrefused 1|\nerror |2 loads: ";
+    check_reach("draw", &texts.split('|').collect::<Vec<_>>());
 }
 
 #[test]
@@ -190,6 +201,8 @@ fn command_lines_reach_every_answer() {
         |unknown option '--brief'|unknown option '--odd|longer than 4096|no such file|it is a directory\
         |the name is too long|a second file '|--table goes with|aaaa..'\
         |expected a file after --corrections|unknown option '--corrections'|unknown option '--table' for night\
-        |unknown option '--room' for night|unknown option '--room' for sort|: sort reads one";
+        |unknown option '--room' for night|unknown option '--room' for sort|: sort reads one\
+        |expected a load after the file|unexpected '|unknown option '--svg' for\
+        |unknown option '--table' for draw";
     check_reach("arguments", &texts.split('|').collect::<Vec<_>>());
 }

@@ -8,6 +8,7 @@ mod clash_table;
 mod corrections;
 mod decode;
 mod differ;
+mod draw;
 mod encode;
 mod inputs;
 mod night;
@@ -15,6 +16,7 @@ mod refusals;
 mod restarts;
 mod session;
 mod sort;
+mod svg;
 
 use rehearsal_model::rig::answer;
 

@@ -3,8 +3,9 @@
 use super::boards::Boards;
 use super::load::Load;
 use super::refused;
-use super::registers::{flags, spelt, waveform};
+use super::registers::{flags, spelt};
 use super::rehearsal::{Rehearsal, Result, Verdict};
+use super::wave;
 use crate::arbitration::Message;
 use crate::rig::arguments::Options;
 use crate::rig::text::{counted, parted};
@@ -28,7 +29,8 @@ pub fn block(load: &Load, boards: &Boards, result: &Result, options: &Options) -
                 lines.extend(registers(load, boards, rehearsal));
             }
             if options.wave {
-                lines.extend(bus(rehearsal));
+                lines.push(carried(rehearsal));
+                lines.extend(wave::lines(rehearsal, boards));
             }
         }
         Result::Carried(rounds) => {
@@ -130,17 +132,12 @@ fn registers(load: &Load, boards: &Boards, rehearsal: &Rehearsal) -> Vec<String>
     words.collect()
 }
 
-/// The carried bytes with their acknowledges, ` / ` where the bus restarted, and the two lines of the bus.
-fn bus(rehearsal: &Rehearsal) -> Vec<String> {
+/// The carried bytes with their acknowledges, ` / ` where the bus restarted.
+fn carried(rehearsal: &Rehearsal) -> String {
     let message = rehearsal.winners()[0].1.beginning(rehearsal.carried().len());
     let mut acks = rehearsal.acks.iter().map(|&ack| if ack == 0 { "ACK" } else { "NACK" });
     let mut byte = |byte: &u8| format!("{byte:02X} {}", acks.next().expect("an acknowledge a byte"));
     let mut part = |part: &Vec<u8>| part.iter().map(&mut byte).collect::<Vec<_>>().join(", ");
     let carried: Vec<String> = message.parts.iter().map(&mut part).collect();
-    let levels = &rehearsal.run.outcome.levels;
-    vec![
-        format!("  carried {}", carried.join(" / ")),
-        format!("  scl:{}", waveform(levels.iter().map(|level| level % 2 == 1))),
-        format!("  sda:{}", waveform(levels.iter().map(|level| level / 2 == 1))),
-    ]
+    format!("  carried {}", carried.join(" / "))
 }

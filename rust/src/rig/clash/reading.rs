@@ -3,7 +3,8 @@
 use super::boards::Boards;
 use super::load::Load;
 use super::rehearsal::Result as Rehearsed;
-use super::{block, table, Report};
+use super::{block, draw, table, Report};
+use crate::rig::arguments::Command;
 use crate::rig::files::Contents;
 use crate::rig::text::{counted, decimal, expected, lines, printable, Fault, Words};
 use std::collections::HashMap;
@@ -252,22 +253,27 @@ pub fn said_by_end(words: &[&str]) -> Result<u64, String> {
 }
 
 impl Report<'_> {
-    /// Rehearses a load, prints its block or row, and counts it.
+    /// Rehearses a load, prints what is shown of it, and counts it; where one load is asked for, only that one, but
+    /// every load in error is counted.
     fn show(&mut self, load: &Load, boards: &Boards) {
         let result = Rehearsed::of(load, self.options);
-        if let Some(name) = &self.options.trace {
-            if load.in_error || load.name == *name {
-                self.output += &block::trace(&result);
-                self.tally.count(load, &result);
-            }
-            return;
+        let is_asked_for = self.options.only.as_ref().is_none_or(|name| load.name == *name);
+        if is_asked_for {
+            self.output += &self.shown(load, boards, &result);
         }
-        let text = if self.options.table {
-            table::row(load, boards, &result)
-        } else {
-            block::block(load, boards, &result, self.options)
-        };
-        self.output += &text;
-        self.tally.count(load, &result);
+        if is_asked_for || load.in_error {
+            self.tally.count(load, &result);
+        }
+    }
+
+    /// A picture, a row, the levels or a block.
+    fn shown(&self, load: &Load, boards: &Boards, result: &Rehearsed) -> String {
+        let options = self.options;
+        match options.command {
+            Command::Draw => draw::picture(load, boards, result, options),
+            _ if options.table => table::row(load, boards, result),
+            _ if options.only.is_some() => block::trace(result),
+            _ => block::block(load, boards, result, options),
+        }
     }
 }

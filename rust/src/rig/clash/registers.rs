@@ -1,4 +1,4 @@
-//! A module's registers with their flags spelt, and the waveform of the bus.
+//! A module's registers with their flags spelt.
 
 use crate::module::Module;
 
@@ -25,20 +25,4 @@ pub fn spelt(module: &Module) -> String {
         "USICTL0={ctl0:02X}{flags0}, USICTL1={ctl1:02X}{flags1}, USICKCTL={ckctl:02X}{clock}, \
          USICNT={cnt:02X}{count}, USISRL={srl:02X}, USISRH={srh:02X}"
     )
-}
-
-/// One character a level: `"` high, `.` low, `/` risen and `\` fallen since the level before.
-pub fn waveform(levels: impl Iterator<Item = bool>) -> String {
-    let mut before = None;
-    let mut line = String::new();
-    for high in levels {
-        line.push(match (before, high) {
-            (Some(false), true) => '/',
-            (Some(true), false) => '\\',
-            (_, true) => '"',
-            (_, false) => '.',
-        });
-        before = Some(high);
-    }
-    line
 }

@@ -1,8 +1,9 @@
 //! Arguments: the right ones for a file, and any command line.
 
-use super::Source;
+use super::{tonight, Source};
 use crate::arbitration::LEVELS;
 use crate::random::Random;
+use crate::rig::text::{bytes_of, text_of};
 
 /// The command with its file and options in any order that `rig` takes.
 pub fn proper(random: &mut Random, command: &str, source: Source, file: &[u8]) -> Vec<Vec<u8>> {
@@ -35,6 +36,27 @@ pub fn proper(random: &mut Random, command: &str, source: Source, file: &[u8]) -
     let mut arguments = vec![command.as_bytes().to_vec()];
     arguments.extend(parts.concat());
     arguments
+}
+
+/// `draw` with its file and a load of it, and `--svg` half of the time.
+pub fn draw(random: &mut Random, source: Source, file: &[u8], input: &[u8]) -> Vec<Vec<u8>> {
+    let file = if source == Source::File { file } else { b"-" };
+    let mut arguments = vec![b"draw".to_vec(), file.to_vec(), load_of(random, input)];
+    if random.once_in(2) {
+        let place = random.between(1, arguments.len());
+        arguments.insert(place, b"--svg".to_vec());
+    }
+    arguments
+}
+
+/// The name of a load of this file; now and then one that may not be there.
+fn load_of(random: &mut Random, input: &[u8]) -> Vec<u8> {
+    let mut names = tonight::after(&text_of(input), "load", 1);
+    names.retain(|name| !name.contains(['\0', '#']));
+    if names.is_empty() || random.once_in(12) {
+        return random.pick(&["upload-00", "upload-01", "?", "x", "-", ""]).into();
+    }
+    bytes_of(&names[random.below(names.len())])
 }
 
 /// The table, or what a block may show beyond the boards.
@@ -118,7 +140,16 @@ pub fn any(random: &mut Random, file: &[u8], tonight: &[u8]) -> Vec<Vec<u8>> {
         arguments.push(match random.below(24) {
             0..=4 => file.to_vec(),
             5..=7 => random
-                .pick(&["--table", "--table", "--wave", "--registers", "--trace", "--standard", "--fast"])
+                .pick(&[
+                    "--table",
+                    "--table",
+                    "--wave",
+                    "--registers",
+                    "--trace",
+                    "--svg",
+                    "--standard",
+                    "--fast",
+                ])
                 .into(),
             8..=9 => b"--room".to_vec(),
             10 => b"--corrections".to_vec(),
@@ -126,7 +157,7 @@ pub fn any(random: &mut Random, file: &[u8], tonight: &[u8]) -> Vec<Vec<u8>> {
             12..=14 => random.pick(&["0", "23", "4096", "x", "99999999999999999999", "5x"]).into(),
             15 => b"-".to_vec(),
             16 => {
-                random.pick(&["clash", "decode", "dump", "encode", "night", "session", "sort", "help"]).into()
+                random.pick(&["clash", "decode", "draw", "dump", "encode", "night", "session", "sort", "help"]).into()
             }
             17 => [file, b"/below"].concat(),
             18 => [file, b".missing"].concat(),
@@ -144,7 +175,8 @@ fn first(random: &mut Random) -> Vec<u8> {
         0 => vec![b'c'; random.pick(&[32, 33, 4096, 4097])],
         1 => odd_word(random),
         2 => random.pick(&["", "Clash", "CLASH", "clashes", "cl", "--help", "-h", "-", "help"]).into(),
-        3..=6 => b"decode".to_vec(),
+        3..=5 => b"decode".to_vec(),
+        6 => b"draw".to_vec(),
         7 => b"dump".to_vec(),
         8..=11 => b"encode".to_vec(),
         12..=13 => b"night".to_vec(),

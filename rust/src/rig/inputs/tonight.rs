@@ -16,7 +16,7 @@ pub fn some(random: &mut Random, input: &[u8]) -> Vec<u8> {
 }
 
 /// The words of a file that follow a first word.
-fn after(text: &str, first: &str, most: usize) -> Vec<String> {
+pub fn after(text: &str, first: &str, most: usize) -> Vec<String> {
     let lines = text.lines().map(|line| line.split([' ', '\t', '\r']).filter(|word| !word.is_empty()));
     let mut words = Vec::new();
     for mut line in lines {

@@ -16,7 +16,7 @@ const NAMES: [&str; MASTERS] = [
     "m\u{e9}mo",
     "payload",
     "mission",
-    "beacon",
+    "b&<c>",
     "star",
     "wheel",
     "gyro",
@@ -57,8 +57,14 @@ pub fn load(page: &mut Page, spoiling: usize, index: usize) {
     } else {
         words.push(format!("upload-{index:02}"));
     }
-    let titles =
-        ["", "pass plan", "heater limits", "m\u{e9}moire", "ok error", "a title longer than its column"];
+    let titles = [
+        "",
+        "heater limits",
+        "m\u{e9}moire",
+        "ok error",
+        "a title longer than its column",
+        "1 < 2 && 2 > 1; \"x\"",
+    ];
     words.extend(page.random.pick(&titles).split_whitespace().map(str::to_string));
     if page.random.once_in(8 * spoiling) {
         words.push("t".repeat(page.random.pick(&[30, 50, 64, 65, 3000])));
