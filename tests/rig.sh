@@ -909,6 +909,24 @@ failing() {
     holds "[ $? = 2 ] && grep -q '^error the program could not be proved and built: ' out" "a failed build: $(cat out)"
 }
 
+# What the papers show is what the program says: each line that README shows is one of the outputs it names, and the
+# loads of the page for the desk are rehearsed.
+papers() {
+    local line
+    for line in "clash night.loads" "clash night.loads --table" "clash cut.loads" "night rounds.loads"; do
+        # shellcheck disable=SC2086
+        (cd "$examples" && "$rig" $line)
+    done >all 2>/dev/null
+    grep '^    ' "$root/README.md" | cut -c5- | grep -Ev '^(\./rig|\.ci/run|\.\.)' >shown
+    holds '[ "$(wc -l <shown)" -gt 15 ]' "README shows $(wc -l <shown) lines of output"
+    while IFS= read -r line; do
+        holds 'grep -qxF -e "$line" all' "README shows '$line', which nothing prints"
+    done <shown
+    sed -n '/^    # what the boards send/,/^    end/p' "$root/docs/DESK.md" | cut -c5- >in
+    expect 0 "ok 1 load: 1 sent" clash -
+    cp in "$work/desk" && input && expect 0 "ok 1 load: 1 sent" night "$work/desk"
+}
+
 # The examples' output is what the independent model says: tests/expected has it.
 stored() {
     local stored name command file
@@ -1062,7 +1080,7 @@ rehearsal=${rehearsal:-$root/target/bin/rig_clash}
 [ -z "${RIG_PROGRAM:-}" ] || export RIG_PROGRAM=$program
 for part in commands help slips corrections cut_corrections cut_short refusals most_boards wrong_lines night rounds \
     rounds_refused most_rounds many_loads sessions traces captures sorts sorts_refused lists round_trips dumps dumps_refused dumps_read \
-    dumps_back corpus drawings drawn_dumps documents streams terminal $builds stored truncated random answers; do
+    dumps_back corpus drawings drawn_dumps documents streams terminal $builds papers stored truncated random answers; do
     $part
 done
 if [ "$failures" -gt 0 ]; then

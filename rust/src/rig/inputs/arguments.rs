@@ -156,9 +156,9 @@ pub fn any(random: &mut Random, file: &[u8], tonight: &[u8]) -> Vec<Vec<u8>> {
             11 => tonight.to_vec(),
             12..=14 => random.pick(&["0", "23", "4096", "x", "99999999999999999999", "5x"]).into(),
             15 => b"-".to_vec(),
-            16 => {
-                random.pick(&["clash", "decode", "draw", "dump", "encode", "night", "session", "sort", "help"]).into()
-            }
+            16 => random
+                .pick(&["clash", "decode", "draw", "dump", "encode", "night", "session", "sort", "help"])
+                .into(),
             17 => [file, b"/below"].concat(),
             18 => [file, b".missing"].concat(),
             19 => random.pick(&["/", ".", "..", ""]).into(),
