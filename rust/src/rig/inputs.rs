@@ -24,7 +24,7 @@ pub struct Kind {
 }
 
 /// Well-formed files, one in four of them damaged; random bytes for each command; and command lines.
-pub const KINDS: [Kind; 12] = [
+pub const KINDS: [Kind; 13] = [
     Kind { word: "clash", command: "clash", text: |random| damage::some(random, clash::text) },
     Kind { word: "decode", command: "decode", text: |random| damage::some(random, decode::text) },
     Kind { word: "draw", command: "draw", text: |random| damage::some(random, clash::text) },
