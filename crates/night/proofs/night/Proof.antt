@@ -169,7 +169,8 @@ module _
             places : (r : Ended) → Is ended-row r (ended .val r ∷ []) → (rounds-now : List ℕ) → AsLong u32 rounds rounds-now
                 → Settles request (length (table .slice .now)) (rounds .slice .now) rounds-now r
                 → Sq W (Over rounds-now (table .slice .now)
-                ++ locals (unlent usi-row table-lent-at table-ref-at (Settling (holds ended-mir ended-at (ended .val r)) (empty reply-mir result-at))) [])
+                ++ locals (unlent usi-row table-lent-at table-ref-at
+                (Settling (holds ended-mir ended-at (ended .val r)) (empty reply-mir result-at))) [])
                 (runs C Λ En body.t-5 (atRet En Post))
             places r r-is rounds-now rounds-long settles =
                 sets ! (addr ! (from ! (fld ! refl (hop ! (look-in ! 24 (sub ! 0 refl (whole !))) (stop !)))))
@@ -188,7 +189,8 @@ module _
                 puts ! (init ! 36 refl (typed W reply answer is .0)) $
                 returns ! (look ! 36 refl) $
                 free-locals ! (Over rounds-now (fs .0))
-                (lent-on usi-row table-lent-at table-ref-at table (Settling (holds ended-mir ended-at (ended .val r)) (holds reply-mir result-at (reply .val answer)))) $
+                (lent-on usi-row table-lent-at table-ref-at table
+                (Settling (holds ended-mir ended-at (ended .val r)) (holds reply-mir result-at (reply .val answer)))) $
                 by ! (ends (record {
                   answer = answer;
                   is = is;
