@@ -67,30 +67,32 @@ behind (writes R x room ∷ more) lists names =
     fsep (LentOn R x (names .0 .0) (names .0 .1) (lists .0)) (behind more (lists .1) (names .1))
 
 module _ {M : Type 1} (𝓤 : URA M) (H : Heap 𝓤) (A : Atoms 𝓤) where
-  -- two items at the head, in one formula and apart
-  joined : (P Q R : Fml) (Γ : List (Item 𝓤)) → ent 𝓤 (⋆ 𝓤 H A Γ) (sem 𝓤 H A R)
-      → ent 𝓤 (⋆ 𝓤 H A (‵ P ∷ ‵ Q ∷ Γ)) (sem 𝓤 H A (fsep P (fsep Q R)))
-  joined P Q R Γ h =
-      via 𝓤 _ (pop 𝓤 H A (‵ P) (‵ Q ∷ Γ))
-      (monoR 𝓤 (sem 𝓤 H A P) (via 𝓤 _ (pop 𝓤 H A (‵ Q) Γ) (monoR 𝓤 (sem 𝓤 H A Q) h)))
+  -- two items more, in one formula and apart
+  joined : (P Q : Fml) (args : List Arg) (lists : Lists args)
+      → ent 𝓤 (⋆ 𝓤 H A (items args lists)) (sem 𝓤 H A (held args lists))
+      → ent 𝓤 (⋆ 𝓤 H A (‵ P ∷ ‵ Q ∷ items args lists)) (sem 𝓤 H A (fsep P (fsep Q (held args lists))))
+  joined P Q args lists h =
+      via 𝓤 _ (pop 𝓤 H A (‵ P) (‵ Q ∷ items args lists))
+      (monoR 𝓤 (sem 𝓤 H A P) (via 𝓤 _ (pop 𝓤 H A (‵ Q) (items args lists)) (monoR 𝓤 (sem 𝓤 H A Q) h)))
 
-  apart : (P Q R : Fml) (Γ : List (Item 𝓤)) → ent 𝓤 (sem 𝓤 H A R) (⋆ 𝓤 H A Γ)
-      → ent 𝓤 (sem 𝓤 H A (fsep P (fsep Q R))) (⋆ 𝓤 H A (‵ P ∷ ‵ Q ∷ Γ))
-  apart P Q R Γ h =
-      via 𝓤 _ (monoR 𝓤 (sem 𝓤 H A P) (via 𝓤 _ (monoR 𝓤 (sem 𝓤 H A Q) h) (push 𝓤 H A (‵ Q) Γ)))
-      (push 𝓤 H A (‵ P) (‵ Q ∷ Γ))
+  apart : (P Q : Fml) (args : List Arg) (lists : Lists args)
+      → ent 𝓤 (sem 𝓤 H A (held args lists)) (⋆ 𝓤 H A (items args lists))
+      → ent 𝓤 (sem 𝓤 H A (fsep P (fsep Q (held args lists)))) (⋆ 𝓤 H A (‵ P ∷ ‵ Q ∷ items args lists))
+  apart P Q args lists h =
+      via 𝓤 _ (monoR 𝓤 (sem 𝓤 H A P) (via 𝓤 _ (monoR 𝓤 (sem 𝓤 H A Q) h) (push 𝓤 H A (‵ Q) (items args lists))))
+      (push 𝓤 H A (‵ P) (‵ Q ∷ items args lists))
 
   bundled : (args : List Arg) (lists : Lists args) → ent 𝓤 (⋆ 𝓤 H A (items args lists)) (sem 𝓤 H A (held args lists))
   bundled [] lists = id⊢ 𝓤 _
   bundled (value type x is ∷ more) lists = bundled more (lists .1)
-  bundled (reads R x ∷ more) lists = joined (shared R x) (token x) (held more (lists .1)) (items more (lists .1)) (bundled more (lists .1))
-  bundled (writes R x room ∷ more) lists = joined (mine R x (lists .0)) (token x) (held more (lists .1)) (items more (lists .1)) (bundled more (lists .1))
+  bundled (reads R x ∷ more) lists = joined (shared R x) (token x) more (lists .1) (bundled more (lists .1))
+  bundled (writes R x room ∷ more) lists = joined (mine R x (lists .0)) (token x) more (lists .1) (bundled more (lists .1))
 
   parted : (args : List Arg) (lists : Lists args) → ent 𝓤 (sem 𝓤 H A (held args lists)) (⋆ 𝓤 H A (items args lists))
   parted [] lists = id⊢ 𝓤 _
   parted (value type x is ∷ more) lists = parted more (lists .1)
-  parted (reads R x ∷ more) lists = apart (shared R x) (token x) (held more (lists .1)) (items more (lists .1)) (parted more (lists .1))
-  parted (writes R x room ∷ more) lists = apart (mine R x (lists .0)) (token x) (held more (lists .1)) (items more (lists .1)) (parted more (lists .1))
+  parted (reads R x ∷ more) lists = apart (shared R x) (token x) more (lists .1) (parted more (lists .1))
+  parted (writes R x room ∷ more) lists = apart (mine R x (lists .0)) (token x) more (lists .1) (parted more (lists .1))
 
 module _ {M : Type 1} {𝓤 : URA M} {H : Heap 𝓤} {A : Atoms 𝓤} {K : Type 0} {W : Given 𝓤 H A} where
   -- from a contract's tokens and what it owns to the slices with their tokens, and back

@@ -315,7 +315,8 @@ module _
                 -- [the module; what it owns; the others; the open borrow; the locals]
                 sets ! (of-opd ! (load ! (from ! (hop ! (look ! 8 refl) (stop !))) (look-raw ! 0 refl)))
                 (init ! 6 refl (typed W usi (before table passing (x .i)) is .0)) $
-                steps En argument argument-is (x .i) (i-fits L x less) (before table passing (x .i)) is _ _ _ (local-at ! 6 refl) (local-at ! 20 refl) (local-at ! 16 refl) (λ turned-is.
+                steps En argument argument-is (x .i) (i-fits L x less) (before table passing (x .i)) is _ _ _
+                (local-at ! 6 refl) (local-at ! 20 refl) (local-at ! 16 refl) (λ turned-is.
                 puts ! (init ! 14 refl (typed W usi (turned (x .i)) turned-is .0)) $
                 sets ! (bin ! (local-at ! 16 refl) (lit ! tt) (record { fits = fits })) (store ! 10 refl (tt, record { fits = fits })) $
                 sets ! (bin ! (field-at ! 24 refl (sub ! 0 refl (whole !))) (local-at ! 10 refl) tt) (init ! 4 refl (tt, tt)) $
@@ -334,7 +335,8 @@ module _
                 (and-then ! (local-at ! 16 refl) (and-then ! (local-at ! 12 refl) (and-then ! (local-at ! 14 refl) (no-more !)))) (λ noted-is.
                 puts ! (store ! 16 refl (typed W seen (noted (shown table passing (x .i)) (x .i) (turned (x .i))) noted-is .0)) $
                 rewrite ! 16 (λ (s : Seen). ‵ (fat fullShare seen-mir seen-at 0 (seen .val s))) (shown-next x less) refl $
-                sets-last ! (bin ! (local-at ! 14 refl) (lit ! tt) (record { fits = i-next L x less })) (store ! 14 refl (tt, record { fits = i-next L x less })) $
+                sets-last ! (bin ! (local-at ! 14 refl) (lit ! tt) (record { fits = i-next L x less }))
+                (store ! 14 refl (tt, record { fits = i-next L x less })) $
                 forget ! 2 refl $ forget ! 4 refl $ forget ! 6 refl $ forget ! 8 refl $ forget ! 10 refl $ forget ! 12 refl $
                 again ! (Less L) (λ y. Open L y (At y)) x (next L x less (shown-is x less noted-is))
                 (falls L x less)))))

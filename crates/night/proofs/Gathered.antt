@@ -63,19 +63,31 @@ module _ (rounds lengths list entry : List ℕ) where
   gathering-none =
       record { at = at-start lengths list; writing = writing-none (waitingIn rounds lengths list) entry }
 
+  -- what a turn puts down
+  abbrev pub piece : ℕ → ℕ → List ℕ
+  piece from stop = take (stop - from) (drop from list)
+
+  module _ (out : List ℕ) (i from size to stop : ℕ) where
+    -- what a turn of the loop asks
+    pub record Turn : Type 0 where
+      pub after : from ≤ stop
+      pub within : stop ≤ length list
+      pub sized : length (piece from stop) ≡ stop - from
+      pub room : size + (stop - from) ≤ length entry
+      pub long : length out ≡ length entry
+      pub next-holds : (stored : List ℕ) → stored ≡ sets out size (piece from stop)
+          → Gathering rounds lengths list entry stored (i + 1) to (size + (stop - from))
+
   module _ (out : List ℕ) (i from size to stop : ℕ) (gathering : Gathering rounds lengths list entry out i from size)
       (end : to ≡ min (from + getD lengths i 0) (length list)) (stops : stop ≡ cond (waits (getD rounds i 0)) to from)
       (less : i < length lengths) (known : i < length rounds) (enough : length list ≤ length entry) where
     abbrev messages : List (List ℕ)
     messages = cut lengths list
 
-    abbrev piece : List ℕ
-    piece = take (stop - from) (drop from list)
-
     abbrev next : List ℕ
     next = joined (waiting (drop (i + 1) rounds) (drop (i + 1) messages))
 
-    split : joined (waiting (drop i rounds) (drop i messages)) ≡ piece ++ next
+    split : joined (waiting (drop i rounds) (drop i messages)) ≡ piece from stop ++ next
     split =
         ap₂ (λ (l : List ℕ) (k : List (List ℕ)). joined (waiting l k)) (drop-cons rounds i 0 known)
         (drop-cons messages i [] (in-messages lengths list i from to (gathering .at) less end))
@@ -83,7 +95,7 @@ module _ (rounds lengths list entry : List ℕ) where
       where
         go : (round : ℕ) → stop ≡ cond (waits round) to from
             → joined (waiting (round ∷ drop (suc i) rounds) (getD messages i [] ∷ drop (suc i) messages))
-            ≡ piece ++ joined (waiting (drop (suc i) rounds) (drop (suc i) messages))
+            ≡ piece from stop ++ joined (waiting (drop (suc i) rounds) (drop (suc i) messages))
         go zero is =
             ap (λ (l : List ℕ). l ++ joined (waiting (drop (suc i) rounds) (drop (suc i) messages)))
             (sym (message-is lengths list i from to (gathering .at) less end)
@@ -105,7 +117,7 @@ module _ (rounds lengths list entry : List ℕ) where
             let same : stop ≡ from = rw (ne-eqb (suc round) 0 (λ e. omega arith)) at is in
             (omega (arith, same), omega (arith, gathering .at .within, same))
 
-    piece-size : length piece ≡ stop - from
+    piece-size : length (piece from stop) ≡ stop - from
     piece-size = omega (arith, length-take (stop - from) (drop from list), length-drop from list, stops-within .1)
 
     room-for : length (waitingIn rounds lengths list) ≤ length entry
@@ -119,20 +131,10 @@ module _ (rounds lengths list entry : List ℕ) where
     gathering-room : size + (stop - from) ≤ length entry
     gathering-room =
         let within = writing-room (waitingIn rounds lengths list) (joined (waiting (drop i rounds) (drop i messages)))
-        entry out size room-for (gathering .writing) piece next split in
+        entry out size room-for (gathering .writing) (piece from stop) next split in
         omega (arith, within, piece-size, gathering-long)
 
-    -- what a turn of the loop asks
-    pub record Turn : Type 0 where
-      pub after : from ≤ stop
-      pub within : stop ≤ length list
-      pub sized : length piece ≡ stop - from
-      pub room : size + (stop - from) ≤ length entry
-      pub long : length out ≡ length entry
-      pub next-holds : (stored : List ℕ) → stored ≡ sets out size piece
-          → Gathering rounds lengths list entry stored (i + 1) to (size + (stop - from))
-
-    pub turn : Turn
+    pub turn : Turn out i from size to stop
     turn =
         record {
           after = stops-within .0;
@@ -147,9 +149,9 @@ module _ (rounds lengths list entry : List ℕ) where
                 writing =
                     subst (λ (k : ℕ). Writing (waitingIn rounds lengths list) next entry stored (size + k)) piece-size
                     (subst
-                    (λ (l : List ℕ). Writing (waitingIn rounds lengths list) next entry l (size + length piece)) (sym is)
+                    (λ (l : List ℕ). Writing (waitingIn rounds lengths list) next entry l (size + length (piece from stop))) (sym is)
                     (writing-more (waitingIn rounds lengths list) (joined (waiting (drop i rounds) (drop i messages)))
-                    entry out size room-for (gathering .writing) piece next split));
+                    entry out size room-for (gathering .writing) (piece from stop) next split));
               };
         }
 

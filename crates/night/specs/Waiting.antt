@@ -6,7 +6,7 @@ use lib.ListN.{length, take}
 use Rattle.arbitration_rules.specs.Reply.{cut, joined}
 use Rattle.night_rules.specs.Night.{waiting}
 
--- of lists that lie so in one, each of its length, those that wait
+-- of lists that lie one after the other in one, each of its length, those that wait, joined again
 abbrev pub waitingIn : List ℕ → List ℕ → List ℕ → List ℕ
 waitingIn rounds lengths list = joined (waiting rounds (cut lengths list))
 

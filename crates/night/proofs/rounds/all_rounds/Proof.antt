@@ -1,12 +1,13 @@
 -- The night after as many rounds as there were.
-use Prim.Native.Nat.{ℕ, _-_, _≤_, _<_}
+use Prim.Native.Nat.{_-_, _≤_}
 use mathlib.Core.Path.{_≡_, sym, _∙_}
 use native.Mathlib.Omega.{arith}
-use lib.ListN.{length, getD, replicate}
+use lib.ListN.{length, replicate}
 use lib.Seq.{length-take-le}
 use borrow.Author.Tests.{not-true, not-false}
 use Rattle.arbitration_rules.specs.Limits.{maxMasters}
 use Rattle.arbitration_rules.specs.Reply.{asked, messagesOf}
+use Rattle.arbitration_rules.proofs.Pieces.{Bytes}
 use Rattle.arbitration.proofs.Given.{bytes-below}
 use Rattle.night_rules.specs.Different.{different}
 use Rattle.night_rules.proofs.Rounds.{nightAt}
@@ -29,14 +30,15 @@ abbrev μ-loop : tie.MeasureT-loop
 μ-loop bytes parts counts acks lengths standing₀ count standing =
     length (different (messagesOf (asked bytes parts counts acks))) - standing .count
 
+bytes-small : (s : tie.After-shared-slice-known) → Bytes (s .before .args .bytes .now)
+bytes-small s = bytes-below (s .before .args .bytes .now) (λ i. omega (arith, s .shared-slice-known .given i))
+
 loop-holds : tie.Need-loop-holds Inv-loop μ-loop
 loop-holds c =
     let start = c .before .before .before .before .before in
     let a = start .args in
     let request = asked (a .bytes .now) (a .parts .now) (a .counts .now) (a .acks .now) in
-    let below : (i : ℕ) → getD (a .bytes .now) i 0 < 256 =
-    λ i. omega (arith, c .before .before .before .before .shared-slice-known .given i) in
-    let small = bytes-below (a .bytes .now) below in
+    let small = bytes-small (c .before .before .before .before) in
     (omega arith, stands-first request small (start .pre .0) (a .modules))
 
 array-share-prefix-rounds : tie.Need-array-share-prefix-rounds Inv-loop μ-loop
@@ -45,9 +47,7 @@ array-share-prefix-rounds c =
     let start = c .before .before .before .before .before .before .before in
     let a = start .args in
     let request = asked (a .bytes .now) (a .parts .now) (a .counts .now) (a .acks .now) in
-    let below : (i : ℕ) → getD (a .bytes .now) i 0 < 256 =
-    λ i. omega (arith, c .before .before .before .before .before .before .shared-slice-known .given i) in
-    let small = bytes-below (a .bytes .now) below in
+    let small = bytes-small (c .before .before .before .before .before .before) in
     let passes = start .pre .0 in
     let long = stands-long request small passes (a .modules) (head .standing) (head .inv .0) (head .inv .1) in
     omega (arith, long, few request passes)
@@ -58,9 +58,7 @@ slice-aggregate-any-waits c =
     let start = c .before .before .before .before .before .before .before .before in
     let a = start .args in
     let request = asked (a .bytes .now) (a .parts .now) (a .counts .now) (a .acks .now) in
-    let below : (i : ℕ) → getD (a .bytes .now) i 0 < 256 =
-    λ i. omega (arith, c .before .before .before .before .before .before .before .shared-slice-known .given i) in
-    let small = bytes-below (a .bytes .now) below in
+    let small = bytes-small (c .before .before .before .before .before .before .before) in
     let passes = start .pre .0 in
     let long = stands-long request small passes (a .modules) (head .standing) (head .inv .0) (head .inv .1) in
     let within : length (a .counts .now) ≤ length (head .standing .rounds) = omega (arith, long, few request passes) in
@@ -75,13 +73,7 @@ returns c =
     let start = c .before .before .before .before .before .before .before .before .before .before in
     let a = start .args in
     let request = asked (a .bytes .now) (a .parts .now) (a .counts .now) (a .acks .now) in
-    let below : (i : ℕ) → getD (a .bytes .now) i 0 < 256 =
-    λ i. omega (
-      arith,
-      c .before .before .before .before .before .before .before .before .before .shared-slice-known
-          .given i,
-    ) in
-    let small = bytes-below (a .bytes .now) below in
+    let small = bytes-small (c .before .before .before .before .before .before .before .before .before) in
     let passes = start .pre .0 in
     let nobody = sym (c .before .any-waits .ensures) ∙ not-true _ (c .if1 .taken) in
     stands-over request small passes (a .modules) (head .standing) (head .inv .0) (head .inv .1) nobody
@@ -92,13 +84,7 @@ round-requires c κs =
     let start = c .before .before .before .before .before .before .before .before .before .before in
     let a = start .args in
     let request = asked (a .bytes .now) (a .parts .now) (a .counts .now) (a .acks .now) in
-    let below : (i : ℕ) → getD (a .bytes .now) i 0 < 256 =
-    λ i. omega (
-      arith,
-      c .before .before .before .before .before .before .before .before .before .shared-slice-known
-          .given i,
-    ) in
-    let small = bytes-below (a .bytes .now) below in
+    let small = bytes-small (c .before .before .before .before .before .before .before .before .before) in
     let passes = start .pre .0 in
     let some = sym (c .before .any-waits .ensures) ∙ not-false _ (c .if1 .left) in
     let inside = stands-inside request small passes (a .modules) (head .standing) (head .inv .0) (head .inv .1) some
@@ -113,13 +99,7 @@ loop-less c =
     let start = c .before .before .before .before .before .before .before .before .before .before .before in
     let a = start .args in
     let request = asked (a .bytes .now) (a .parts .now) (a .counts .now) (a .acks .now) in
-    let below : (i : ℕ) → getD (a .bytes .now) i 0 < 256 =
-    λ i. omega (
-      arith,
-      c .before .before .before .before .before .before .before .before .before .before
-          .shared-slice-known .given i,
-    ) in
-    let small = bytes-below (a .bytes .now) below in
+    let small = bytes-small (c .before .before .before .before .before .before .before .before .before .before) in
     let passes = start .pre .0 in
     let some = sym (c .before .before .any-waits .ensures) ∙ not-false _ (c .before .if1 .left) in
     let inside = stands-inside request small passes (a .modules) (head .standing) (head .inv .0) (head .inv .1) some in
@@ -133,13 +113,7 @@ loop-again c =
     let start = c .before .before .before .before .before .before .before .before .before .before .before in
     let a = start .args in
     let request = asked (a .bytes .now) (a .parts .now) (a .counts .now) (a .acks .now) in
-    let below : (i : ℕ) → getD (a .bytes .now) i 0 < 256 =
-    λ i. omega (
-      arith,
-      c .before .before .before .before .before .before .before .before .before .before
-          .shared-slice-known .given i,
-    ) in
-    let small = bytes-below (a .bytes .now) below in
+    let small = bytes-small (c .before .before .before .before .before .before .before .before .before .before) in
     let passes = start .pre .0 in
     let some = sym (c .before .before .any-waits .ensures) ∙ not-false _ (c .before .if1 .left) in
     let inside = stands-inside request small passes (a .modules) (head .standing) (head .inv .0) (head .inv .1) some in

@@ -4,7 +4,7 @@ use mathlib.Core.Path.{_≡_}
 use native.Mathlib.Omega.{arith}
 use lib.ListN.{length, replicate}
 use Rattle.arbitration_messages.specs.Marks.{maxSent}
-use Rattle.night.proofs.Gathered.{Gathering, gathering-none, gathering-done, turn}
+use Rattle.night.proofs.Gathered.{Gathering, gathering-none, Turn, turn, gathering-done}
 use borrow.Author.Needs.{needs}
 use Rattle.night.proofs.waiting.waiting_numbers.Statement.{statement}
 use Rattle.night.proofs.waiting.waiting_numbers.Tie as tie
@@ -37,91 +37,52 @@ array-read-stop-of c = search needs
 stop-of-requires : tie.Need-stop-of-requires Inv-loop μ-loop
 stop-of-requires c κs = search needs
 
+-- a turn, from the call of `stop_of` on
+turn-of : (s : tie.After-stop-of Inv-loop μ-loop)
+    → let head = s .before .before .before .before .loop in
+    let a = s .before .before .before .before .before .before .before .args in
+    Turn (a .t1) (a .lengths .now) (a .list .now) (replicate maxSent 0) (head .out) (head .i) (head .from) (head .size)
+    (s .before .end-of .result) (s .stop-of .result)
+turn-of s =
+    let inside = s .before .before .before in
+    let start = inside .before .before .before .before in
+    let enough : length (start .args .list .now) ≤ maxSent = omega (arith, start .pre .1) in
+    let rounds-long : length (start .args .t1) ≡ 16 = search needs in
+    let known : inside .before .loop .i < length (start .args .t1) = omega (arith, rounds-long, start .pre .0) in
+    turn _ _ _ _ _ _ _ _ _ _ (inside .before .loop .inv .1) (s .before .end-of .ensures) (s .stop-of .ensures)
+    (inside .loop-test .taken) known enough
+
 mul-put-numbers : tie.Need-mul-put-numbers Inv-loop μ-loop
 mul-put-numbers c = search needs
 
 sub-put-numbers : tie.Need-sub-put-numbers Inv-loop μ-loop
 sub-put-numbers c =
-    let stopped = c .before in
-    let inside = stopped .before .before .before in
-    let head = inside .before .loop in
-    let a = inside .before .before .before .before .args in
-    let enough : length (a .list .now) ≤ maxSent = omega (arith, inside .before .before .before .before .pre .1) in
-    let a-length : length (a .t1) ≡ 16 = search needs in
-    let known : head .i < length (a .t1) = omega (arith, a-length, inside .before .before .before .before .pre .0) in
-    let one = turn (a .t1) (a .lengths .now) (a .list .now) (replicate maxSent 0) (head .out) (head .i) (head .from)
-    (head .size) (stopped .before .end-of .result) (stopped .stop-of .result) (head .inv .1)
-    (stopped .before .end-of .ensures) (stopped .stop-of .ensures) (inside .loop-test .taken) known enough in
+    let one = turn-of (c .before) in
     one .after
 
 part-put-numbers-start : tie.Need-part-put-numbers-start Inv-loop μ-loop
 part-put-numbers-start c =
-    let stopped = c .before in
-    let inside = stopped .before .before .before in
-    let head = inside .before .loop in
-    let a = inside .before .before .before .before .args in
-    let enough : length (a .list .now) ≤ maxSent = omega (arith, inside .before .before .before .before .pre .1) in
-    let a-length : length (a .t1) ≡ 16 = search needs in
-    let known : head .i < length (a .t1) = omega (arith, a-length, inside .before .before .before .before .pre .0) in
-    let one = turn (a .t1) (a .lengths .now) (a .list .now) (replicate maxSent 0) (head .out) (head .i) (head .from)
-    (head .size) (stopped .before .end-of .result) (stopped .stop-of .result) (head .inv .1)
-    (stopped .before .end-of .ensures) (stopped .stop-of .ensures) (inside .loop-test .taken) known enough in
+    let one = turn-of (c .before) in
     omega (arith, one .after, one .within)
 
 part-put-numbers-end : tie.Need-part-put-numbers-end Inv-loop μ-loop
 part-put-numbers-end c =
-    let stopped = c .before in
-    let inside = stopped .before .before .before in
-    let head = inside .before .loop in
-    let a = inside .before .before .before .before .args in
-    let enough : length (a .list .now) ≤ maxSent = omega (arith, inside .before .before .before .before .pre .1) in
-    let a-length : length (a .t1) ≡ 16 = search needs in
-    let known : head .i < length (a .t1) = omega (arith, a-length, inside .before .before .before .before .pre .0) in
-    let one = turn (a .t1) (a .lengths .now) (a .list .now) (replicate maxSent 0) (head .out) (head .i) (head .from)
-    (head .size) (stopped .before .end-of .result) (stopped .stop-of .result) (head .inv .1)
-    (stopped .before .end-of .ensures) (stopped .stop-of .ensures) (inside .loop-test .taken) known enough in
+    let one = turn-of (c .before) in
     omega (arith, one .within)
 
 put-numbers-requires : tie.Need-put-numbers-requires Inv-loop μ-loop
 put-numbers-requires c κs =
-    let stopped = c .before .before in
-    let inside = stopped .before .before .before in
-    let head = inside .before .loop in
-    let a = inside .before .before .before .before .args in
-    let enough : length (a .list .now) ≤ maxSent = omega (arith, inside .before .before .before .before .pre .1) in
-    let a-length : length (a .t1) ≡ 16 = search needs in
-    let known : head .i < length (a .t1) = omega (arith, a-length, inside .before .before .before .before .pre .0) in
-    let one = turn (a .t1) (a .lengths .now) (a .list .now) (replicate maxSent 0) (head .out) (head .i) (head .from)
-    (head .size) (stopped .before .end-of .result) (stopped .stop-of .result) (head .inv .1)
-    (stopped .before .end-of .ensures) (stopped .stop-of .ensures) (inside .loop-test .taken) known enough in
+    let one = turn-of (c .before .before) in
     (omega (arith, one .room, one .sized), one .long)
 
 sub-size : tie.Need-sub-size Inv-loop μ-loop
 sub-size c =
-    let stopped = c .before .before .before in
-    let inside = stopped .before .before .before in
-    let head = inside .before .loop in
-    let a = inside .before .before .before .before .args in
-    let enough : length (a .list .now) ≤ maxSent = omega (arith, inside .before .before .before .before .pre .1) in
-    let a-length : length (a .t1) ≡ 16 = search needs in
-    let known : head .i < length (a .t1) = omega (arith, a-length, inside .before .before .before .before .pre .0) in
-    let one = turn (a .t1) (a .lengths .now) (a .list .now) (replicate maxSent 0) (head .out) (head .i) (head .from)
-    (head .size) (stopped .before .end-of .result) (stopped .stop-of .result) (head .inv .1)
-    (stopped .before .end-of .ensures) (stopped .stop-of .ensures) (inside .loop-test .taken) known enough in
+    let one = turn-of (c .before .before .before) in
     one .after
 
 add-size : tie.Need-add-size Inv-loop μ-loop
 add-size c =
-    let stopped = c .before .before .before in
-    let inside = stopped .before .before .before in
-    let head = inside .before .loop in
-    let a = inside .before .before .before .before .args in
-    let enough : length (a .list .now) ≤ maxSent = omega (arith, inside .before .before .before .before .pre .1) in
-    let a-length : length (a .t1) ≡ 16 = search needs in
-    let known : head .i < length (a .t1) = omega (arith, a-length, inside .before .before .before .before .pre .0) in
-    let one = turn (a .t1) (a .lengths .now) (a .list .now) (replicate maxSent 0) (head .out) (head .i) (head .from)
-    (head .size) (stopped .before .end-of .result) (stopped .stop-of .result) (head .inv .1)
-    (stopped .before .end-of .ensures) (stopped .stop-of .ensures) (inside .loop-test .taken) known enough in
+    let one = turn-of (c .before .before .before) in
     omega (arith, one .room)
 
 add-i : tie.Need-add-i Inv-loop μ-loop
@@ -132,16 +93,7 @@ loop-less c = search needs
 
 loop-again : tie.Need-loop-again Inv-loop μ-loop
 loop-again c =
-    let stopped = c .before .before .before in
-    let inside = stopped .before .before .before in
-    let head = inside .before .loop in
-    let a = inside .before .before .before .before .args in
-    let enough : length (a .list .now) ≤ maxSent = omega (arith, inside .before .before .before .before .pre .1) in
-    let a-length : length (a .t1) ≡ 16 = search needs in
-    let known : head .i < length (a .t1) = omega (arith, a-length, inside .before .before .before .before .pre .0) in
-    let one = turn (a .t1) (a .lengths .now) (a .list .now) (replicate maxSent 0) (head .out) (head .i) (head .from)
-    (head .size) (stopped .before .end-of .result) (stopped .stop-of .result) (head .inv .1)
-    (stopped .before .end-of .ensures) (stopped .stop-of .ensures) (inside .loop-test .taken) known enough in
+    let one = turn-of (c .before .before .before) in
     (search needs, one .next-holds _ (c .put-numbers .ensures))
 
 returns : tie.Need-returns Inv-loop μ-loop
