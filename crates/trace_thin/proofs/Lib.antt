@@ -4,3 +4,4 @@ pub mod Reply
 pub mod Steady
 pub mod Meaning
 pub mod Worked
+pub mod AsDumped

@@ -31,6 +31,7 @@ abbrev pub leftChecks : ℕ → ℕ → ℕ → List Check
 leftChecks count stampRoom levelRoom =
     check 6 (ltb maxSamples count) ∷ check 8 (ltb stampRoom count || ltb levelRoom count) ∷ []
 
+-- 5, 4, 7, 6 and 8, in that order
 abbrev pub thinChecks : List ℕ → List ℕ → ℕ → ℕ → List Check
 thinChecks stamps levels stampRoom levelRoom =
     captureChecks stamps levels ++ leftChecks (countLeft stamps levels) stampRoom levelRoom

@@ -1,7 +1,7 @@
 // The samples of a capture that change no level dropped, so that a long capture fits a trace.
 ghost use mathlib.Core.Path.{_≡_};
 ghost use lib.ListN.{length};
-ghost use Rattle.laws.specs.Refusals.{given, refusedAt};
+ghost use Rattle.laws.specs.Refusals.{given};
 ghost use Rattle.trace_thin.specs.ThinReply.{captureChecks, thinAnswer, stampsAfter, levelsAfter};
 use laws::Refusal;
 use trace::MAX_SAMPLES;
@@ -14,29 +14,34 @@ pub enum Thinned {
     Refused { number: u8, place: usize },
 }
 
-// A refusal's number and place.
-fn refused(number: u8, place: usize) -> Refusal
-    ensures { λ r. ⌜ r ≡ refusedAt number place ⌝ }
-{
-    Refusal { number, place }
-}
-
 // The first of 5, 4 and 7 that applies to a capture of any length.
 fn check(stamps: &[u32], levels: &[u8]) -> Refusal
     ensures { λ r. ⌜ r ≡ given (captureChecks (now (stamps .entry)) (now (levels .entry))) ⌝ }
 {
     if stamps.len() != levels.len() {
-        return refused(5, 0);
+        return Refusal {
+            number: 5,
+            place: 0,
+        };
     }
     let level = trace::search::bad_level(levels);
     if level < levels.len() {
-        return refused(4, level);
+        return Refusal {
+            number: 4,
+            place: level,
+        };
     }
     let stamp = trace::search::bad_stamp(stamps);
     if stamp < stamps.len() {
-        return refused(7, stamp);
+        return Refusal {
+            number: 7,
+            place: stamp,
+        };
     }
-    refused(0, 0)
+    Refusal {
+        number: 0,
+        place: 0,
+    }
 }
 
 // Keeps the first sample of a capture, and each whose level differs from the sample before it. They are counted first,
