@@ -15,6 +15,10 @@ pub both : (a b : Bool) → a && b ≡ true → (a ≡ true) × (b ≡ true)
 both true b h = (refl, h)
 both false b h = (h, absurd (false≢true h))
 
+pub and-false : (b : Bool) → b && false ≡ false
+and-false true = refl
+and-false false = refl
+
 -- a digit that is a bit, and a bit as a number
 pub bit-digit : (digit : ℕ) → digit < 2 → boolByte (eqb digit 1) ≡ digit
 bit-digit zero small = refl

@@ -12,6 +12,7 @@ use lib.Seq.{drop-cons}
 use borrow.Author.Tests.{le-leb, lt-leb, lt-ltb, le-ltb, not-true, not-false}
 use Rattle.text.specs.declared.numbers.Number.{Number}
 use Rattle.text.specs.declared.numbers.Number.the-variants.{Value, TooLarge, Bad}
+use Rattle.laws.proofs.Bools.{and-false}
 use Rattle.text.specs.Numbers.{between, digitValue, allDigits, valueAfter, valueOf, fitting, numberIn}
 
 pub inside : (low high b : ℕ) → low ≤ b → b ≤ high → between low high b ≡ true
@@ -19,10 +20,6 @@ inside low high b h g = rw (le-leb low b h, le-leb b high g)
 
 pub under : (low high b : ℕ) → b < low → between low high b ≡ false
 under low high b h = rw (lt-leb low b h)
-
-and-false : (t : Bool) → t && false ≡ false
-and-false true = refl
-and-false false = refl
 
 pub over : (low high b : ℕ) → high < b → between low high b ≡ false
 over low high b h = rw (lt-leb b high h) (and-false (leb low b))

@@ -6,7 +6,7 @@ use native.Mathlib.Omega.{arith}
 use lib.Dec.{eqb}
 use lib.Bits.{bitAnd}
 use borrow.Author.Needs.{needs}
-use Rattle.laws.proofs.Bools.{alike}
+use Rattle.laws.proofs.Bools.{alike, and-false}
 use Rattle.laws.proofs.Search.{allBelow, all-below}
 use Rattle.bits.specs.Positions.{on, off}
 use Rattle.bits.proofs.Words.{halves-tested}
@@ -28,10 +28,6 @@ usictl0-bits =
 
 usictl1-bits : (x : ℕ) → x < 256 → eqb (bitAnd x 0xc0) 0x40 ≡ on x USII2C && off x USICKPH
 usictl1-bits = every-byte (λ x. eqb (bitAnd x 0xc0) 0x40) (λ x. on x USII2C && off x USICKPH) refl
-
-and-false : (b : Bool) → b && false ≡ false
-and-false true = refl
-and-false false = refl
 
 -- the tests, register by register, are those of the rule
 in-order : (i2c ckpl ckph lsb b16 pe6 pe7 swrst : Bool)
