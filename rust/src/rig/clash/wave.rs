@@ -17,6 +17,7 @@ pub enum Ending {
 }
 
 /// A byte that was carried.
+#[derive(Clone, Copy, PartialEq, Eq, Debug)]
 pub struct Byte {
     pub value: u8,
     pub acknowledged: bool,
@@ -85,20 +86,15 @@ impl Byte {
 
 /// Every row of a load that was rehearsed.
 pub fn rows(rehearsal: &Rehearsal) -> Vec<Row> {
-    let mut bytes = carried(rehearsal).into_iter().peekable();
     let levels = &rehearsal.run.outcome.levels;
-    let (mut rows, mut first, mut from) = (Vec::new(), 0, 0);
-    while bytes.peek().is_some() {
-        let mut columns = if first == 0 { START_COLUMNS } else { 0 };
-        let mut own: Vec<Byte> = bytes.by_ref().take(ROW_BYTES).collect();
-        for byte in &mut own {
-            byte.column = columns;
-            columns = byte.end() + if byte.ending.is_some() { ENDING_COLUMNS } else { 0 };
-        }
+    let (mut rows, mut from) = (Vec::new(), 0);
+    for (index, bytes) in carried(rehearsal).chunks(ROW_BYTES).enumerate() {
+        let first = ROW_BYTES * index;
+        let (bytes, columns) = in_columns(bytes, if index == 0 { START_COLUMNS } else { 0 });
         let before = levels[..from].last().copied();
-        let losses = losses(rehearsal, first, &own);
-        rows.push(Row { first, bytes: own, levels: levels[from..from + columns].to_vec(), before, losses });
-        (first, from) = (first + ROW_BYTES, from + columns);
+        let losses = losses(rehearsal, first, &bytes);
+        rows.push(Row { first, bytes, levels: levels[from..from + columns].to_vec(), before, losses });
+        from += columns;
     }
     rows
 }
@@ -106,16 +102,27 @@ pub fn rows(rehearsal: &Rehearsal) -> Vec<Row> {
 /// The bytes carried, not yet in their columns.
 fn carried(rehearsal: &Rehearsal) -> Vec<Byte> {
     let message = rehearsal.winners()[0].1.beginning(rehearsal.carried().len());
-    let mut bytes = Vec::new();
+    let mut acks = rehearsal.acks.iter();
+    let mut byte =
+        |&value: &u8| Byte { value, acknowledged: acks.next() == Some(&0), ending: None, column: 0 };
+    let mut bytes: Vec<Byte> = Vec::new();
     for part in &message.parts {
-        for &value in part {
-            let acknowledged = rehearsal.acks[bytes.len()] == 0;
-            bytes.push(Byte { value, acknowledged, ending: None, column: 0 });
-        }
+        bytes.extend(part.iter().map(&mut byte));
         bytes.last_mut().expect("a part has a byte").ending = Some(Ending::RepeatedStart);
     }
     bytes.last_mut().expect("a byte was carried").ending = Some(Ending::Stop);
     bytes
+}
+
+/// These bytes one after another from a column on, and the first column after them.
+fn in_columns(bytes: &[Byte], mut column: usize) -> (Vec<Byte>, usize) {
+    let place = |byte: &Byte| {
+        let placed = Byte { column, ..*byte };
+        column = placed.end() + if placed.ending.is_some() { ENDING_COLUMNS } else { 0 };
+        placed
+    };
+    let bytes = bytes.iter().map(place).collect();
+    (bytes, column)
 }
 
 /// The boards that lost at one of these bytes.
