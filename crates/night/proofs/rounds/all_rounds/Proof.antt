@@ -30,7 +30,7 @@ abbrev μ-loop : tie.MeasureT-loop
 μ-loop bytes parts counts acks lengths standing₀ count standing =
     length (different (messagesOf (asked bytes parts counts acks))) - standing .count
 
-bytes-small : (s : tie.After-shared-slice-known) → Bytes (s .before .args .bytes .now)
+bytes-small : (s : tie.After-shared-slice-known Inv-loop μ-loop) → Bytes (s .before .args .bytes .now)
 bytes-small s = bytes-below (s .before .args .bytes .now) (λ i. omega (arith, s .shared-slice-known .given i))
 
 loop-holds : tie.Need-loop-holds Inv-loop μ-loop
