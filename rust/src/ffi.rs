@@ -155,8 +155,8 @@ of_catalogues! {
     kan_catalogue_length -> u32;
 }
 
-/// Calls a C function: a number or none, what is read, numbers, what is lent. A slice goes as a pointer and a length; it
-/// outlives the call, and the functions keep no pointer.
+/// Calls a C function: a number or none, what is read, numbers, what is lent. A slice goes as a pointer and a length;
+/// it outlives the call, and the functions keep no pointer.
 macro_rules! call {
     ($name:ident, $($first:ident;)? [$($read:expr),*], [$($number:expr),*], [$($lent:expr),*]) => {
         unsafe {
