@@ -125,7 +125,7 @@ def words(board, starts):
 
 def shown(block):
     """Levels and carried events of a load's block."""
-    wave = {w: re.search(rf"^  {w}:(.*)$", block, re.M).group(1) for w in ("scl", "sda")}
+    wave = {w: "".join(re.findall(rf"^  {w}     (.*)$", block, re.M)) for w in ("scl", "sda")}
     high = {w: [c in '"/' for c in wave[w]] for w in wave}
     levels = [s + 2 * d for s, d in zip(high["scl"], high["sda"])]
     parts = re.search(r"^  carried (.*)$", block, re.M).group(1).split(" / ")
