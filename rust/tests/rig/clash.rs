@@ -1,6 +1,6 @@
 //! `rig clash`: the worked numbers P8 to P12 as loads, each verdict, and each refusal with its boards and lines.
 
-use super::{rig, SIXTEEN};
+use super::{rig, P8_WAVE, SIXTEEN};
 
 const WORKED: &str = "# worked numbers\nboards first second third\n\
     load p8 two boards\nboard first 90 12\nboard second 90 0F\nboard third -\nack 0 0\n\
@@ -46,14 +46,6 @@ load p12
 ";
 
 const LAST: &str = "see p9 p10 p11\nrefused 16: 5 loads: 2 sent, 2 undecided, 1 refused\n";
-
-const P8_WAVE: &str = r#"  carried 90 ACK, 0F ACK
-  byte 0   S|90               |0F                 P
-            1 0 0 1 0 0 0 0 A 0 0 0 0 1 1 1 1 A
-  scl     ""\/\/\/\/\/\/\/\/\/\/\/\/\/\/\/\/\/\/\/"
-  sda     "\/"\.../"\................./"""""""\.../
-  lost                              ^ 0 first
-"#;
 
 /// The final registers of P8, the loser's and the winner's.
 fn p8_registers() -> String {

@@ -1,24 +1,8 @@
 //! `rig clash --corrections`: tonight's corrections over the loads of a night, and what is wrong in their file.
 
-use super::{rig, SIXTEEN};
+use super::{rig, NIGHT, SIXTEEN};
 use std::fs::write;
 use std::thread::current;
-
-const NIGHT: &str = "\
-boards p q r
-load x first
-board p 50 26
-board q 50 26 FF
-board r -
-ack all
-load y
-board p 62
-board q -
-board r 90 00
-ack 0 0
-expect p 1/1
-end 2
-";
 
 /// Corrections over a night from standard input, in a file of the test's own.
 fn corrected(options: &str, night: &str, corrections: &str) -> String {

@@ -20,6 +20,32 @@ mod svg;
 
 use rehearsal_model::rig::answer;
 
+/// Two loads of three boards.
+const NIGHT: &str = "\
+boards p q r
+load x first
+board p 50 26
+board q 50 26 FF
+board r -
+ack all
+load y
+board p 62
+board q -
+board r 90 00
+ack 0 0
+expect p 1/1
+end 2
+";
+
+/// What the bus shows of P8.
+const P8_WAVE: &str = r#"  carried 90 ACK, 0F ACK
+  byte 0   S|90               |0F                 P
+            1 0 0 1 0 0 0 0 A 0 0 0 0 1 1 1 1 A
+  scl     ""\/\/\/\/\/\/\/\/\/\/\/\/\/\/\/\/\/\/\/"
+  sda     "\/"\.../"\................./"""""""\.../
+  lost                              ^ 0 first
+"#;
+
 /// As many names as a file may have boards.
 const SIXTEEN: [&str; 16] =
     ["q", "r", "s", "t", "u", "v", "w", "x", "y", "z", "qq", "rr", "ss", "tt", "uu", "vv"];

@@ -1,6 +1,6 @@
 //! `rig night`: rounds in the block of a load, what is expected of them, and each refusal with its boards and lines.
 
-use super::{rig, SIXTEEN};
+use super::{rig, NIGHT, SIXTEEN};
 use rehearsal_model::arbitration::{Message, Request};
 use rehearsal_model::compare::night::draw_night;
 use rehearsal_model::night::{check, prediction};
@@ -185,22 +185,6 @@ fn long_messages_and_parts() {
     let lines = format!("board p 50 26 / 52 / 54 01\nboard q 50 26 / 52 / 54 00\nboard r {long}\nack all");
     assert_eq!(load(&lines), expected);
 }
-
-const NIGHT: &str = "\
-boards p q r
-load x first
-board p 50 26
-board q 50 26 FF
-board r -
-ack all
-load y
-board p 62
-board q -
-board r 90 00
-ack 0 0
-expect p 1/1
-end 2
-";
 
 /// Corrections over a night from standard input.
 fn corrected(corrections: &str) -> String {
