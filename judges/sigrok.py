@@ -2,8 +2,8 @@
 """Our drawings and readings against sigrok's I2C decoder (Debian packages sigrok-cli, libsigrokdecode4).
 
 Draws random complete event lists with `rig encode`, rehearses random loads with `rig clash`, writes what they show as a
-Value Change Dump with `rig dump`, and lets sigrok-cli decode it. Its events must be those of the list, or of the carried
-bytes. Then cuts drawings short: what sigrok finds in the cut trace must be what `rig decode` finds. GTKWave's converters
+Value Change Dump with `rig dump`, and lets sigrok-cli decode it. Its events must be those of the list, of the carried
+bytes, and of the frames that `rig match` shows. Then cuts drawings short: what sigrok finds in the cut trace must be what `rig decode` finds. GTKWave's converters
 (Debian's gtkwave) must hand each dump back with the same changes. Exit status 1 at the first difference, 2 where a tool is
 missing."""
 import os, random, re, shutil, subprocess, sys, tempfile
@@ -105,6 +105,19 @@ def read(folder, levels):
     return [marks[w] if w in marks else int(w[:2], 16) + 256 * w.endswith("NACK") for w in words]
 
 
+def matched(folder, levels):
+    """The events of the frames that `rig match` shows of levels, where nothing was rehearsed; STOP is not shown."""
+    text = "ok 0 loads\n" + rig(folder, ["decode", "--thin"], "".join(f"{50 * i} {level}\n" for i, level in enumerate(levels)))
+    program = os.path.join(PROGRAMS, "rig_match")
+    out = subprocess.run([program, "match"], input=text, capture_output=True, text=True).stdout
+    events = []
+    for frame in re.findall(r"^frame .*: not rehearsed: (.*)$", out, re.M):
+        for i, part in enumerate(frame.split(" / ")):
+            events += [513 if i > 0 else 512]
+            events += [int(byte[:2], 16) + 256 * byte.endswith("NACK") for byte in part.split(", ")]
+    return events
+
+
 def load(rng):
     """Two to sixteen boards with a long shared beginning, in alike parts, and all acknowledged but perhaps one byte."""
     shared = [rng.randrange(0, 256, 2)] + [rng.randrange(256) for _ in range(rng.randint(0, 4))]
@@ -152,7 +165,9 @@ def main():
         for _ in range(count):
             events = random_list(rng)
             levels = drawn(folder, events)
-            same("a drawing", events, judged(folder, levels))
+            theirs = judged(folder, levels)
+            same("a drawing", events, theirs)
+            same("frames of a match", matched(folder, levels), [event for event in theirs if event != 514])
             text = dump(folder, levels)
             same("a dump through GTKWave's converters", changes(text), changes(converted(folder, text)))
             # sigrok takes a bit as SCL rises, document 01 as it falls: both have taken it where SCL is low

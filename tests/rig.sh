@@ -1,6 +1,6 @@
 #!/usr/bin/env bash
 # Drives ./rig as a person at the desk would: what was once taken for good and is not, every refusal and error from the
-# command line, what can go wrong with files, disks and pipes, building, truncated files, ten thousand files of random
+# command line, what can go wrong with files, disks and pipes, building, truncated files, four thousand files of random
 # bytes and words. Each run must end in a last line of the right kind, with its status; none may crash.
 # RIG_PROGRAM=PATH tries another program in the place of the proved ones.
 # shellcheck disable=SC2016,SC2129  # conditions are expanded where they are tried
@@ -57,7 +57,7 @@ input() { printf '%s\n' "$@" >in; }
 load() { input "boards p q r" "load x" "$@" "end 1"; }
 
 commands() {
-    local names="expected clash, decode, draw, dump, encode, night, session or sort"
+    local names="expected clash, decode, draw, dump, encode, match, night, session or sort"
     input
     expect 2 "error unknown command 'rehearse': $names" rehearse
     expect 2 "error unknown command '$(printf 'x%.0s' {1..32})..': $names" "$(printf 'x%.0s' {1..40})"
@@ -100,7 +100,17 @@ commands() {
     expect 2 "error expected a file after --corrections" night - --corrections
     expect 2 "error unknown option '--corrections' for decode" decode - --corrections x
     expect 2 "error --standard does not go with --fast" decode - --standard --fast
+    expect 2 "error --thin goes with neither --standard nor --fast" decode - --thin --fast
+    expect 2 "error unknown option '--thin' for sort" sort - --thin
     expect 2 "error a second file 'b': decode reads one" decode a b
+    expect 2 "error expected a capture and a file of loads" match
+    expect 2 "error expected a capture and a file of loads" match - --corrections x
+    expect 2 "error unexpected 'd' after the load" match a b c d
+    expect 2 "error unknown option '--room' for match" match a b --room 3
+    expect 2 "error expected a file after --corrections" match a b --corrections
+    expect 2 "error - stands twice: standard input is read once" match - -
+    expect 2 "error - stands twice: standard input is read once" match a - --corrections -
+    expect 2 "error cannot open none: no such file" match none "$examples/pass.loads"
     expect 2 "error a second file 'b': sort reads one" sort a b
     expect 2 "error --table goes with neither --registers nor --wave" clash - --table --wave
     expect 2 "error expected a number after --room" encode --room
@@ -114,14 +124,14 @@ help() {
     input
     for command in help --help -h; do expect 0 "ok help" $command && has "usage: rig COMMAND .."; done
     expect 0 "ok help" && has "usage: rig COMMAND .."
-    for command in clash decode draw dump encode night session sort; do
+    for command in clash decode draw dump encode match night session sort; do
         for words in "help $command" "$command --help" "$command -h" "$command x --help"; do
             # shellcheck disable=SC2086
             expect 0 "ok help" $words
             holds 'head -n 1 out | grep -q "^usage: rig $command"' "rig $words: $(head -n 1 out)"
         done
     done
-    expect 2 "error unknown command 'rehearse': expected clash, decode, draw, dump, encode, night, session or sort" help rehearse
+    expect 2 "error unknown command 'rehearse': expected clash, decode, draw, dump, encode, match, night, session or sort" help rehearse
     expect 2 "error unexpected 'session' after help" help clash session
     expect 0 "ok version" --version
     has "rig $(cat "$root/VERSION"), for $(cat "$root/RATTLE-VERSION")"
@@ -130,7 +140,7 @@ help() {
         (cd "$root" && eval "$line") >out 2>err </dev/null
         holds 'tail -n 1 out | grep -Eq "^(ok|look|refused) " || grep -q "^rig: ok " err' "the help's example '$line': $(tail -n 1 out)"
     done <examples.sh
-    holds '[ "$(wc -l <examples.sh)" = 8 ]' "eight examples in the help"
+    holds '[ "$(wc -l <examples.sh)" = 9 ]' "nine examples in the help"
 }
 
 # What once went up with ok: a board that is missing, a message cut off, a forgotten line, slips.
@@ -521,6 +531,92 @@ sorts_refused() {
     input "5 3" "4 256" && expect 2 "error line 2: the level is above 255: '256'" sort - && alone
 }
 
+# captured EVENTS..: a file of samples that shows these events, from stamp 1000 on, 50 apart
+captured() { printf '%s\n' "start 1000" "$@" | "$rig" encode 2>>err | grep -v '^ok' >capture; }
+
+# frames BYTES..: the events of a frame for each word, its bytes with commas between
+frames() {
+    local frame
+    for frame in "$@"; do
+        printf 'START\n'
+        printf '%s' "$frame" | sed 's/,/ ACK\n/g; s/$/ ACK\n/'
+        printf 'STOP\n'
+    done
+}
+
+# on_bus BYTES..: a capture of these frames
+on_bus() { frames "$@" >events && captured "$(cat events)"; }
+
+# A capture against a rehearsal: losers that send again, in any order; another winner; what is not on the bus.
+matches() {
+    local won="p8 as rehearsed, 2 bytes, won by second" lost="p8, message of first, waiting since frame"
+    input "boards first second" "load p8 P8" "board first 90 12" "board second 90 0F" "ack all" \
+        "load later" "board first 80" "board second -" "ack all" "end 2"
+    on_bus 90,0F 90,12 80
+    expect 0 "ok 3 frames: 2 as rehearsed, 1 waited" match capture -
+    has "frame 1, 1050 to 3000: $won" "frame 2, 3050 to 5000: $lost 1" \
+        "frame 3, 5050 to 6100: later as rehearsed, 1 byte, won by first"
+    on_bus 90,0F 80 90,12
+    expect 0 "ok 3 frames: 2 as rehearsed, 1 waited" match capture -
+    has "frame 3, 4150 to 6100: $lost 1"
+    on_bus 90,12 90,0F 80
+    expect 3 "look 3 frames: 1 as rehearsed, 1 waited, 1 different" match capture -
+    has "frame 1, 1050 to 3000: p8 differs at byte 1 bit 3: rehearsed 0F, bus 12; those are first's bytes" \
+        "frame 2, 3050 to 5000: p8, message of second, waiting since frame 1"
+    on_bus 90,0F 55 80
+    expect 3 "look 3 frames: 2 as rehearsed, 1 not rehearsed; 1 message not on the bus" match capture -
+    has "frame 2, 3050 to 4100: not rehearsed: 55 ACK" "not on the bus: p8, message of first, waiting since frame 1"
+    on_bus 80
+    expect 3 "look 1 frame: 1 as rehearsed; 1 load not on the bus" match capture -
+    has "not on the bus: p8"
+    on_bus 90,0F 90,12 80
+    expect 3 "look 3 frames: 1 as rehearsed, 1 waited, 1 not rehearsed" match capture - p8
+    : >capture && expect 3 "look 0 frames; 2 loads not on the bus" match capture -
+}
+
+# A capture that is not read, loads that are wrong or refused, tonight's corrections.
+matches_refused() {
+    : >in
+    expect 1 "$(crossed 48 50 "34 to 49" "50 to 65")" match "$examples/crossed.trace" "$examples/pass.loads" && alone
+    on_bus 90,0F
+    expect 2 "error 1 frame: 1 not rehearsed; 1 fault in the loads" match capture none
+    has "! cannot open none: no such file"
+    input "boards p q" "load x" "board p 90 0F" "board q -" "load y" "board p 1" "board q -" \
+        "load z" "board p 90" "board q 90 0F" "end 3"
+    expect 2 "error 1 frame: 1 as rehearsed; 1 load refused, 1 load in error, 1 fault in the loads" match capture -
+    has "no rehearsal: y, in error" "no rehearsal: z, refused" "frame 1, 1050 to 3000: x as rehearsed, 2 bytes, won by p"
+    input "boards p q" "load x" "board p 90 0F" "board q -" "load z" "board p 90" "board q 90 0F" "end 2"
+    expect 1 "refused 16: 1 frame: 1 not rehearsed; 1 load refused" match capture - z
+    has "frame 1, 1050 to 3000: not rehearsed: 90 ACK, 0F ACK"
+    expect 2 "error 1 frame: 1 not rehearsed; 1 fault in the loads" match capture - w
+    has "! no load 'w' in the files"
+    input "boards p" "load x" "board p 90 00" "ack all" "end 1"
+    expect 3 "look 1 frame: 1 different; 1 message not on the bus" match capture -
+    printf 'load x\nboard p 90 0F\nend 1\n' >tonight
+    expect 0 "ok 1 frame: 1 as rehearsed" match capture - --corrections tonight
+    input "load x" "board 90 0F" "board 90 12" && expect 3 "look 1 frame: 1 as rehearsed; 1 message not on the bus" match capture -
+    has "frame 1, 1050 to 3000: x as rehearsed, 2 bytes, won by board 0" \
+        "not on the bus: x, message of board 1, waiting since frame 1"
+}
+
+# A long capture: every sample ten times over is read without those that change no level.
+thinned() {
+    local many="more than 4096 samples"
+    on_bus 90,0F 90,12 80,01,02,03,04,05,06,07,08,09 90,0F 90,12 80,01,02,03,04,05,06,07,08,09
+    awk '{ for (i = 0; i < 10; i++) print $1 * 10 + 50 * i, $2 }' capture >long
+    cp long in && expect 1 "refused 6: $many" decode -
+    expect 0 "ok 40 events in 5290 samples, no frame open, 0 bits pending" decode - --thin
+    awk '{ print $1 * 10, $2 }' capture >in && "$rig" decode - <in 2>err | grep : >first
+    "$rig" decode long --thin 2>>err | grep : >second
+    holds "cmp -s first second" "thinned, other events: $(diff first second | head -n 3)"
+    seq 0 65536 | sed 's/$/ 3/' >in && expect 2 "error line 65537: more than 65536 samples" decode - --thin && alone
+    seq 0 65535 | sed 's/$/ 3/' >in && expect 3 "look 0 events in 65536 samples, no frame open, 0 bits pending, no byte in any frame" decode - --thin
+    seq 1 4097 | awk '{ print $1, $1 % 2 }' >in && expect 1 "refused 6: $many" decode - --thin && alone
+    input "0 3" "1 4" "1 3" && expect 1 "refused 4 sample 1 (line 2): a level is above 3" decode - --thin && alone
+    input "0 3" "2 3" "2 1" && expect 1 "refused 7 sample 2 (line 3): a stamp is not above the one before it; its stamp is that of line 2" decode - --thin
+    input "0 3" 1 && expect 1 "refused 5: stamps and levels differ in number; line 2 has no level" decode - --thin && alone
+}
+
 lists() {
     local forms="START, repeated START, STOP, cut byte, HH ACK, HH NACK or event numbers"
     input 512 160 && expect 1 "refused 9: the event list is not complete" encode && alone
@@ -572,7 +668,8 @@ streams() {
         "$rig" $words >&- 2>err
         holds "[ $? = 2 ] && grep -q 'not all output' err" "rig $words, standard output closed: $(cat err)"
     done
-    for words in "clash -" "decode -" "draw - x" encode "night -" session "sort -"; do
+    for words in "clash -" "decode -" "draw - x" encode "match - $examples/p8.loads" "match $examples/pass.trace -" "night -" \
+        session "sort -"; do
         # shellcheck disable=SC2086
         timeout 20 "$rig" $words <&- >out 2>err
         holds "[ $? = 2 ]" "rig $words, standard input closed: another status"
@@ -602,7 +699,8 @@ early() {
 terminal() {
     command -v script >/dev/null || return 0
     local words
-    for words in encode "encode - --room 5" session "clash -" "decode -" "draw - x" "draw - x --svg" "dump -" "night -" "sort -"; do
+    for words in encode "encode - --room 5" session "clash -" "decode -" "draw - x" "draw - x --svg" "dump -" \
+        "match - $examples/p8.loads" "match $examples/pass.trace -" "night -" "sort -"; do
         printf '\004' | script -qec "$rig $words" /dev/null >out 2>&1
         holds 'grep -q "^rig: waiting for .*Ctrl-D" out' "rig $words at a terminal: $(cat out)"
     done
@@ -612,7 +710,7 @@ terminal() {
         printf '\004' | script -qec "$rig $words" /dev/null >out 2>&1
         holds '! grep -q waiting out' "a file is read, and it says that it waits"
     done
-    for words in clash decode draw dump night sort; do
+    for words in clash decode draw dump match night sort; do
         printf '\004' | script -qec "$rig $words" /dev/null >out 2>&1
         holds '! grep -q waiting out' "rig $words has no file, and says that it waits"
     done
@@ -833,10 +931,10 @@ corpus() {
 # A copy of the script with small crates of its own, and an rt that only pretends. No other rt can be reached.
 scratch() {
     rm -rf scratch
-    mkdir -p scratch/{bin,empty,crates/{rig,rig_clash,text,other}/src}
+    mkdir -p scratch/{bin,empty,crates/{rig,rig_clash,rig_match,text,other}/src}
     cp -r "$rig" "$root/help" "$root/VERSION" "$root/RATTLE-VERSION" "$examples" scratch
-    printf 'text:\nother:\nrig: text io # the program\nrig_clash: text\n' >scratch/crates.txt
-    touch scratch/crates/{rig,rig_clash,text,other}/src/lib.rt
+    printf 'text:\nother:\nrig: text io # the program\nrig_clash: text\nrig_match: text\n' >scratch/crates.txt
+    touch scratch/crates/{rig,rig_clash,rig_match,text,other}/src/lib.rt
     cat >scratch/bin/rt <<'RT'
 #!/bin/sh
 if [ "$1" = version ]; then cat RATTLE-VERSION 2>/dev/null; exit; fi
@@ -848,8 +946,10 @@ echo "rt: text proved (1 s)"
 if [ -n "${RT_BAD:-}" ]; then echo "rt: rig NOT PROVED (exit 1, 1 s)"; exit 1; fi
 cp "$RT_PROGRAM" target/bin/rig
 cp "$RT_CLASH" target/bin/rig_clash
+cp "$RT_MATCH" target/bin/rig_match
 echo "rt: rig proved (1 s)"
 echo "rt: rig_clash proved (1 s)"
+echo "rt: rig_match proved (1 s)"
 echo "rt: rig proved, and its run FAILED (0 s)"
 exit 1
 RT
@@ -858,7 +958,7 @@ RT
 
 # pretend WORDS..: the copy, with the pretended rt
 pretend() {
-    env -u RIG_PROGRAM -u RATTLE_HOME RT_PROGRAM="$program" RT_CLASH="$rehearsal" PATH="${rt_at:-$work/scratch/bin}:/usr/bin:/bin" \
+    env -u RIG_PROGRAM -u RATTLE_HOME RT_PROGRAM="$program" RT_CLASH="$rehearsal" RT_MATCH="$matcher" PATH="${rt_at:-$work/scratch/bin}:/usr/bin:/bin" \
         scratch/rig "$@" >out 2>err
 }
 
@@ -869,8 +969,8 @@ building() {
     # shellcheck disable=SC2086
     RT_SLOW=6 RIG_PATIENCE=1 pretend $calls
     holds "[ $? = 0 ]" "the first use: $(tail -n 1 out)"
-    holds 'grep -qx "rig: crate 1 of 3: text proved (1 s)" err' "no count of crates: $(cat err)"
-    holds 'grep -q "^rig: crate 1 of 3: still at text (" err' "a silent build: $(cat err)"
+    holds 'grep -qx "rig: crate 1 of 4: text proved (1 s)" err' "no count of crates: $(cat err)"
+    holds 'grep -q "^rig: crate 1 of 4: still at text (" err' "a silent build: $(cat err)"
     echo "# an edit" >>scratch/examples/night.loads
     touch scratch/crates/other/src/lib.rt
     # shellcheck disable=SC2086
@@ -913,7 +1013,7 @@ failing() {
 # loads of the page for the desk are rehearsed.
 papers() {
     local line
-    for line in "clash night.loads" "clash night.loads --table" "clash cut.loads" "night rounds.loads"; do
+    for line in "clash night.loads" "clash night.loads --table" "clash cut.loads" "match astray.trace astray.loads" "night rounds.loads"; do
         # shellcheck disable=SC2086
         (cd "$examples" && "$rig" $line)
     done >all 2>/dev/null
@@ -938,6 +1038,7 @@ stored() {
             table) "$rig" clash "$file" --table ;;
             whole) "$rig" clash "$file" --registers --wave ;;
             draw) stored_drawing "${name#*.}" ;;
+            match) "$rig" match "$file" "${file%.trace}.loads" ;;
             corrected) "$rig" clash "${file%.corrections}.loads" --corrections "$file" ;;
             *) "$rig" "$command" "$file" ;;
         esac >out 2>>err
@@ -956,7 +1057,9 @@ stored_drawing() {
 }
 
 # The program of a command, with its words perhaps.
-program_of() { case $1 in clash* | draw* | night*) echo "$rehearsal" ;; *) echo "$program" ;; esac; }
+program_of() {
+    case $1 in clash* | draw* | night*) echo "$rehearsal" ;; match) echo "$matcher" ;; *) echo "$program" ;; esac
+}
 
 # The word after the file: for draw a load, the first of the file where there is one.
 after_file() {
@@ -974,6 +1077,16 @@ run_on() {
         after=$(after_file "$command" "$file")
         # shellcheck disable=SC2086
         "$(program_of "$command")" $command "$file" ${after:+"$after"} 2>>err
+        printf '== status %s\n' $?
+    done
+}
+
+# The same of match, which reads standard input.
+run_match() {
+    local file
+    for file in "$@"; do
+        printf '== match %s\n' "$file"
+        "$matcher" match <"$file" 2>>err
         printf '== status %s\n' $?
     done
 }
@@ -997,13 +1110,13 @@ judge() {
     checks=$((checks + $(echo "$runs" | tail -n 1)))
 }
 
-# Every tenth beginning of each example.
+# Every twentieth beginning of each example.
 truncated() {
     local size file n
     mkdir -p cut
     for file in "$examples"/*.*; do
         size=$(wc -c <"$file")
-        for ((n = 1; n < size && n < 3000; n += 10)); do head -c $n "$file" >"cut/$n.${file##*/}"; done
+        for ((n = 1; n < size && n < 3000; n += 20)); do head -c $n "$file" >"cut/$n.${file##*/}"; done
     done
     run_on "clash --table" cut/*.loads >all
     run_on draw cut/*.loads >>all
@@ -1012,6 +1125,9 @@ truncated() {
     run_on "clash $examples/sent.loads --corrections" cut/*.corrections >>all
     run_on "night $examples/sent.loads --corrections" cut/*.corrections >>all
     run_on decode cut/*.trace cut/*.vcd >>all
+    "$rehearsal" clash "$examples/astray.loads" --wave >both 2>>err && "$program" decode "$examples/astray.trace" --thin >>both
+    for ((n = 1; n < $(wc -c <both); n += 20)); do head -c $n both >"cut/$n.both"; done
+    run_match cut/*.both >>all
     run_on dump cut/*.trace >>all
     run_on sort cut/*.trace >>all
     run_on encode cut/*.events >>all
@@ -1019,7 +1135,7 @@ truncated() {
     judge
 }
 
-# Ten thousand files: a third of random bytes, the rest of random words of the formats, in some the values of a dump.
+# Four thousand files: a third of random bytes, the rest of random words of the formats, in some the values of a dump.
 random() {
     local words=(boards load board ack end expect all - p q r a 90 12 0F 0 1 2 255 256 4294967295 99999999999999999999
         START STOP repeated cut byte ACK NACK write read power tick sample lines readw writew USICNT 078 07F start gap
@@ -1028,7 +1144,7 @@ random() {
     local text byte i n
     RANDOM=1
     mkdir -p random
-    for ((i = 0; i < 10000; i++)); do
+    for ((i = 0; i < 4000; i++)); do
         text=
         if ((i % 3 == 0)); then
             for ((n = RANDOM % 60; n > 0; n--)); do
@@ -1052,6 +1168,7 @@ random() {
     run_on "clash $examples/sent.loads --corrections" random/*8 >>all
     run_on decode random/*1 random/*5 random/*9 >>all
     run_on sort random/*1 random/*9 >>all
+    run_match random/*2 >>all
     run_on encode random/*2 random/*6 >>all
     run_on session random/*3 random/*7 >>all
     judge
@@ -1076,10 +1193,11 @@ fi
 if [ -z "${RIG_PROGRAM:-}" ]; then "$rig" build >out || { cat out && exit 1; }; fi
 program=$(readlink -f "${RIG_PROGRAM:-$root/target/bin/rig}")
 rehearsal=${RIG_PROGRAM:+$program}
+matcher=${rehearsal:-$root/target/bin/rig_match}
 rehearsal=${rehearsal:-$root/target/bin/rig_clash}
 [ -z "${RIG_PROGRAM:-}" ] || export RIG_PROGRAM=$program
 for part in commands help slips corrections cut_corrections cut_short refusals most_boards wrong_lines night rounds \
-    rounds_refused most_rounds many_loads sessions traces captures sorts sorts_refused lists round_trips dumps dumps_refused dumps_read \
+    rounds_refused most_rounds many_loads sessions traces captures sorts sorts_refused matches matches_refused thinned lists round_trips dumps dumps_refused dumps_read \
     dumps_back corpus drawings drawn_dumps documents streams terminal $builds papers stored truncated random answers; do
     $part
 done

@@ -10,6 +10,7 @@ mod dump;
 mod encode;
 mod files;
 pub mod inputs;
+pub mod matching;
 mod refusals;
 mod session;
 mod sort;
@@ -44,6 +45,7 @@ fn one_file(options: &Options, input: &mut dyn Read) -> String {
         Command::Decode => decode::decode(&contents, options),
         Command::Dump => dump::dumped(&contents),
         Command::Encode => encode::encode(&contents, options),
+        Command::Match => matching::matched(&contents),
         Command::Sort => sort::sorted(&contents),
         _ => session::session(&contents),
     }

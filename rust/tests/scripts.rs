@@ -31,11 +31,13 @@ fn arbitration_answers_are_stored() {
     check("arbitration", arbitration);
 }
 
-/// The program's own stored answer under the gate: its arguments, with its files by their whole names.
+/// The program's own stored answer under the gate: its arguments, with its files by their whole names, and its
+/// standard input where there is one.
 #[test]
 fn the_programs_own_answers_are_stored() {
     own_answer_is_stored("rig");
     own_answer_is_stored("rig_clash");
+    own_answer_is_stored("rig_match");
 }
 
 fn own_answer_is_stored(program: &str) {
@@ -50,8 +52,9 @@ fn own_answer_is_stored(program: &str) {
         }
     };
     let arguments: Vec<Vec<u8>> = words.split_whitespace().map(|word| whole(word).into_bytes()).collect();
+    let input = std::fs::read(file("stdin")).unwrap_or_default();
     let stored = std::fs::read(file("stdout")).expect("stdout");
-    assert!(answer(&arguments, &mut std::io::empty()).output == stored, "answers of {program}");
+    assert!(answer(&arguments, &mut &input[..]).output == stored, "answers of {program}");
 }
 
 fn top() -> String {
@@ -95,6 +98,7 @@ fn examples() -> Vec<(String, Vec<u8>)> {
         }
     }
     answers.extend(drawings());
+    answers.extend(matches());
     answers.sort();
     answers
 }
@@ -119,6 +123,38 @@ fn drawings() -> Vec<(String, Vec<u8>)> {
         answers.push((format!("draw.{file}.svg"), document));
     }
     answers
+}
+
+/// Each trace beside loads of the same name, held against them as `./rig match` does it.
+fn matches() -> Vec<(String, Vec<u8>)> {
+    let entries = std::fs::read_dir(format!("{}/examples", top())).unwrap();
+    let files: Vec<String> = entries.map(|entry| entry.unwrap().file_name().into_string().unwrap()).collect();
+    let names = files.iter().filter_map(|file| file.strip_suffix(".trace"));
+    let pairs = names.filter(|name| files.contains(&format!("{name}.loads")));
+    pairs.map(|name| (format!("match.{name}.trace"), matched(name))).collect()
+}
+
+/// The rehearsal of the loads and the events of the trace, matched.
+fn matched(name: &str) -> Vec<u8> {
+    let path = |kind: &str| format!("{}/examples/{name}.{kind}", top());
+    let (loads, trace) = (path("loads"), path("trace"));
+    let printed = |words: &[&str], mut input: &[u8]| {
+        let arguments: Vec<Vec<u8>> = words.iter().map(|&word| word.into()).collect();
+        answer(&arguments, &mut input).output
+    };
+    let capture = printed(&["decode", &trace, "--thin"], &[]);
+    let is_read = ["ok", "look"].contains(&first_of_last_line(&capture).as_str());
+    if !is_read {
+        return capture;
+    }
+    let rehearsal = printed(&["clash", &loads, "--wave"], &[]);
+    printed(&["match"], &[rehearsal, capture].concat())
+}
+
+fn first_of_last_line(output: &[u8]) -> String {
+    let text = String::from_utf8_lossy(output).into_owned();
+    let last = text.lines().next_back().unwrap_or_default();
+    last.split(' ').next().unwrap_or_default().to_string()
 }
 
 /// The picture of the front page.

@@ -3,6 +3,7 @@ use crate::lines::say;
 use crate::task::Task;
 use check::same;
 use phases::Mode;
+use rig_lines::console::PAGE;
 use rig_lines::console::begin;
 use rig_lines::console::put_quoted;
 use rig_lines::numbers::is_number;
@@ -18,6 +19,8 @@ pub(crate) struct Arguments {
     // the phases of a trace are judged as of Standard-mode, or of Fast-mode
     standard: bool,
     fast: bool,
+    // samples that change no level are dropped
+    pub(crate) thin: bool,
     // room to lend to the library; a command lends no more than it has
     pub(crate) room: usize,
     // standard input is one of the files
@@ -30,7 +33,7 @@ pub(crate) struct Arguments {
     pub(crate) at: usize,
 }
 
-pub(crate) fn too_long(page: &mut [u8], at: usize) -> usize {
+pub(crate) fn too_long(page: &mut [u8; PAGE], at: usize) -> usize {
     say(page, at, b"error an argument is longer than 4096 bytes")
 }
 
@@ -41,6 +44,7 @@ impl Arguments {
             file: 0,
             standard: false,
             fast: false,
+            thin: false,
             room: usize::MAX,
             input: false,
             wants_room: false,
@@ -56,17 +60,17 @@ impl Arguments {
         self
     }
 
-    fn trouble(self, page: &mut [u8], words: &[u8]) -> Arguments {
+    fn trouble(self, page: &mut [u8; PAGE], words: &[u8]) -> Arguments {
         self.failed(say(page, self.at, words))
     }
 
-    fn unknown_option(self, page: &mut [u8], word: &[u8]) -> Arguments {
+    fn unknown_option(self, page: &mut [u8; PAGE], word: &[u8]) -> Arguments {
         let from = begin(page, self.at);
         let task = self.task;
         self.failed(task.put_unknown(page, from, word))
     }
 
-    fn second_file(self, page: &mut [u8], word: &[u8]) -> Arguments {
+    fn second_file(self, page: &mut [u8; PAGE], word: &[u8]) -> Arguments {
         let from = begin(page, self.at);
         let error = put_bytes(page, from, b"error a second file ");
         let quoted = put_quoted(page, error, word);
@@ -76,7 +80,7 @@ impl Arguments {
         self.failed(put_bytes(page, named, b" reads one\n"))
     }
 
-    fn with_room(mut self, page: &mut [u8], word: &[u8]) -> Arguments {
+    fn with_room(mut self, page: &mut [u8; PAGE], word: &[u8]) -> Arguments {
         let number = text::decimal(word);
         if !is_number(number) {
             let from = begin(page, self.at);
@@ -87,7 +91,7 @@ impl Arguments {
         self
     }
 
-    fn with_file(mut self, page: &mut [u8], argument: usize, word: &[u8]) -> Arguments {
+    fn with_file(mut self, page: &mut [u8; PAGE], argument: usize, word: &[u8]) -> Arguments {
         if self.file == 0 {
             self.file = argument;
             return self;
@@ -96,7 +100,7 @@ impl Arguments {
     }
 
     // Standard input is read once.
-    fn with_input(mut self, page: &mut [u8]) -> Arguments {
+    fn with_input(mut self, page: &mut [u8; PAGE]) -> Arguments {
         if self.input {
             return self.trouble(page, b"error - stands twice: standard input is read once");
         }
@@ -104,7 +108,7 @@ impl Arguments {
         self
     }
 
-    fn with_input_file(self, page: &mut [u8], argument: usize) -> Arguments {
+    fn with_input_file(self, page: &mut [u8; PAGE], argument: usize) -> Arguments {
         let next = self.with_input(page);
         if next.broken {
             return next;
@@ -124,7 +128,7 @@ impl Arguments {
     }
 
     // An option that rig decode alone takes.
-    fn with_mode(mut self, page: &mut [u8], word: &[u8]) -> Arguments {
+    fn with_mode(mut self, page: &mut [u8; PAGE], word: &[u8]) -> Arguments {
         let task = self.task;
         if task.is_decode() {
             if same(word, b"--standard") {
@@ -135,11 +139,15 @@ impl Arguments {
                 self.fast = true;
                 return self;
             }
+            if same(word, b"--thin") {
+                self.thin = true;
+                return self;
+            }
         }
         self.unknown_option(page, word)
     }
 
-    fn with_option(mut self, page: &mut [u8], word: &[u8]) -> Arguments {
+    fn with_option(mut self, page: &mut [u8; PAGE], word: &[u8]) -> Arguments {
         let task = self.task;
         if same(word, b"--room") & task.lends_room() {
             self.wants_room = true;
@@ -148,7 +156,7 @@ impl Arguments {
         self.with_mode(page, word)
     }
 
-    fn with_word(self, page: &mut [u8], argument: usize, word: &[u8]) -> Arguments {
+    fn with_word(self, page: &mut [u8; PAGE], argument: usize, word: &[u8]) -> Arguments {
         if self.wants_room {
             return self.with_room(page, word);
         }
@@ -161,7 +169,7 @@ impl Arguments {
         self.with_file(page, argument, word)
     }
 
-    fn with_argument(self, page: &mut [u8], argument: usize) -> Arguments {
+    fn with_argument(self, page: &mut [u8; PAGE], argument: usize) -> Arguments {
         let mut space = io::buffer();
         let n = os::arg(argument, &mut space);
         if os::errno() != 0 {
@@ -171,7 +179,7 @@ impl Arguments {
     }
 
     // What is found once all words are read.
-    fn finished(self, page: &mut [u8]) -> Arguments {
+    fn finished(self, page: &mut [u8; PAGE]) -> Arguments {
         let task = self.task;
         if self.broken {
             return self;
@@ -185,11 +193,17 @@ impl Arguments {
         if self.standard & self.fast {
             return self.trouble(page, b"error --standard does not go with --fast");
         }
+        if self.thin & (self.standard | self.fast) {
+            return self.trouble(
+                page,
+                b"error --thin goes with neither --standard nor --fast",
+            );
+        }
         self
     }
 }
 
-pub(crate) fn parse(page: &mut [u8], task: Task) -> Arguments {
+pub(crate) fn parse(page: &mut [u8; PAGE], task: Task) -> Arguments {
     let mut given = Arguments::none(task);
     let count = os::arg_count();
     let mut i: usize = 2;

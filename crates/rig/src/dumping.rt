@@ -3,6 +3,7 @@ use crate::decoding::refuse;
 use crate::decoding::samples::Reading;
 use crate::lines::end;
 use dump::Dumped;
+use rig_lines::console::PAGE;
 use rig_lines::console::begin;
 use rig_lines::console::flush;
 use rig_lines::console::put_count;
@@ -44,7 +45,7 @@ fn write(stamps: &[u32], levels: &[u8]) -> usize {
 }
 
 // The last line, after the text.
-fn written(page: &mut [u8], at: usize, stamps: &[u32], levels: &[u8]) -> usize {
+fn written(page: &mut [u8; PAGE], at: usize, stamps: &[u32], levels: &[u8]) -> usize {
     let from = begin(page, at);
     let ok = put_bytes(page, from, b"ok ");
     let bytes = put_count(page, ok, write(stamps, levels) as u64, b"byte");
@@ -55,7 +56,7 @@ fn written(page: &mut [u8], at: usize, stamps: &[u32], levels: &[u8]) -> usize {
 
 // No room is lent, so a trace that can be drawn is refused with 8.
 pub(crate) fn answer(
-    page: &mut [u8],
+    page: &mut [u8; PAGE],
     reading: Reading,
     stamps: &[u32],
     levels: &[u8],

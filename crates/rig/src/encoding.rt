@@ -8,6 +8,7 @@ use crate::lines::tell;
 use encode::Encoded;
 use listing::EVENTS;
 use listing::Listing;
+use rig_lines::console::PAGE;
 use rig_lines::console::begin;
 use rig_lines::console::put_count;
 use rig_lines::input;
@@ -20,11 +21,11 @@ use trace::MAX_SAMPLES;
 // The refusal of a list that is not complete.
 const INCOMPLETE: u8 = 9;
 
-fn show_sample(page: &mut [u8], at: usize, stamp: u32, level: u8) -> usize {
+fn show_sample(page: &mut [u8; PAGE], at: usize, stamp: u32, level: u8) -> usize {
     tell(page, at, b"# #", &[stamp as u64, level as u64])
 }
 
-fn show_at(page: &mut [u8], at: usize, stamps: &[u32], levels: &[u8], i: usize) -> usize {
+fn show_at(page: &mut [u8; PAGE], at: usize, stamps: &[u32], levels: &[u8], i: usize) -> usize {
     if i < stamps.len() {
         if i < levels.len() {
             return show_sample(page, at, stamps[i], levels[i]);
@@ -34,7 +35,7 @@ fn show_at(page: &mut [u8], at: usize, stamps: &[u32], levels: &[u8], i: usize) 
 }
 
 pub(crate) fn show_all(
-    page: &mut [u8],
+    page: &mut [u8; PAGE],
     at: usize,
     stamps: &[u32],
     levels: &[u8],
@@ -50,14 +51,14 @@ pub(crate) fn show_all(
 }
 
 // The last line: how many samples were drawn.
-fn done(page: &mut [u8], at: usize, count: usize) -> usize {
+fn done(page: &mut [u8; PAGE], at: usize, count: usize) -> usize {
     let from = begin(page, at);
     let ok = put_bytes(page, from, b"ok ");
     let samples = put_count(page, ok, count as u64, b"sample");
     end(page, samples)
 }
 
-fn refuse(page: &mut [u8], listing: Listing, number: u8) -> usize {
+fn refuse(page: &mut [u8; PAGE], listing: Listing, number: u8) -> usize {
     let from = begin(page, listing.at);
     let refusal = put_refusal(page, from, number);
     let hint = hints::put_trace(page, refusal, listing.like_trace() & (number == INCOMPLETE));
@@ -66,7 +67,7 @@ fn refuse(page: &mut [u8], listing: Listing, number: u8) -> usize {
 
 // Hands an event list to the library, and shows the trace that it draws.
 fn answer(
-    page: &mut [u8],
+    page: &mut [u8; PAGE],
     listing: Listing,
     events: &[u16],
     stamps: &mut [u32],
@@ -81,7 +82,7 @@ fn answer(
     }
 }
 
-fn answer_part(page: &mut [u8], listing: Listing, events: &[u16], room: usize) -> usize {
+fn answer_part(page: &mut [u8; PAGE], listing: Listing, events: &[u16], room: usize) -> usize {
     let mut stamps = [0u32; MAX_SAMPLES];
     let mut levels = [0u8; MAX_SAMPLES];
     let count = parts::events(listing.count, events);
@@ -96,13 +97,23 @@ fn answer_part(page: &mut [u8], listing: Listing, events: &[u16], room: usize) -
     )
 }
 
-pub(crate) fn run(page: &mut [u8], at: usize, source: Source, room: usize) -> usize {
-    let mut piece = io::buffer();
-    let mut line = [0u8; input::ROOM];
-    let mut events = [0u16; EVENTS];
-    let listing = listing::read_all(page, at, &mut piece, &mut line, source, &mut events);
+// The same, where all lines were understood.
+fn answer_read(
+    page: &mut [u8; PAGE],
+    listing: Listing,
+    events: &[u16; EVENTS],
+    room: usize,
+) -> usize {
     if listing.broken {
         return listing.at;
     }
-    answer_part(page, listing, &events, room)
+    answer_part(page, listing, events, room)
+}
+
+pub(crate) fn run(page: &mut [u8; PAGE], at: usize, source: Source, room: usize) -> usize {
+    let mut piece = [0u8; PAGE];
+    let mut line = [0u8; input::ROOM];
+    let mut events = [0u16; EVENTS];
+    let listing = listing::read_all(page, at, &mut piece, &mut line, source, &mut events);
+    answer_read(page, listing, &events, room)
 }

@@ -1,5 +1,6 @@
 // What a file is, by its words: a hint where a command is handed another one's file.
 use check::same;
+use rig_lines::console::PAGE;
 use text::put_bytes;
 
 pub(crate) fn ends_in_colon(word: &[u8]) -> bool {
@@ -27,7 +28,7 @@ fn begins_load(word: &[u8]) -> bool {
 }
 
 // A hint for rig encode, at a line that begins with that word.
-pub(crate) fn put_loads(page: &mut [u8], at: usize, word: &[u8]) -> usize {
+pub(crate) fn put_loads(page: &mut [u8; PAGE], at: usize, word: &[u8]) -> usize {
     if begins_load(word) {
         return put_bytes(
             page,
@@ -47,7 +48,7 @@ fn begins_dump(word: &[u8]) -> bool {
 }
 
 // A hint for a reader of traces, at a line that begins with that word.
-pub(crate) fn put_other(page: &mut [u8], at: usize, word: &[u8]) -> usize {
+pub(crate) fn put_other(page: &mut [u8; PAGE], at: usize, word: &[u8]) -> usize {
     if begins_event(word) {
         return put_bytes(
             page,
@@ -66,7 +67,7 @@ pub(crate) fn put_other(page: &mut [u8], at: usize, word: &[u8]) -> usize {
 }
 
 // A hint for rig encode, at a list that looks like samples.
-pub(crate) fn put_trace(page: &mut [u8], at: usize, samples: bool) -> usize {
+pub(crate) fn put_trace(page: &mut [u8; PAGE], at: usize, samples: bool) -> usize {
     if samples {
         return put_bytes(
             page,

@@ -15,15 +15,16 @@ mod trouble; // trouble.rt: what was not understood or could not be read
 
 use arguments::Arguments;
 use rig_lines::console;
+use rig_lines::console::PAGE;
 use rig_lines::files::Opened;
 use rig_lines::input::Source;
 use task::Named;
 use task::Task;
 
-fn run_on(page: &mut [u8], given: Arguments, source: Source) -> usize {
+fn run_on(page: &mut [u8; PAGE], given: Arguments, source: Source) -> usize {
     let task = given.task;
     match task {
-        Task::Decode => decoding::run(page, given.at, source, given.room, given.mode()),
+        Task::Decode => decoding::run(page, given.at, source, given.room, given.mode(), given.thin),
         Task::Dump => traced::run(page, given.at, source, false),
         Task::Sort => traced::run(page, given.at, source, true),
         Task::Encode => encoding::run(page, given.at, source, given.room),
@@ -35,14 +36,14 @@ fn run_on(page: &mut [u8], given: Arguments, source: Source) -> usize {
 }
 
 // Runs a command that reads one file.
-fn run_one(page: &mut [u8], given: Arguments) -> usize {
+fn run_one(page: &mut [u8; PAGE], given: Arguments) -> usize {
     match sources::open(given.file) {
         Opened::Source(source) => run_on(page, given, source),
         Opened::Failed(errno) => trouble::file(page, given.at, b"cannot open ", given.file, errno),
     }
 }
 
-fn run(page: &mut [u8], task: Task) -> usize {
+fn run(page: &mut [u8; PAGE], task: Task) -> usize {
     let given = arguments::parse(page, task);
     if given.broken {
         return given.at;
@@ -51,7 +52,7 @@ fn run(page: &mut [u8], task: Task) -> usize {
 }
 
 // Runs the command that the first argument names.
-fn begin(page: &mut [u8]) -> usize {
+fn begin(page: &mut [u8; PAGE]) -> usize {
     if os::arg_count() < 2 {
         return task::none(page);
     }
@@ -66,8 +67,12 @@ fn begin(page: &mut [u8]) -> usize {
     }
 }
 
+fn answer(page: &mut [u8; PAGE]) {
+    let end = begin(page);
+    console::flush(page, end);
+}
+
 fn main() {
-    let mut page = [0u8; console::PAGE];
-    let end = begin(&mut page);
-    console::flush(&page, end);
+    let mut page = [0u8; PAGE];
+    answer(&mut page);
 }

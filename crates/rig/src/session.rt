@@ -4,6 +4,7 @@ mod command; // command.rt: the commands of a session
 use crate::lines::end;
 use crate::trouble;
 use command::Command;
+use rig_lines::console::PAGE;
 use rig_lines::console::flush;
 use rig_lines::console::put_count;
 use rig_lines::console::put_form;
@@ -11,6 +12,7 @@ use rig_lines::console::put_line;
 use rig_lines::console::put_quoted;
 use rig_lines::input;
 use rig_lines::input::Line;
+use rig_lines::input::ROOM;
 use rig_lines::input::Source;
 use rig_lines::input::Taken;
 use rig_lines::numbers::more;
@@ -89,27 +91,27 @@ impl Session {
     }
 
     // Answers with a fault's words.
-    fn fault(self, page: &mut [u8], words: &[u8]) -> Session {
+    fn fault(self, page: &mut [u8; PAGE], words: &[u8]) -> Session {
         let error = put_bytes(page, 0, b"error ");
         let next = put_bytes(page, error, words);
         answer(page, next);
         self.with_fault()
     }
 
-    fn unknown(self, page: &mut [u8], word: &[u8]) -> Session {
+    fn unknown(self, page: &mut [u8; PAGE], word: &[u8]) -> Session {
         let next = put_unknown(page, word);
         answer(page, next);
         self.with_fault()
     }
 
-    fn refused(self, page: &mut [u8], number: u8) -> Session {
+    fn refused(self, page: &mut [u8; PAGE], number: u8) -> Session {
         let next = put_refusal(page, 0, number);
         answer(page, next);
         self.with_refusal(number)
     }
 
     // Answers with the module after a step.
-    fn step(self, page: &mut [u8], step: Step) -> Session {
+    fn step(self, page: &mut [u8; PAGE], step: Step) -> Session {
         match step {
             Step::Next(device) => {
                 let ok = put_bytes(page, 0, b"ok ");
@@ -122,7 +124,7 @@ impl Session {
     }
 
     // Answers with the module after a write, and the flags that it cleared.
-    fn written(self, page: &mut [u8], written: Written) -> Session {
+    fn written(self, page: &mut [u8; PAGE], written: Written) -> Session {
         if written.refusal != 0 {
             return self.refused(page, written.refusal);
         }
@@ -131,7 +133,7 @@ impl Session {
         self.with_device(written.usi)
     }
 
-    fn read(self, page: &mut [u8], read: Read) -> Session {
+    fn read(self, page: &mut [u8; PAGE], read: Read) -> Session {
         match read {
             Read::Value(value) => {
                 let next = put_form(page, 0, b"ok %", &[value as u64]);
@@ -142,7 +144,7 @@ impl Session {
         }
     }
 
-    fn read_word(self, page: &mut [u8], read: Read) -> Session {
+    fn read_word(self, page: &mut [u8; PAGE], read: Read) -> Session {
         match read {
             Read::Value(value) => {
                 let next = put_form(page, 0, b"ok %%", &[(value / 256) as u64, value as u64]);
@@ -153,14 +155,14 @@ impl Session {
         }
     }
 
-    fn lines(self, page: &mut [u8]) -> Session {
+    fn lines(self, page: &mut [u8; PAGE]) -> Session {
         let device = self.device;
         let next = put_lines(page, device);
         answer(page, next);
         self.with_device(device)
     }
 
-    fn help(self, page: &mut [u8]) -> Session {
+    fn help(self, page: &mut [u8; PAGE]) -> Session {
         let next = put_bytes(
             page,
             0,
@@ -171,7 +173,7 @@ impl Session {
     }
 
     // Answers with the form that was expected: command.rt's places, one to a line.
-    fn malformed(self, page: &mut [u8], form: usize) -> Session {
+    fn malformed(self, page: &mut [u8; PAGE], form: usize) -> Session {
         let error = put_bytes(page, 0, b"error expected ");
         let next = put_line(
             page,
@@ -192,14 +194,14 @@ help
         self.with_fault()
     }
 
-    fn nothing(self, page: &mut [u8]) -> Session {
+    fn nothing(self, page: &mut [u8; PAGE]) -> Session {
         let next = put_bytes(page, 0, b"ok");
         answer(page, next);
         self
     }
 
     // Runs the command that a line says and answers it.
-    fn run(self, page: &mut [u8], line: &[u8]) -> Session {
+    fn run(self, page: &mut [u8; PAGE], line: &[u8]) -> Session {
         let device = self.device;
         match command::parse(line) {
             Command::Nothing => self.nothing(page),
@@ -221,7 +223,7 @@ help
     }
 
     // The last line.
-    fn summary(self, page: &mut [u8]) -> usize {
+    fn summary(self, page: &mut [u8; PAGE]) -> usize {
         if self.faults > 0 {
             return put_form(
                 page,
@@ -249,13 +251,13 @@ help
 }
 
 // Ends a line and writes it out at once.
-fn answer(page: &mut [u8], at: usize) {
+fn answer(page: &mut [u8; PAGE], at: usize) {
     let next = end(page, at);
     flush(page, next);
 }
 
 // Whether a line is pulled low.
-fn put_pull(page: &mut [u8], at: usize, low: bool) -> usize {
+fn put_pull(page: &mut [u8; PAGE], at: usize, low: bool) -> usize {
     if low {
         return put_bytes(page, at, b"low");
     }
@@ -263,20 +265,20 @@ fn put_pull(page: &mut [u8], at: usize, low: bool) -> usize {
 }
 
 // The module after a write, and the flags that the write cleared.
-fn put_written(page: &mut [u8], device: Usi, cleared: u8) -> usize {
+fn put_written(page: &mut [u8; PAGE], device: Usi, cleared: u8) -> usize {
     let ok = put_bytes(page, 0, b"ok ");
     let next = put_module(page, ok, device);
     put_form(page, next, b" cleared=%", &[cleared as u64])
 }
 
-fn put_pulls(page: &mut [u8], device: Usi) -> usize {
+fn put_pulls(page: &mut [u8; PAGE], device: Usi) -> usize {
     let scl = put_bytes(page, 0, b"ok scl=");
     let past_scl = put_pull(page, scl, device.pulls_scl());
     let sda = put_bytes(page, past_scl, b" sda=");
     put_pull(page, sda, device.pulls_sda())
 }
 
-fn put_level(page: &mut [u8], at: usize, line: Driven) -> usize {
+fn put_level(page: &mut [u8; PAGE], at: usize, line: Driven) -> usize {
     match line {
         Driven::Released => put_bytes(page, at, b"released"),
         Driven::Low => put_bytes(page, at, b"low"),
@@ -284,7 +286,7 @@ fn put_level(page: &mut [u8], at: usize, line: Driven) -> usize {
     }
 }
 
-fn put_drives(page: &mut [u8], device: Usi) -> usize {
+fn put_drives(page: &mut [u8; PAGE], device: Usi) -> usize {
     let lines = device.spi_lines();
     let sclk = lines.sclk;
     let sdo = lines.sdo;
@@ -295,21 +297,21 @@ fn put_drives(page: &mut [u8], device: Usi) -> usize {
 }
 
 // The lines, by the set-up.
-fn put_lines(page: &mut [u8], device: Usi) -> usize {
+fn put_lines(page: &mut [u8; PAGE], device: Usi) -> usize {
     if device.fits_spi() {
         return put_drives(page, device);
     }
     put_pulls(page, device)
 }
 
-fn put_unknown(page: &mut [u8], word: &[u8]) -> usize {
+fn put_unknown(page: &mut [u8; PAGE], word: &[u8]) -> usize {
     let error = put_bytes(page, 0, b"error unknown command ");
     let quoted = put_quoted(page, error, word);
     put_bytes(page, quoted, b"; try help")
 }
 
 // Answers what taking a line found.
-fn answered(page: &mut [u8], session: Session, taken: Taken, line: &[u8]) -> Session {
+fn answered(page: &mut [u8; PAGE], session: Session, taken: Taken, line: &[u8]) -> Session {
     let found = taken.line;
     let after = taken.source;
     let next = session.with_source(after);
@@ -330,23 +332,33 @@ fn answered(page: &mut [u8], session: Session, taken: Taken, line: &[u8]) -> Ses
     }
 }
 
-fn run_all(page: &mut [u8], piece: &mut [u8], line: &mut [u8], source: Source) {
+// Answers the next line.
+fn with_next(
+    page: &mut [u8; PAGE],
+    piece: &mut [u8; PAGE],
+    line: &mut [u8; ROOM],
+    session: Session,
+) -> Session {
+    let from = session.source;
+    let taken = input::next_line(piece, line, from);
+    answered(page, session, taken, line)
+}
+
+fn run_all(page: &mut [u8; PAGE], piece: &mut [u8; PAGE], line: &mut [u8; ROOM], source: Source) {
     let mut session = Session::new(source);
     let mut turns = u64::MAX;
     while turns > 0 {
+        turns -= 1;
         if !session.more {
             return;
         }
-        let from = session.source;
-        let taken = input::next_line(piece, line, from);
-        session = answered(page, session, taken, line);
-        turns -= 1;
+        session = with_next(page, piece, line, session);
     }
 }
 
 // Nothing stands on the page before or after.
-pub(crate) fn run(page: &mut [u8], source: Source) {
-    let mut piece = io::buffer();
-    let mut line = [0u8; input::ROOM];
+pub(crate) fn run(page: &mut [u8; PAGE], source: Source) {
+    let mut piece = [0u8; PAGE];
+    let mut line = [0u8; ROOM];
     run_all(page, &mut piece, &mut line, source);
 }

@@ -7,6 +7,7 @@ use crate::encoding::show_all;
 use crate::lines::end;
 use crate::lines::say;
 use crate::lines::tell;
+use rig_lines::console::PAGE;
 use rig_lines::console::begin;
 use rig_lines::console::put_count;
 use rig_lines::console::put_form;
@@ -50,7 +51,7 @@ fn counted(count: u64, counts: bool) -> u64 {
 
 // Two samples have one stamp.
 fn taken(
-    page: &mut [u8],
+    page: &mut [u8; PAGE],
     at: usize,
     stamps: &[u32],
     lines: &[u64],
@@ -72,7 +73,7 @@ fn taken(
     )
 }
 
-fn put_crossed(page: &mut [u8], at: usize, crossed: u64) -> usize {
+fn put_crossed(page: &mut [u8; PAGE], at: usize, crossed: u64) -> usize {
     if crossed == 0 {
         return put_bytes(page, at, b", all in order");
     }
@@ -80,7 +81,7 @@ fn put_crossed(page: &mut [u8], at: usize, crossed: u64) -> usize {
 }
 
 // The last line.
-fn sorted(page: &mut [u8], at: usize, count: usize, crossed: u64) -> usize {
+fn sorted(page: &mut [u8; PAGE], at: usize, count: usize, crossed: u64) -> usize {
     if count == 0 {
         return say(page, at, b"look 0 samples");
     }
@@ -93,7 +94,7 @@ fn sorted(page: &mut [u8], at: usize, count: usize, crossed: u64) -> usize {
 
 // Hands a capture to the library, and shows it in order.
 pub(crate) fn answer(
-    page: &mut [u8],
+    page: &mut [u8; PAGE],
     reading: Reading,
     stamps: &[u32],
     levels: &[u8],

@@ -1,6 +1,7 @@
 // The commands by name.
 use crate::lines::say;
 use check::same;
+use rig_lines::console::PAGE;
 use rig_lines::console::begin;
 use rig_lines::console::put_quoted;
 use rig_lines::options::put_unknown_option;
@@ -65,7 +66,7 @@ impl Task {
         }
     }
 
-    pub(crate) fn put_name(self, page: &mut [u8], at: usize) -> usize {
+    pub(crate) fn put_name(self, page: &mut [u8; PAGE], at: usize) -> usize {
         match self {
             Task::Decode => put_bytes(page, at, b"decode"),
             Task::Dump => put_bytes(page, at, b"dump"),
@@ -76,7 +77,7 @@ impl Task {
     }
 
     // There is no such option.
-    pub(crate) fn put_unknown(self, page: &mut [u8], at: usize, word: &[u8]) -> usize {
+    pub(crate) fn put_unknown(self, page: &mut [u8; PAGE], at: usize, word: &[u8]) -> usize {
         match self {
             Task::Decode => put_unknown_option(page, at, word, b"decode"),
             Task::Dump => put_unknown_option(page, at, word, b"dump"),
@@ -88,22 +89,22 @@ impl Task {
 }
 
 // There is no command.
-pub(crate) fn none(page: &mut [u8]) -> usize {
+pub(crate) fn none(page: &mut [u8; PAGE]) -> usize {
     say(
         page,
         0,
-        b"error expected a command: clash, decode, draw, dump, encode, night, session or sort",
+        b"error expected a command: clash, decode, draw, dump, encode, match, night, session or sort",
     )
 }
 
 // There is no such command.
-pub(crate) fn unknown(page: &mut [u8], word: &[u8]) -> usize {
+pub(crate) fn unknown(page: &mut [u8; PAGE], word: &[u8]) -> usize {
     let from = begin(page, 0);
     let error = put_bytes(page, from, b"error unknown command ");
     let quoted = put_quoted(page, error, word);
     put_bytes(
         page,
         quoted,
-        b": expected clash, decode, draw, dump, encode, night, session or sort\n",
+        b": expected clash, decode, draw, dump, encode, match, night, session or sort\n",
     )
 }

@@ -5,6 +5,7 @@ mod arguments; // arguments.rt: the words of the command line
 mod block; // block.rt: the block of a load
 mod board; // board.rt: a board in the block of a load
 mod boards; // boards.rt: the boards of a file, by name
+mod cells; // cells.rt: a row of the drawing of a load
 mod columns; // columns.rt: columns of text
 mod complaints; // complaints.rt: lines about what is wrong
 mod corrected; // corrected.rt: tonight's corrections laid over a load

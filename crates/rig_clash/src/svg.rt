@@ -1,18 +1,17 @@
 // The drawing of a load, an SVG document: the rows and columns of its waveform.
+use crate::cells::put_cells;
+use crate::cells::put_signals;
 use crate::kept;
 use crate::kept::ACKS;
 use crate::kept::ACKS_AT;
 use crate::load::Load;
 use crate::order;
-use crate::order::byte_at;
 use crate::outcome::LEVELS;
 use crate::outcome::Outcome;
 use crate::phrase::line_of;
 use crate::phrase::put_numbers;
 use crate::rows;
-use crate::rows::Next;
 use crate::rows::shifted;
-use crate::wave::is_high_at;
 use arbitration_rules::MAX_MASTERS;
 use rig_lines::console::PAGE;
 use rig_lines::console::begin;
@@ -21,7 +20,7 @@ use text::put_byte;
 use text::put_bytes;
 
 // The first column, the width of each, and the most that a row has.
-const LEFT: usize = 80;
+pub(crate) const LEFT: usize = 80;
 
 const STEP: usize = 12;
 
@@ -37,18 +36,12 @@ const HEIGHT: usize = 112;
 
 const LOSER: usize = 14;
 
-// Below the top of a row: the bytes, the bits, and the names of the two lines.
-const NAMES: usize = 12;
-
-const BITS: usize = 30;
-
-const SCL: usize = 54;
-
-const SDA: usize = 88;
+// Below the top of a row: the bytes, and the boards that lost.
+pub(crate) const NAMES: usize = 12;
 
 const LOST: usize = 110;
 
-fn x_of(column: usize) -> usize {
+pub(crate) fn x_of(column: usize) -> usize {
     LEFT + STEP * least(column, LEVELS)
 }
 
@@ -88,13 +81,13 @@ fn put_title(page: &mut [u8; PAGE], at: usize, kept: &[u8]) -> usize {
 }
 
 // A line with numbers in it.
-fn put_line(page: &mut [u8; PAGE], at: usize, words: &[u8], numbers: [u64; 4]) -> usize {
+pub(crate) fn put_line(page: &mut [u8; PAGE], at: usize, words: &[u8], numbers: [u64; 4]) -> usize {
     let start = begin(page, at);
     put_numbers(page, start, words, numbers)
 }
 
 // A text begins at a place.
-fn put_begin(page: &mut [u8; PAGE], at: usize, x: usize, y: usize) -> usize {
+pub(crate) fn put_begin(page: &mut [u8; PAGE], at: usize, x: usize, y: usize) -> usize {
     put_line(
         page,
         at,
@@ -103,12 +96,12 @@ fn put_begin(page: &mut [u8; PAGE], at: usize, x: usize, y: usize) -> usize {
     )
 }
 
-fn put_end(page: &mut [u8; PAGE], at: usize) -> usize {
+pub(crate) fn put_end(page: &mut [u8; PAGE], at: usize) -> usize {
     put_bytes(page, at, b"</text>\n")
 }
 
 // A text, with a number in it.
-fn put_text(
+pub(crate) fn put_text(
     page: &mut [u8; PAGE],
     at: usize,
     x: usize,
@@ -185,177 +178,6 @@ fn put_shades(
         board += 1;
     }
     next
-}
-
-// A bit of a byte at a column.
-fn put_bit(
-    page: &mut [u8; PAGE],
-    at: usize,
-    byte: u8,
-    ack: u8,
-    bit: usize,
-    column: usize,
-    y: usize,
-) -> usize {
-    let x = x_of(shifted(column, 2 * least(bit, rows::BITS)));
-    let start = put_begin(page, at, x, shifted(y, BITS));
-    let symbol = put_byte(page, start, rows::bit_symbol(byte, ack, bit));
-    put_end(page, symbol)
-}
-
-fn put_bits(page: &mut [u8; PAGE], at: usize, byte: u8, ack: u8, column: usize, y: usize) -> usize {
-    let mut next = at;
-    let mut bit: usize = 0;
-    while bit < rows::BITS {
-        next = put_bit(page, next, byte, ack, bit, column, y);
-        bit += 1;
-    }
-    next
-}
-
-// What follows a byte, by its column.
-fn put_next(page: &mut [u8; PAGE], at: usize, next: Next, column: usize, y: usize) -> usize {
-    let x = x_of(shifted(column, rows::BYTE + 1));
-    let below = shifted(y, NAMES);
-    match next {
-        Next::Byte => at,
-        Next::Restart => put_text(page, at, x, below, b"Sr", 0),
-        Next::Stop => put_text(page, at, x, below, b"P", 0),
-    }
-}
-
-// A byte, its bits, and what follows it.
-fn put_cell(
-    page: &mut [u8; PAGE],
-    at: usize,
-    carried: &[u8],
-    acks: &[u8],
-    parts: &[u8],
-    first: usize,
-    byte: usize,
-    y: usize,
-) -> usize {
-    let column = rows::column_of(parts, first, byte);
-    let value = byte_at(carried, byte);
-    let name = put_text(
-        page,
-        at,
-        x_of(column),
-        shifted(y, NAMES),
-        b"%",
-        value as usize,
-    );
-    let bits = put_bits(page, name, value, byte_at(acks, byte), column, y);
-    let next = rows::next_of(parts, byte, carried.len());
-    put_next(page, bits, next, column, y)
-}
-
-fn put_cells(
-    page: &mut [u8; PAGE],
-    at: usize,
-    carried: &[u8],
-    acks: &[u8],
-    parts: &[u8],
-    first: usize,
-    y: usize,
-) -> usize {
-    let end = rows::end_of(first, carried.len());
-    let mut next = put_front(page, at, first, y);
-    let mut byte = first;
-    while byte < end {
-        next = put_cell(page, next, carried, acks, parts, first, byte, y);
-        byte += 1;
-    }
-    next
-}
-
-// The first byte's index, and START in the first row.
-fn put_front(page: &mut [u8; PAGE], at: usize, first: usize, y: usize) -> usize {
-    let below = shifted(y, NAMES);
-    let index = put_text(page, at, 8, below, b"byte #", first);
-    if first > 0 {
-        return index;
-    }
-    put_text(page, index, x_of(1), below, b"S", 0)
-}
-
-// A line's height at a level.
-fn y_at(levels: &[u8], at: usize, sda: bool, y: usize) -> usize {
-    if is_high_at(levels, at, sda) {
-        return y;
-    }
-    shifted(y, 18)
-}
-
-// From one column to the next: down or up where the line changed, and on.
-fn put_step(
-    page: &mut [u8; PAGE],
-    at: usize,
-    levels: &[u8],
-    from: usize,
-    i: usize,
-    sda: bool,
-    y: usize,
-) -> usize {
-    let height = y_at(levels, i, sda, y);
-    let x = x_of(shifted(rows::less(i, from), 1)) as u64;
-    if (i <= from) | (y_at(levels, rows::before(i), sda, y) == height) {
-        return put_numbers(page, at, b" H#", [x, 0, 0, 0]);
-    }
-    put_numbers(page, at, b" V# H#", [height as u64, x, 0, 0])
-}
-
-fn put_steps(
-    page: &mut [u8; PAGE],
-    at: usize,
-    levels: &[u8],
-    from: usize,
-    end: usize,
-    sda: bool,
-    y: usize,
-) -> usize {
-    let mut next = at;
-    let mut i = from;
-    while i < end {
-        next = put_step(page, next, levels, from, i, sda, y);
-        i += 1;
-    }
-    next
-}
-
-// A line of the bus in a row, high at a height.
-fn put_path(
-    page: &mut [u8; PAGE],
-    at: usize,
-    levels: &[u8],
-    from: usize,
-    end: usize,
-    sda: bool,
-    y: usize,
-) -> usize {
-    let height = y_at(levels, from, sda, y) as u64;
-    let start = put_line(page, at, b"<path d=\"M# #", [LEFT as u64, height, 0, 0]);
-    let steps = put_steps(page, start, levels, from, end, sda, y);
-    put_bytes(
-        page,
-        steps,
-        b"\" fill=\"none\" stroke=\"#1b4f72\" stroke-width=\"2\"/>\n",
-    )
-}
-
-// The two lines of the bus in a row.
-fn put_signals(
-    page: &mut [u8; PAGE],
-    at: usize,
-    levels: &[u8],
-    from: usize,
-    end: usize,
-    y: usize,
-) -> usize {
-    let scl = put_text(page, at, 8, shifted(y, SCL), b"SCL", 0);
-    let first = put_path(page, scl, levels, from, end, false, shifted(y, 40));
-    let sda = put_text(page, first, 8, shifted(y, SDA), b"SDA", 0);
-    put_path(page, sda, levels, from, end, true, shifted(y, 74))
 }
 
 // A board that lost: its number, its name, and `lost`.

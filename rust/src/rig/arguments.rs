@@ -6,13 +6,15 @@ use crate::phases::Mode;
 /// The longest argument.
 const ARGUMENT_BYTES: usize = 4096;
 
-const NO_COMMAND: &str = "expected a command: clash, decode, draw, dump, encode, night, session or sort";
+const NO_COMMAND: &str =
+    "expected a command: clash, decode, draw, dump, encode, match, night, session or sort";
 const NO_FILE: &str = "expected a file, or - for standard input";
 const INPUT_TWICE: &str = "- stands twice: standard input is read once";
 const NO_NUMBER: &str = "expected a number after --room";
 const NO_CORRECTIONS: &str = "expected a file after --corrections";
 const LONG_ARGUMENT: &str = "an argument is longer than 4096 bytes";
 const ONE_MODE: &str = "--standard does not go with --fast";
+const THIN_ALONE: &str = "--thin goes with neither --standard nor --fast";
 const NO_TRACE: &str = "expected a load after --trace";
 const TRACE_ALONE: &str = "--trace goes with none of --table, --registers and --wave";
 const NO_LOAD: &str = "expected a load after the file";
@@ -25,6 +27,7 @@ pub enum Command {
     Draw,
     Dump,
     Encode,
+    Match,
     Night,
     Session,
     Sort,
@@ -34,13 +37,15 @@ pub enum Command {
 #[derive(Clone, PartialEq, Eq, Debug)]
 pub struct Options {
     pub command: Command,
-    /// `-` is standard input; all but clash and night have one.
+    /// `-` is standard input; all but clash and night have one, that of match is standard input.
     pub files: Vec<String>,
     pub table: bool,
     pub registers: bool,
     pub wave: bool,
     pub standard: bool,
     pub fast: bool,
+    /// Samples that change no level are dropped before the rest is counted.
+    pub thin: bool,
     pub room: Option<u64>,
     /// The file of tonight's corrections; `-` is standard input.
     pub corrections: Option<String>,
@@ -60,6 +65,7 @@ impl Command {
             Command::Draw,
             Command::Dump,
             Command::Encode,
+            Command::Match,
             Command::Night,
             Command::Session,
             Command::Sort,
@@ -74,6 +80,7 @@ impl Command {
             Command::Draw => "draw",
             Command::Dump => "dump",
             Command::Encode => "encode",
+            Command::Match => "match",
             Command::Night => "night",
             Command::Session => "session",
             Command::Sort => "sort",
@@ -89,7 +96,8 @@ impl Command {
 impl Options {
     pub fn new(command: Command) -> Options {
         let files = Vec::new();
-        let (table, registers, wave, standard, fast) = (false, false, false, false, false);
+        let (table, registers, wave) = (false, false, false);
+        let (standard, fast, thin) = (false, false, false);
         let (room, corrections, only, svg, reads_input) = (None, None, None, false, false);
         Options {
             command,
@@ -99,6 +107,7 @@ impl Options {
             wave,
             standard,
             fast,
+            thin,
             room,
             corrections,
             only,
@@ -141,11 +150,15 @@ impl Options {
     fn word<'a>(&mut self, word: &str, rest: &mut impl Iterator<Item = &'a String>) -> Result<(), String> {
         let clash = self.command == Command::Clash;
         match short(word)? {
+            word if self.command == Command::Match => {
+                return Err(format!("unexpected {} after match", quoted(word)));
+            }
             "--table" if clash => self.table = true,
             "--registers" if clash => self.registers = true,
             "--wave" if clash => self.wave = true,
             "--standard" if self.command == Command::Decode => self.standard = true,
             "--fast" if self.command == Command::Decode => self.fast = true,
+            "--thin" if self.command == Command::Decode => self.thin = true,
             "--room" if matches!(self.command, Command::Clash | Command::Decode | Command::Encode) => {
                 self.room = Some(room(rest.next())?)
             }
@@ -175,7 +188,7 @@ impl Options {
     fn finished(mut self) -> Result<Options, String> {
         if self.files.is_empty() {
             match self.command {
-                Command::Encode | Command::Session => self.files.push("-".to_string()),
+                Command::Encode | Command::Match | Command::Session => self.files.push("-".to_string()),
                 _ => return Err(NO_FILE.to_string()),
             }
         }
@@ -192,6 +205,9 @@ impl Options {
         if self.standard && self.fast {
             return Err(ONE_MODE.to_string());
         }
+        if self.thin && (self.standard || self.fast) {
+            return Err(THIN_ALONE.to_string());
+        }
         Ok(self)
     }
 }
@@ -201,7 +217,7 @@ pub fn parse(arguments: &[String]) -> Result<Options, String> {
     let mut rest = arguments.iter();
     let first = short(rest.next().ok_or(NO_COMMAND)?)?;
     let unknown = || {
-        let commands = "clash, decode, draw, dump, encode, night, session or sort";
+        let commands = "clash, decode, draw, dump, encode, match, night, session or sort";
         format!("unknown command {}: expected {commands}", quoted(first))
     };
     let mut options = Options::new(Command::from_word(first).ok_or_else(unknown)?);

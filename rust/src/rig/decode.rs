@@ -6,6 +6,7 @@ use super::refusals;
 use super::text::{counted, decimal, each_statement, expected, quoted, Next};
 use super::{LOOKS_LIKE_LOADS, WORDS_OF_LOADS};
 use crate::bus::{self, Decoded, CUT, GAP, REPEATED_START, SAMPLES, START, STOP};
+use crate::capture::thin;
 use crate::phases::decode_in;
 use crate::refusal::{Reason, Refusal};
 use gaps::Gaps;
@@ -13,6 +14,9 @@ use gaps::Gaps;
 mod capture;
 pub mod crossed;
 mod gaps;
+
+/// The most samples that are read to be thinned.
+const THICK_SAMPLES: usize = 65_536;
 
 const LOOKS_LIKE_A_LIST: &str = "; this looks like an event list: did you mean rig encode?";
 const LOOKS_LIKE_A_DUMP: &str = "; this looks like a Value Change Dump: did you mean rig decode?";
@@ -34,7 +38,7 @@ pub fn decode(contents: &Contents, options: &Options) -> String {
 
 /// All that is printed of a record in lines, or the one line where there is nothing else.
 fn decode_lines(contents: &Contents, options: &Options) -> Result<String, String> {
-    let record = Record::read(contents)?;
+    let record = if options.thin { Record::read_thick(contents)? } else { Record::read(contents)? };
     let (events, reply) = record.events(options).map_err(|refusal| record.refused(refusal))?;
     let gaps = Gaps::new(&record.stamps, &bus::frame_open_after(&record.levels));
     Ok(record.report(&events, &reply, &gaps))
@@ -43,14 +47,30 @@ fn decode_lines(contents: &Contents, options: &Options) -> Result<String, String
 impl Record {
     pub fn read(contents: &Contents) -> Result<Record, String> {
         let mut record = Record::default();
-        each_statement(contents, |line, words| record.line(line, words))?;
+        each_statement(contents, |line, words| {
+            record.line(line, words)?;
+            Ok(if record.stamps.len() > SAMPLES { Next::End } else { Next::Line })
+        })?;
         Ok(record)
     }
 
-    /// `STAMP LEVEL`, or `STAMP` alone; reading ends at the stamp that is one too many.
-    fn line(&mut self, line: usize, words: &[&str]) -> Result<Next, String> {
+    /// One that is still to be thinned: many more samples, and one too many is an error.
+    fn read_thick(contents: &Contents) -> Result<Record, String> {
+        let mut record = Record::default();
+        each_statement(contents, |line, words| {
+            record.line(line, words)?;
+            match record.stamps.len() > THICK_SAMPLES {
+                true => Err(format!("more than {THICK_SAMPLES} samples")),
+                false => Ok(Next::Line),
+            }
+        })?;
+        Ok(record)
+    }
+
+    /// `STAMP LEVEL`, or `STAMP` alone.
+    fn line(&mut self, line: usize, words: &[&str]) -> Result<(), String> {
         if words[0] == "ok" || words[0] == "look" {
-            return Ok(Next::Line);
+            return Ok(());
         }
         let (stamp, level) = numbers(words).map_err(|word| {
             expected("STAMP LEVEL, two decimal numbers", Some(word)) + looks_like(words[0])
@@ -67,7 +87,7 @@ impl Record {
         }
         self.stamps.push(stamp);
         self.lines.push(line);
-        Ok(if self.stamps.len() > SAMPLES { Next::End } else { Next::Line })
+        Ok(())
     }
 
     pub fn refused(&self, refusal: Refusal) -> String {
@@ -83,12 +103,26 @@ impl Record {
         }
     }
 
-    /// What the library reads in it, in the room that is lent.
+    /// What the library reads in it, thinned where that is asked for, in the room that is lent.
     fn events(&self, options: &Options) -> Result<(Vec<u16>, Decoded), Refusal> {
         let mut events = vec![0; options.room(SAMPLES)];
-        let reply = decode_in(options.mode(), &self.stamps, &self.levels, &mut events)?;
+        let reply = if options.thin {
+            let (stamps, levels) = self.thinned()?;
+            bus::decode(&stamps, &levels, &mut events)?
+        } else {
+            decode_in(options.mode(), &self.stamps, &self.levels, &mut events)?
+        };
         events.truncate(reply.count);
         Ok((events, reply))
+    }
+
+    /// The samples that change a level, and the first.
+    fn thinned(&self) -> Result<(Vec<u32>, Vec<u8>), Refusal> {
+        let (mut stamps, mut levels) = (vec![0; SAMPLES], vec![0; SAMPLES]);
+        let count = thin(&self.stamps, &self.levels, &mut stamps, &mut levels)?;
+        stamps.truncate(count);
+        levels.truncate(count);
+        Ok((stamps, levels))
     }
 
     fn report(&self, events: &[u16], reply: &Decoded, gaps: &Gaps) -> String {

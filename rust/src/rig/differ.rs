@@ -121,13 +121,16 @@ impl Differ {
             .spawn()
     }
 
-    /// The program of a command: `rig_clash` beside `rig` is that of clash, draw and night.
+    /// The program of a command: `rig_clash` beside `rig` is that of clash, draw and night, `rig_match` that of match.
     fn program_for(&self, case: &Case) -> PathBuf {
-        let clash = self.program.with_file_name("rig_clash");
-        let commands: [&[u8]; 3] = [b"clash", b"draw", b"night"];
-        let of_loads = case.arguments.first().is_some_and(|word| commands.contains(&&word[..]));
-        if of_loads && clash.exists() {
-            clash
+        let name = match case.arguments.first().map(|word| &word[..]) {
+            Some(b"clash" | b"draw" | b"night") => "rig_clash",
+            Some(b"match") => "rig_match",
+            _ => return self.program.clone(),
+        };
+        let own = self.program.with_file_name(name);
+        if own.exists() {
+            own
         } else {
             self.program.clone()
         }

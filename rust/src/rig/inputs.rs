@@ -10,6 +10,7 @@ mod damage;
 mod decode;
 mod dump;
 mod encode;
+mod matching;
 mod page;
 mod session;
 mod sort;
@@ -24,12 +25,13 @@ pub struct Kind {
 }
 
 /// Well-formed files, one in four of them damaged; random bytes for each command; and command lines.
-pub const KINDS: [Kind; 13] = [
+pub const KINDS: [Kind; 14] = [
     Kind { word: "clash", command: "clash", text: |random| damage::some(random, clash::text) },
     Kind { word: "decode", command: "decode", text: |random| damage::some(random, decode::text) },
     Kind { word: "draw", command: "draw", text: |random| damage::some(random, clash::text) },
     Kind { word: "dump", command: "dump", text: |random| damage::some(random, decode::lines) },
     Kind { word: "encode", command: "encode", text: |random| damage::some(random, encode::text) },
+    Kind { word: "match", command: "match", text: matching::some },
     Kind { word: "night", command: "night", text: |random| damage::some(random, clash::night) },
     Kind { word: "session", command: "session", text: |random| damage::some(random, session::text) },
     Kind { word: "sort", command: "sort", text: |random| damage::some(random, sort::text) },
@@ -70,8 +72,12 @@ impl Kind {
         let salt = self.word.bytes().fold(0, |salt: u64, byte| salt.wrapping_mul(257) + u64::from(byte));
         let mut random = Random::new(Random::new(seed).bits() ^ salt);
         let input = (self.text)(&mut random);
-        let source = draw_source(&mut random);
+        let source = match (draw_source(&mut random), self.command) {
+            (Source::File, "match") => Source::Standard,
+            (source, _) => source,
+        };
         let mut arguments = match self.command {
+            "match" => vec![b"match".to_vec()],
             "" => arguments::any(&mut random, file, tonight),
             "draw" => arguments::draw(&mut random, source, file, &input),
             command => arguments::proper(&mut random, command, source, file),

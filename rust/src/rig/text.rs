@@ -44,10 +44,14 @@ pub fn bytes_of(text: &str) -> Vec<u8> {
     text.chars().map(|letter| letter as u8).collect()
 }
 
+/// Every line as it stands, without its newline.
+pub fn whole_lines(text: &str) -> impl Iterator<Item = &str> {
+    text.split_inclusive('\n').map(|piece| piece.strip_suffix('\n').unwrap_or(piece))
+}
+
 /// Every line with its number from 1: its words, none perhaps, or its fault.
 pub fn lines(text: &str) -> impl Iterator<Item = (usize, Result<Words<'_>, Fault>)> {
-    let lines = text.split_inclusive('\n').map(|piece| piece.strip_suffix('\n').unwrap_or(piece));
-    lines.enumerate().map(|(index, line)| (index + 1, words(line)))
+    whole_lines(text).enumerate().map(|(index, line)| (index + 1, words(line)))
 }
 
 /// The lines of a file that have words, each handed on with its number. The first error, which ends it, or why the
@@ -73,7 +77,7 @@ pub fn each_statement(
     }
 }
 
-fn words(line: &str) -> Result<Words<'_>, Fault> {
+pub fn words(line: &str) -> Result<Words<'_>, Fault> {
     if line.chars().count() > LINE_BYTES {
         return Err(Fault::TooLong);
     }
@@ -81,7 +85,12 @@ fn words(line: &str) -> Result<Words<'_>, Fault> {
         return Err(Fault::NoText);
     }
     let statement = line.split('#').next().unwrap_or(line);
-    Ok(statement.split([' ', '\t', '\r']).filter(|word| !word.is_empty()).collect())
+    Ok(statement.split(is_blank).filter(|word| !word.is_empty()).collect())
+}
+
+/// A byte that parts the words of a line.
+pub fn is_blank(letter: char) -> bool {
+    matches!(letter, ' ' | '\t' | '\r')
 }
 
 /// A byte that parts the words of a dump.

@@ -13,12 +13,11 @@ fn error(arguments: &[&[u8]]) -> Vec<u8> {
 fn commands() {
     assert_eq!(
         rig("", ""),
-        "error expected a command: clash, decode, draw, dump, encode, night, session or sort\n"
+        "error expected a command: clash, decode, draw, dump, encode, match, night, session or sort\n"
     );
     for word in ["Clash", "run", "--table", "help", "-h"] {
-        let expected = format!(
-            "error unknown command '{word}': expected clash, decode, draw, dump, encode, night, session or sort\n"
-        );
+        let commands = "clash, decode, draw, dump, encode, match, night, session or sort";
+        let expected = format!("error unknown command '{word}': expected {commands}\n");
         assert_eq!(rig(&format!("{word} x"), ""), expected);
     }
 }
@@ -51,6 +50,16 @@ fn files_and_options() {
         ("encode --corrections x", "unknown option '--corrections' for encode"),
         ("session --corrections x", "unknown option '--corrections' for session"),
         ("clash - --table --wave", "--table goes with neither --registers nor --wave"),
+        ("decode - --standard --fast", "--standard does not go with --fast"),
+        ("decode - --thin --fast", "--thin goes with neither --standard nor --fast"),
+        ("decode --standard - --thin", "--thin goes with neither --standard nor --fast"),
+        ("decode --standard --fast - --thin", "--standard does not go with --fast"),
+        ("decode --thin --fast", "expected a file, or - for standard input"),
+        ("clash - --thin", "unknown option '--thin' for clash"),
+        ("sort --thin -", "unknown option '--thin' for sort"),
+        ("match x", "unexpected 'x' after match"),
+        ("match - -", "unexpected '-' after match"),
+        ("match --corrections", "unexpected '--corrections' after match"),
         ("clash --registers - --table", "--table goes with neither --registers nor --wave"),
     ];
     for (arguments, words) in cases {
@@ -77,11 +86,12 @@ fn long_arguments() {
     let long = [b'a'; 4097];
     assert_eq!(error(&[&long]), b"an argument is longer than 4096 bytes");
     assert_eq!(error(&[b"decode", &long]), b"an argument is longer than 4096 bytes");
+    assert_eq!(error(&[b"match", &long]), b"an argument is longer than 4096 bytes");
     assert_eq!(error(&[b"decode", b"--room", &long]), b"an argument is longer than 4096 bytes");
     let name = &long[..4096];
     assert_eq!(error(&[b"decode", name]), [b"cannot open ", name, b": the name is too long"].concat());
     let quoted = format!(
-        "unknown command '{}..': expected clash, decode, draw, dump, encode, night, session or sort",
+        "unknown command '{}..': expected clash, decode, draw, dump, encode, match, night, session or sort",
         "a".repeat(32)
     );
     assert_eq!(error(&[&long[..33]]), quoted.as_bytes());
@@ -90,7 +100,7 @@ fn long_arguments() {
 #[test]
 fn words_are_quoted_printable() {
     let expected =
-        b"unknown command 'a?b??c\xE9': expected clash, decode, draw, dump, encode, night, session or sort";
+        b"unknown command 'a?b??c\xE9': expected clash, decode, draw, dump, encode, match, night, session or sort";
     assert_eq!(error(&[b"a\x01b\x7F\nc\xE9"]), expected);
 }
 

@@ -168,6 +168,65 @@ fn errors() {
     check_errors("decode -", &cases);
 }
 
+/// Each sample twice, or the first many times: the events are the same, at their stamps; all samples are counted.
+#[test]
+fn thinned() {
+    let twice: Vec<u8> = P7.iter().flat_map(|&level| [level, level]).collect();
+    let expected = "start 0\ngap 50\n100: START\n2000: A0 write ACK\n2200: STOP\n\
+        ok 3 events in 46 samples, no frame open, 0 bits pending\n";
+    assert_eq!(rig("decode - --thin", record(&twice)), expected);
+    assert_eq!(rig("decode --thin - --room 3", record(&twice)), expected);
+    let short = "refused 8: the reply needs more room than was lent\n";
+    assert_eq!(rig("decode --thin - --room 2", record(&twice)), short);
+    let rested = record(&[&[3; 5000][..], &P7[1..]].concat());
+    let expected = "start 0\ngap 50\n250000: START\n250950: A0 write ACK\n251050: STOP\n\
+        ok 3 events in 5022 samples, no frame open, 0 bits pending\n";
+    assert_eq!(rig("decode - --thin", &rested), expected);
+    assert_eq!(rig("decode -", &rested), "refused 6: more than 4096 samples\n");
+    let empty = "look 0 events in 0 samples, no frame open, 0 bits pending, no byte in any frame\n";
+    assert_eq!(rig("decode - --thin", ""), empty);
+}
+
+/// A gap is judged between the samples read: where the bus was sampled on, none is long.
+#[test]
+fn gaps_of_a_thinned_record() {
+    let held = [&P7[..10], &[P7[9]; 16][..], &P7[10..]].concat();
+    let output = rig("decode - --thin", record(&held));
+    assert!(output.ends_with("\nok 3 events in 39 samples, no frame open, 0 bits pending\n"), "{output}");
+    assert_eq!(rig("decode - --thin", late(&P7, 10, 850)), rig("decode -", late(&P7, 10, 850)));
+}
+
+#[test]
+fn the_limits_of_a_thinned_record() {
+    let rest = "no frame open, 0 bits pending, no byte in any frame";
+    let many = record(&vec![3; 65_536]);
+    assert_eq!(last("decode - --thin", &many), format!("look 0 events in 65536 samples, {rest}"));
+    let error = "error line 65537: more than 65536 samples\n";
+    assert_eq!(rig("decode - --thin", many.clone() + "9999999 3\nx"), error);
+    assert_eq!(rig("decode - --thin", many.clone() + "5"), error);
+    let error = "error line 65537: expected STAMP LEVEL, two decimal numbers, not 'x'\n";
+    assert_eq!(rig("decode - --thin", many + "x 3"), error);
+    let changing = |count: usize| record(&(0..count).map(|index| [3, 1][index % 2]).collect::<Vec<u8>>());
+    assert!(rig("decode - --thin", changing(4096)).contains(" in 4096 samples, "));
+    assert_eq!(rig("decode - --thin", changing(4097)), "refused 6: more than 4096 samples\n");
+    let no_level = "refused 5: stamps and levels differ in number; line 4098 has no level\n";
+    assert_eq!(rig("decode - --thin", changing(4097) + "999998\n999999 4\n5 3"), no_level);
+    let level = "refused 4 sample 4098 (line 4099): a level is above 3\n";
+    assert_eq!(rig("decode - --thin", changing(4097) + "999998 3\n999999 4\n5 3"), level);
+    let stamp = "refused 7 sample 4098 (line 4099): a stamp is not above the one before it; \
+        its stamp is that of line 4098\n";
+    assert_eq!(rig("decode - --thin", changing(4097) + "999998 3\n999998 3"), stamp);
+}
+
+#[test]
+fn a_dump_is_read_as_ever() {
+    let dump = "$timescale 1 us $end $var wire 1 ! scl $end $var wire 1 \" sda $end $enddefinitions $end\n\
+        #0 1! 1\"\n#5 0\"\n#7 0!\n#9 1!\n#11 1\"\n";
+    let expected = "# a Value Change Dump whose stamps count 1 us\nstart 0\n5: START\n11: STOP\n\
+        look 2 events in 5 samples, no frame open, 0 bits pending, no byte in any frame\n";
+    assert_eq!(rig("decode - --thin", dump), expected);
+}
+
 #[test]
 fn places_and_their_lines() {
     assert_eq!(rig("decode -", "# a\n5 3\n6 4\n"), "refused 4 sample 1 (line 3): a level is above 3\n");

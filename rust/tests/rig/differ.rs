@@ -34,7 +34,7 @@ fn check_found(name: &str, body: &str, options: &[&str], words: &str) {
 #[test]
 fn the_model_is_equal_to_itself() {
     let (equal, output) = differ(MODEL, &["--count", "40", "--seed", "77"]);
-    assert!(equal && output.ends_with("compared 520 runs: all equal\n"), "{output}");
+    assert!(equal && output.ends_with("compared 560 runs: all equal\n"), "{output}");
 }
 
 #[test]
@@ -52,7 +52,8 @@ fn loads_have_a_program_of_their_own() {
     create_dir_all(Path::new(env!("CARGO_TARGET_TMPDIR")).join("two")).unwrap();
     script("two/rig_clash", "rig \"$@\"");
     let wrong = script("two/rig", "echo ok");
-    for kind in ["clash", "draw", "night"] {
+    script("two/rig_match", "rig \"$@\"");
+    for kind in ["clash", "draw", "match", "night"] {
         let (equal, output) = differ(wrong.to_str().unwrap(), &["--count", "20", "--kind", kind]);
         assert!(equal, "{output}");
     }

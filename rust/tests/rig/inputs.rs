@@ -3,6 +3,7 @@
 use rehearsal_model::rig::answer;
 use rehearsal_model::rig::differ::verdict;
 use rehearsal_model::rig::inputs::{Kind, Source, KINDS};
+use rehearsal_model::rig::matching::rules;
 use std::fs::write;
 use std::thread::current;
 
@@ -23,7 +24,7 @@ fn the_same_again() {
         assert_eq!((&first.input, &first.arguments), (&second.input, &second.arguments), "{}", kind.word);
         assert_eq!(first.tonight, second.tonight, "{}", kind.word);
         assert!((0..50).any(|seed| draw(seed).input != first.input), "{}", kind.word);
-        let named = |seed| draw(seed).arguments.contains(&b"FILE".to_vec());
+        let named = |seed| kind.word == "match" || draw(seed).arguments.contains(&b"FILE".to_vec());
         assert!((0..50).any(named) && (0..50).any(|seed| draw(seed).source != Source::File));
     }
 }
@@ -40,9 +41,14 @@ fn every_last_line_is_of_the_right_kind() {
 
 /// Every text of these must occur in some output of the kind.
 fn check_reach(word: &str, texts: &[&str]) {
+    check_reach_within(20_000, word, texts);
+}
+
+/// Within so many cases.
+fn check_reach_within(cases: u64, word: &str, texts: &[&str]) {
     let kind = Kind::named(word).unwrap();
     let mut missing = texts.to_vec();
-    for seed in 0..20_000 {
+    for seed in 0..cases {
         if missing.is_empty() {
             return;
         }
@@ -133,8 +139,55 @@ fn decode_inputs_reach_every_answer() {
         |: the stamp is|: the level is|: longer than|: a byte that is no|cut byte|repeated START\
         |write ACK|read NACK| 0 events| 1 event | 0 samples| 1 sample,|, frame open, 0 bits\
         |1 bit pending, value 0|8 bits pending|note: no sample| doubtful\n|cut byte doubtful|1 long gap\
-        |long gaps|1 cut byte,|cut bytes|no byte in any|\ngap |ok |look |looks like an event list";
+        |long gaps|1 cut byte,|cut bytes|no byte in any|\ngap |ok |look |looks like an event list\
+        |--thin goes with neither|: more than 65536 samples| in 65536 samples";
     check_reach("decode", &texts.split('|').collect::<Vec<_>>());
+}
+
+/// A capture of more samples than a record may have, of which fewer are left.
+#[test]
+fn thinned_captures_are_decoded() {
+    let kind = Kind::named("decode").unwrap();
+    let is_long = |seed| {
+        let output = String::from_utf8_lossy(&output(&kind, seed)).into_owned();
+        let (_, samples) = output.rsplit_once(" in ").unwrap_or_default();
+        let samples = samples.split(' ').next().and_then(|count| count.parse::<u32>().ok());
+        samples.is_some_and(|count| count > 4096) && output.contains(" ACK\n")
+    };
+    assert!((0..2000).any(is_long));
+}
+
+/// All four endings, and frames of every kind.
+#[test]
+fn matches_reach_every_answer() {
+    let texts = "\nok |\nlook |\nrefused 1|\nerror | as rehearsed, 1 byte, won by | bytes, won by \
+        | bytes, cut, won by | undecided between |, message of |, waiting since frame 2\nframe\
+        | bit 7: rehearsed |: rehearsed ACK, bus NACK|: rehearsed NACK, bus ACK|: rehearsed STOP, bus \
+        |, bus STOP|rehearsed repeated START, bus |, bus repeated START|, bus cut byte|, bus nothing\
+        |'s bytes\n|; those are board |not rehearsed: no byte\n|not rehearsed: cut byte\
+        |not rehearsed: 90 ACK\n| NACK / | ACK / |, cut byte\n|not on the bus: upload-00\n\
+        |waiting since frame 1\nnot on|no rehearsal: upload-00, refused|no rehearsal: upload-00, in error\
+        |note: no sample|1 long gap| as rehearsed, 1 waited| different| not rehearsed; \
+        |: again-upload-00 as |1 load not on the bus|1 message not on the bus\
+        |1 load and 1 message not on the bus| loads and | loads refused| load in error|won by board 0\
+        |message of board 1, board 2|expected what rig decode prints, not 'refused'|0 frames\
+        |the rehearsal has no last line|the capture has no last line|a byte that is no text\
+        |: longer than 4096|! line |'s bytes; doubtful\n|; the message of board | in upload-00\n\
+        | in upload-00; doubtful\n|waiting since frame 1; doubtful\n|won by board 0; doubtful\n|ACK; doubtful\n\
+        | in error, 1 fault in the loads\n|; 1 fault in the loads\n| faults in the loads\n";
+    check_reach_within(3000, "match", &texts.split('|').collect::<Vec<_>>());
+    check_reach("match", &["error the rehearsal is too long to be kept: name a load", ": more than 4096"]);
+}
+
+/// Each of the six rules tells many frames: some come twice, are missing or stand in another's place.
+#[test]
+fn matches_reach_every_rule() {
+    let kind = Kind::named("match").unwrap();
+    let mut frames = [0; 7];
+    for seed in 0..3000 {
+        rules(&kind.draw(seed, b"-", b"-").input).into_iter().for_each(|rule| frames[rule] += 1);
+    }
+    assert!(frames[1..].iter().all(|&count| count > 150), "{frames:?}");
 }
 
 /// A record that crossed, as decode and dump tell it.
@@ -203,6 +256,6 @@ fn command_lines_reach_every_answer() {
         |expected a file after --corrections|unknown option '--corrections'|unknown option '--table' for night\
         |unknown option '--room' for night|unknown option '--room' for sort|: sort reads one\
         |expected a load after the file|unexpected '|unknown option '--svg' for\
-        |unknown option '--table' for draw";
+        |unknown option '--table' for draw|unknown option '--thin' for|after match|the rehearsal has no last line";
     check_reach("arguments", &texts.split('|').collect::<Vec<_>>());
 }

@@ -11,6 +11,8 @@ mod differ;
 mod draw;
 mod encode;
 mod inputs;
+mod matching;
+mod matching_input;
 mod night;
 mod refusals;
 mod restarts;

@@ -9,6 +9,7 @@ use decode::Decoded;
 use dump_reader::DumpRead;
 use dump_reader::LONGEST_TEXT;
 use phases::Mode;
+use rig_lines::console::PAGE;
 use rig_lines::console::begin;
 use rig_lines::console::put_form;
 use rig_lines::console::put_line;
@@ -64,7 +65,7 @@ fn line_of(text: &[u8], place: usize) -> u64 {
 }
 
 // The word at a place, where there is one.
-fn put_word(page: &mut [u8], at: usize, text: &[u8], place: usize) -> usize {
+fn put_word(page: &mut [u8; PAGE], at: usize, text: &[u8], place: usize) -> usize {
     let from = parts::bytes(place, text);
     let word = first_word(first_line(&text[from..]));
     if word.len() == 0 {
@@ -74,12 +75,12 @@ fn put_word(page: &mut [u8], at: usize, text: &[u8], place: usize) -> usize {
     put_quoted(page, next, word)
 }
 
-fn put_at_byte(page: &mut [u8], at: usize, text: &[u8], number: u8, place: usize) -> usize {
+fn put_at_byte(page: &mut [u8; PAGE], at: usize, text: &[u8], number: u8, place: usize) -> usize {
     let words = put_byte_refusal(page, at, number, place, line_of(text, place));
     put_word(page, words, text, place)
 }
 
-fn put_refused(page: &mut [u8], at: usize, text: &[u8], number: u8, place: usize) -> usize {
+fn put_refused(page: &mut [u8; PAGE], at: usize, text: &[u8], number: u8, place: usize) -> usize {
     match number {
         6 | 26 => put_refusal(page, at, number),
         _ => put_at_byte(page, at, text, number, place),
@@ -95,7 +96,7 @@ fn hint_place(number: u8) -> usize {
 }
 
 // What to do about a refusal.
-fn put_hint(page: &mut [u8], at: usize, number: u8) -> usize {
+fn put_hint(page: &mut [u8; PAGE], at: usize, number: u8) -> usize {
     let next = put_bytes(page, at, b"; ");
     put_line(
         page,
@@ -114,7 +115,7 @@ export a Value Change Dump of SCL and SDA alone
 }
 
 // A dump that is not read.
-fn refuse(page: &mut [u8], at: usize, text: &[u8], number: u8, place: usize) -> usize {
+fn refuse(page: &mut [u8; PAGE], at: usize, text: &[u8], number: u8, place: usize) -> usize {
     let from = begin(page, at);
     let words = put_refused(page, from, text, number, place);
     let hint = put_hint(page, words, number);
@@ -122,7 +123,7 @@ fn refuse(page: &mut [u8], at: usize, text: &[u8], number: u8, place: usize) -> 
 }
 
 // A timescale as it is said: 1, 10 or 100 of a unit.
-fn put_unit(page: &mut [u8], at: usize, timescale: u64) -> usize {
+fn put_unit(page: &mut [u8; PAGE], at: usize, timescale: u64) -> usize {
     let mut left = timescale;
     let mut unit: usize = 0;
     while left >= 1000 {
@@ -134,7 +135,7 @@ fn put_unit(page: &mut [u8], at: usize, timescale: u64) -> usize {
 }
 
 // What the stamps count.
-fn show_unit(page: &mut [u8], at: usize, timescale: u64) -> usize {
+fn show_unit(page: &mut [u8; PAGE], at: usize, timescale: u64) -> usize {
     if timescale == 0 {
         return say(page, at, b"# a Value Change Dump with no timescale");
     }
@@ -144,14 +145,14 @@ fn show_unit(page: &mut [u8], at: usize, timescale: u64) -> usize {
     end(page, unit)
 }
 
-fn put_option(page: &mut [u8], at: usize, mode: Mode) -> usize {
+fn put_option(page: &mut [u8; PAGE], at: usize, mode: Mode) -> usize {
     match mode {
         Mode::Standard => put_bytes(page, at, b"--standard"),
         _ => put_bytes(page, at, b"--fast"),
     }
 }
 
-fn put_counted(page: &mut [u8], at: usize, timescale: u64) -> usize {
+fn put_counted(page: &mut [u8; PAGE], at: usize, timescale: u64) -> usize {
     if timescale == 0 {
         return put_bytes(page, at, b"has no timescale");
     }
@@ -160,7 +161,7 @@ fn put_counted(page: &mut [u8], at: usize, timescale: u64) -> usize {
 }
 
 // A dump whose stamps count something else than a mode needs.
-fn unfit(page: &mut [u8], at: usize, mode: Mode, timescale: u64) -> usize {
+fn unfit(page: &mut [u8; PAGE], at: usize, mode: Mode, timescale: u64) -> usize {
     let from = begin(page, at);
     let error = put_bytes(page, from, b"error ");
     let option = put_option(page, error, mode);
@@ -188,7 +189,13 @@ fn stamp_at(stamps: &[u32], place: usize) -> u32 {
 }
 
 // A trace that is not decoded.
-fn refuse_trace(page: &mut [u8], at: usize, stamps: &[u32], number: u8, place: usize) -> usize {
+fn refuse_trace(
+    page: &mut [u8; PAGE],
+    at: usize,
+    stamps: &[u32],
+    number: u8,
+    place: usize,
+) -> usize {
     let from = begin(page, at);
     if number == 18 {
         let phase = put_stamp_refusal(page, from, number, place, stamp_at(stamps, place));
@@ -200,7 +207,7 @@ fn refuse_trace(page: &mut [u8], at: usize, stamps: &[u32], number: u8, place: u
 
 // Hands a trace to the library, and shows what it answers.
 fn answer(
-    page: &mut [u8],
+    page: &mut [u8; PAGE],
     at: usize,
     stamps: &[u32],
     levels: &[u8],
@@ -230,7 +237,7 @@ fn answer(
 
 // Decodes what was read, so many samples.
 fn decoded(
-    page: &mut [u8],
+    page: &mut [u8; PAGE],
     at: usize,
     stamps: &[u32],
     levels: &[u8],
@@ -254,7 +261,7 @@ fn decoded(
     )
 }
 
-fn read(page: &mut [u8], at: usize, text: &[u8], room: usize, mode: Mode) -> usize {
+fn read(page: &mut [u8; PAGE], at: usize, text: &[u8], room: usize, mode: Mode) -> usize {
     let mut stamps = [0u32; MAX_SAMPLES];
     let mut levels = [0u8; MAX_SAMPLES];
     match dump_reader::read(text, &mut stamps, &mut levels) {
@@ -270,7 +277,7 @@ fn read(page: &mut [u8], at: usize, text: &[u8], room: usize, mode: Mode) -> usi
 
 // Reads a dump, unless the input failed within its text.
 pub(crate) fn run(
-    page: &mut [u8],
+    page: &mut [u8; PAGE],
     at: usize,
     text: &[u8],
     source: Source,

@@ -1,4 +1,5 @@
 // A stamp that does not rise: packets of samples that look exchanged on the way.
+use rig_lines::console::PAGE;
 use rig_lines::console::put_form;
 use rig_lines::store;
 use text::put_bytes;
@@ -52,7 +53,7 @@ fn last_below(stamps: &[u32], from: usize, limit: u32) -> usize {
 }
 
 // The lines from one sample to another, or the one line.
-fn put_lines(page: &mut [u8], at: usize, lines: &[u64], first: usize, last: usize) -> usize {
+fn put_lines(page: &mut [u8; PAGE], at: usize, lines: &[u64], first: usize, last: usize) -> usize {
     let numbers = [store::line_at(lines, first), store::line_at(lines, last)];
     if first == last {
         return put_form(page, at, b"#", &numbers);
@@ -62,7 +63,7 @@ fn put_lines(page: &mut [u8], at: usize, lines: &[u64], first: usize, last: usiz
 
 // Which lines look exchanged.
 fn put_exchanged(
-    page: &mut [u8],
+    page: &mut [u8; PAGE],
     at: usize,
     stamps: &[u32],
     lines: &[u64],
@@ -83,7 +84,7 @@ fn put_exchanged(
 
 // What is added to the refusal of a sample whose stamp does not rise.
 pub(crate) fn put(
-    page: &mut [u8],
+    page: &mut [u8; PAGE],
     at: usize,
     stamps: &[u32],
     lines: &[u64],

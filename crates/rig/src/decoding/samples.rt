@@ -1,13 +1,16 @@
 // A trace, one sample a line: stamp and level in decimal.
+use super::captured::TEXT;
 use crate::hints;
 use crate::lines::end;
 use crate::lines::put_not;
 use crate::trouble;
 use crate::trouble::put_fault;
 use check::same;
+use rig_lines::console::PAGE;
 use rig_lines::console::put_quoted;
 use rig_lines::input;
 use rig_lines::input::Line;
+use rig_lines::input::ROOM;
 use rig_lines::input::Source;
 use rig_lines::input::Taken;
 use rig_lines::numbers::is_number;
@@ -21,12 +24,19 @@ use trace::MAX_STAMP;
 // One sample more than a trace may have, so that the library sees a trace that is too long.
 pub(crate) const SAMPLES: usize = MAX_SAMPLES + 1;
 
+// The same of a capture that is thinned first.
+pub(crate) const THINNED: usize = 65536;
+
+pub(crate) const CAPTURE: usize = THINNED + 1;
+
 const LARGEST_LEVEL: u64 = 255;
 
 pub(crate) struct Reading {
     source: Source,
     // where the page goes on
     pub(crate) at: usize,
+    // how many samples are read at most
+    limit: usize,
     pub(crate) stamps: usize,
     pub(crate) levels: usize,
     // the first line with a stamp and no level
@@ -101,10 +111,11 @@ fn word_at(line: &[u8], place: usize) -> &[u8] {
 }
 
 impl Reading {
-    fn new(source: Source, at: usize) -> Reading {
+    pub(crate) fn new(source: Source, at: usize, limit: usize) -> Reading {
         Reading {
             source,
             at,
+            limit,
             stamps: 0,
             levels: 0,
             unpaired: 0,
@@ -121,8 +132,13 @@ impl Reading {
     fn with_counts(mut self, stamps: usize, levels: usize) -> Reading {
         self.stamps = stamps;
         self.levels = levels;
-        self.more = stamps < SAMPLES;
+        self.more = stamps < self.limit;
         self
+    }
+
+    // The line that was read last.
+    pub(crate) fn line(self) -> u64 {
+        self.source.line
     }
 
     fn with_unpaired(mut self) -> Reading {
@@ -145,12 +161,12 @@ impl Reading {
         self
     }
 
-    fn unread(self, page: &mut [u8], found: Line) -> Reading {
+    fn unread(self, page: &mut [u8; PAGE], found: Line) -> Reading {
         let from = self.source;
         self.failed(trouble::unread(page, self.at, found, from))
     }
 
-    fn malformed(self, page: &mut [u8], line: &[u8], place: usize) -> Reading {
+    fn malformed(self, page: &mut [u8; PAGE], line: &[u8], place: usize) -> Reading {
         let error = put_fault(
             page,
             self.at,
@@ -163,7 +179,7 @@ impl Reading {
     }
 
     // A number above its limit.
-    fn too_large(self, page: &mut [u8], words: &[u8], word: &[u8]) -> Reading {
+    fn too_large(self, page: &mut [u8; PAGE], words: &[u8], word: &[u8]) -> Reading {
         let error = put_fault(page, self.at, self.source.line, words);
         let met = put_quoted(page, error, word);
         self.failed(end(page, met))
@@ -172,12 +188,12 @@ impl Reading {
 
 // Stores what a line says.
 fn stored(
-    page: &mut [u8],
+    page: &mut [u8; PAGE],
     reading: Reading,
     line: &[u8],
-    stamps: &mut [u32],
-    levels: &mut [u8],
-    lines: &mut [u64],
+    stamps: &mut [u32; CAPTURE],
+    levels: &mut [u8; CAPTURE],
+    lines: &mut [u64; CAPTURE],
 ) -> Reading {
     match parse(line) {
         Sample::Nothing => reading,
@@ -205,13 +221,13 @@ fn stored(
 
 // Follows what taking a line found.
 fn followed(
-    page: &mut [u8],
+    page: &mut [u8; PAGE],
     reading: Reading,
     taken: Taken,
     line: &[u8],
-    stamps: &mut [u32],
-    levels: &mut [u8],
-    lines: &mut [u64],
+    stamps: &mut [u32; CAPTURE],
+    levels: &mut [u8; CAPTURE],
+    lines: &mut [u64; CAPTURE],
 ) -> Reading {
     let found = taken.line;
     let after = taken.source;
@@ -223,26 +239,38 @@ fn followed(
     }
 }
 
-pub(crate) fn read_all(
-    page: &mut [u8],
-    at: usize,
-    piece: &mut [u8],
-    line: &mut [u8],
-    source: Source,
-    stamps: &mut [u32],
-    levels: &mut [u8],
-    lines: &mut [u64],
+// The next line.
+fn with_next(
+    page: &mut [u8; PAGE],
+    reading: Reading,
+    piece: &mut [u8; TEXT],
+    line: &mut [u8; ROOM],
+    stamps: &mut [u32; CAPTURE],
+    levels: &mut [u8; CAPTURE],
+    lines: &mut [u64; CAPTURE],
 ) -> Reading {
-    let mut reading = Reading::new(source, at);
+    let from = reading.source;
+    let taken = input::next_line(piece, line, from);
+    followed(page, reading, taken, line, stamps, levels, lines)
+}
+
+pub(crate) fn read_all(
+    page: &mut [u8; PAGE],
+    begun: Reading,
+    piece: &mut [u8; TEXT],
+    line: &mut [u8; ROOM],
+    stamps: &mut [u32; CAPTURE],
+    levels: &mut [u8; CAPTURE],
+    lines: &mut [u64; CAPTURE],
+) -> Reading {
+    let mut reading = begun;
     let mut turns = u64::MAX;
     while turns > 0 {
+        turns -= 1;
         if !reading.more {
             return reading;
         }
-        let from = reading.source;
-        let taken = input::next_line(piece, line, from);
-        reading = followed(page, reading, taken, line, stamps, levels, lines);
-        turns -= 1;
+        reading = with_next(page, reading, piece, line, stamps, levels, lines);
     }
     reading
 }

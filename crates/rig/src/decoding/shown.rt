@@ -3,6 +3,7 @@ use crate::lines::end;
 use crate::lines::tell;
 use decode::Decoder;
 use decode::Listed;
+use rig_lines::console::PAGE;
 use rig_lines::console::begin;
 use rig_lines::console::put_form;
 use rig_lines::numbers::more;
@@ -38,7 +39,7 @@ fn inside(framed: bool, usual: u64) -> u64 {
     if framed { usual } else { 0 }
 }
 
-fn put_doubt(page: &mut [u8], at: usize, doubtful: bool) -> usize {
+fn put_doubt(page: &mut [u8; PAGE], at: usize, doubtful: bool) -> usize {
     if doubtful {
         return put_bytes(page, at, b" doubtful");
     }
@@ -71,7 +72,7 @@ impl Shown {
         self
     }
 
-    fn with_event(self, page: &mut [u8], event: u16, stamp: u32) -> Shown {
+    fn with_event(self, page: &mut [u8; PAGE], event: u16, stamp: u32) -> Shown {
         let from = begin(page, self.at);
         let stamped = put_form(page, from, b"#: ", &[stamp as u64]);
         let words = trace_text::show(page, stamped, event, self.addressed);
@@ -79,7 +80,7 @@ impl Shown {
         self.after(event, end(page, judged))
     }
 
-    fn with_listed(self, page: &mut [u8], listed: Listed, stamp: u32) -> Shown {
+    fn with_listed(self, page: &mut [u8; PAGE], listed: Listed, stamp: u32) -> Shown {
         match listed {
             Listed::Nothing => self,
             Listed::One(event) => self.with_event(page, event, stamp),
@@ -90,7 +91,14 @@ impl Shown {
         }
     }
 
-    fn with_note(mut self, page: &mut [u8], from: u32, to: u32, line: u64, times: u64) -> Shown {
+    fn with_note(
+        mut self,
+        page: &mut [u8; PAGE],
+        from: u32,
+        to: u32,
+        line: u64,
+        times: u64,
+    ) -> Shown {
         self.at = tell(
             page,
             self.at,
@@ -103,7 +111,7 @@ impl Shown {
     }
 
     // A gap, with the line of the sample that ends it, and the usual gap; 0: it is not judged.
-    fn with_gap(self, page: &mut [u8], from: u32, to: u32, line: u64, usual: u64) -> Shown {
+    fn with_gap(self, page: &mut [u8; PAGE], from: u32, to: u32, line: u64, usual: u64) -> Shown {
         let gap = apart(from, to);
         if usual == 0 {
             return self;
@@ -117,7 +125,7 @@ impl Shown {
 
 // Shows the events of a trace, whose usual gap inside frames is given.
 pub(crate) fn show_all(
-    page: &mut [u8],
+    page: &mut [u8; PAGE],
     at: usize,
     stamps: &[u32],
     levels: &[u8],
@@ -133,14 +141,15 @@ pub(crate) fn show_all(
             return shown;
         }
         let stamp = stamps[i];
-        let judged = inside(decoder.framed, usual);
-        shown = shown.with_gap(page, last, stamp, store::line_at(lines, i), judged);
-        let step = decoder.step(levels[i]);
+        let level = levels[i];
+        let line = store::line_at(lines, i);
+        i += 1;
+        shown = shown.with_gap(page, last, stamp, line, inside(decoder.framed, usual));
+        let step = decoder.step(level);
         let listed = step.listed;
         shown = shown.with_listed(page, listed, stamp);
         decoder = step.decoder;
         last = stamp;
-        i += 1;
     }
     shown
 }

@@ -3,13 +3,14 @@ use crate::hints;
 use crate::lines::end;
 use crate::lines::put_not;
 use crate::trouble::put_fault;
+use rig_lines::console::PAGE;
 use rig_lines::console::put_quoted;
 use text::after_word;
 use text::first_word;
 
 // Words that are none of the forms, of which one is shown.
 pub(crate) fn malformed(
-    page: &mut [u8],
+    page: &mut [u8; PAGE],
     at: usize,
     number: u64,
     line: &[u8],
@@ -27,7 +28,7 @@ pub(crate) fn malformed(
 }
 
 // `write` with an odd byte, or `read` with an even one.
-pub(crate) fn wrong_direction(page: &mut [u8], at: usize, number: u64, word: &[u8]) -> usize {
+pub(crate) fn wrong_direction(page: &mut [u8; PAGE], at: usize, number: u64, word: &[u8]) -> usize {
     let error = put_fault(
         page,
         at,
@@ -39,14 +40,14 @@ pub(crate) fn wrong_direction(page: &mut [u8], at: usize, number: u64, word: &[u
 }
 
 // Too many events; whether the list looks like a trace.
-pub(crate) fn crowded(page: &mut [u8], at: usize, number: u64, trace: bool) -> usize {
+pub(crate) fn crowded(page: &mut [u8; PAGE], at: usize, number: u64, trace: bool) -> usize {
     let error = put_fault(page, at, number, b"more than 4096 events");
     let hint = hints::put_trace(page, error, trace);
     end(page, hint)
 }
 
 // The second word after a setting's name, else the first, as the one that was met.
-fn put_last(page: &mut [u8], at: usize, rest: &[u8]) -> usize {
+fn put_last(page: &mut [u8; PAGE], at: usize, rest: &[u8]) -> usize {
     let first = first_word(rest);
     let second = first_word(after_word(rest));
     if second.len() > 0 {
@@ -60,7 +61,7 @@ fn put_last(page: &mut [u8], at: usize, rest: &[u8]) -> usize {
 
 // No number after `start` or `gap`, or more than one.
 pub(crate) fn no_setting(
-    page: &mut [u8],
+    page: &mut [u8; PAGE],
     at: usize,
     number: u64,
     words: &[u8],

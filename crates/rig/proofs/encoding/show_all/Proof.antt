@@ -1,13 +1,11 @@
--- `rig::encoding::show_all` is safe and ends: fewer samples are left.
-use mathlib.Core.Path.{_≡_}
+-- `rig::encoding::show_all` is safe and ends.
 use Prim.Native.Nat.{_-_}
-use lib.ListN.{length}
 use borrow.Author.Needs.{needs}
 use Rattle.rig.proofs.encoding.show_all.Statement.{statement}
 use Rattle.rig.proofs.encoding.show_all.Tie as tie
 
 abbrev Inv-loop : tie.InvT-loop
-Inv-loop page₀ at stamps levels count next₀ i₀ page next i = length page ≡ length page₀
+Inv-loop page₀ at stamps levels count next₀ i₀ page next i = Unit {0}
 
 abbrev μ-loop : tie.MeasureT-loop
 μ-loop page₀ at stamps levels count next₀ i₀ page next i = count - i
@@ -27,22 +25,10 @@ loop-less c = search needs
 loop-again : tie.Need-loop-again Inv-loop μ-loop
 loop-again c = search needs
 
-same-length : tie.Need-same-length Inv-loop μ-loop
-same-length c = search needs
-
 returns : tie.Need-returns Inv-loop μ-loop
 returns c = search needs
 
 pub show-all-spec : {M : Type 1} → statement M
 show-all-spec =
     tie.close
-    (tie.spec
-    Inv-loop
-    μ-loop
-    loop-holds
-    show-at-requires
-    add-i
-    loop-less
-    loop-again
-    same-length
-    returns)
+    (tie.spec Inv-loop μ-loop loop-holds show-at-requires add-i loop-less loop-again returns)

@@ -40,9 +40,6 @@ slice-aggregate-put-line c = search needs
 put-line-requires : tie.Need-put-line-requires Inv-loop μ-loop
 put-line-requires c κs = search needs
 
-same-length : tie.Need-same-length Inv-loop μ-loop
-same-length c = search needs
-
 returns : tie.Need-returns Inv-loop μ-loop
 returns c = search needs
 
@@ -62,5 +59,4 @@ put-unit-spec =
     put-form-requires
     slice-aggregate-put-line
     put-line-requires
-    same-length
     returns)

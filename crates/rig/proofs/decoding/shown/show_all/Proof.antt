@@ -1,15 +1,12 @@
--- `rig::decoding::shown::show_all` is safe and ends: fewer samples are left.
-use mathlib.Core.Path.{_≡_}
+-- `rig::decoding::shown::show_all` is safe and ends.
 use Prim.Native.Nat.{_-_}
-use native.Mathlib.Omega.{arith}
 use lib.ListN.{length}
 use borrow.Author.Needs.{needs}
 use Rattle.rig.proofs.decoding.shown.show_all.Statement.{statement}
 use Rattle.rig.proofs.decoding.shown.show_all.Tie as tie
 
 abbrev Inv-loop : tie.InvT-loop
-Inv-loop page₀ at stamps levels lines usual decoder₀ shown₀ last₀ i₀ page decoder shown last i =
-    length page ≡ length page₀
+Inv-loop page₀ at stamps levels lines usual decoder₀ shown₀ last₀ i₀ page decoder shown last i = Unit {0}
 
 abbrev μ-loop : tie.MeasureT-loop
 μ-loop page₀ at stamps levels lines usual decoder₀ shown₀ last₀ i₀ page decoder shown last i = length stamps - i
@@ -23,9 +20,6 @@ new-requires c κs = search needs
 loop-holds : tie.Need-loop-holds Inv-loop μ-loop
 loop-holds c = search needs
 
-same-length : tie.Need-same-length Inv-loop μ-loop
-same-length c = search needs
-
 returns : tie.Need-returns Inv-loop μ-loop
 returns c = search needs
 
@@ -35,17 +29,20 @@ mul-stamp c = search needs
 shared-slice-read-stamp : tie.Need-shared-slice-read-stamp Inv-loop μ-loop
 shared-slice-read-stamp c = search needs
 
-inside-requires : tie.Need-inside-requires Inv-loop μ-loop
-inside-requires c κs = search needs
+shared-slice-read-level : tie.Need-shared-slice-read-level Inv-loop μ-loop
+shared-slice-read-level c = search needs
 
 line-at-requires : tie.Need-line-at-requires Inv-loop μ-loop
 line-at-requires c κs = search needs
 
+add-i : tie.Need-add-i Inv-loop μ-loop
+add-i c = search needs
+
+inside-requires : tie.Need-inside-requires Inv-loop μ-loop
+inside-requires c κs = search needs
+
 with-gap-requires : tie.Need-with-gap-requires Inv-loop μ-loop
 with-gap-requires c κs = search needs
-
-shared-slice-read-step : tie.Need-shared-slice-read-step Inv-loop μ-loop
-shared-slice-read-step c = search needs
 
 step-requires : tie.Need-step-requires Inv-loop μ-loop
 step-requires c κs = search needs
@@ -53,30 +50,11 @@ step-requires c κs = search needs
 with-listed-requires : tie.Need-with-listed-requires Inv-loop μ-loop
 with-listed-requires c κs = search needs
 
-add-i : tie.Need-add-i Inv-loop μ-loop
-add-i c =
-    let at-loop-test =
-    c .before .before .before .before .before .before .before .before .before .before .before
-    .before .before .before .before in
-    let at-good = at-loop-test .before .before .before .before .before .before .before .before in
-    omega (arith, at-loop-test .loop-test .taken, at-good .good)
-
 loop-less : tie.Need-loop-less Inv-loop μ-loop
-loop-less c =
-    let at-loop-test =
-    c .before .before .before .before .before .before .before .before .before .before .before
-    .before .before .before .before in
-    omega (arith, at-loop-test .loop-test .taken)
+loop-less c = search needs
 
 loop-again : tie.Need-loop-again Inv-loop μ-loop
-loop-again c =
-    let at-with-listed = c .before .before .before in
-    let at-with-gap = at-with-listed .before .before .before .before .before .before in
-    let at-loop = at-with-gap .before .before .before .before .before .before .before in
-    omega (arith, at-with-listed .with-listed .kept, at-with-gap .with-gap .kept, at-loop .loop .inv)
-
-same-length-2 : tie.Need-same-length-2 Inv-loop μ-loop
-same-length-2 c = search needs
+loop-again c = search needs
 
 returns-2 : tie.Need-returns-2 Inv-loop μ-loop
 returns-2 c = search needs
@@ -90,18 +68,16 @@ show-all-spec =
     idle-requires
     new-requires
     loop-holds
-    same-length
     returns
     mul-stamp
     shared-slice-read-stamp
-    inside-requires
+    shared-slice-read-level
     line-at-requires
+    add-i
+    inside-requires
     with-gap-requires
-    shared-slice-read-step
     step-requires
     with-listed-requires
-    add-i
     loop-less
     loop-again
-    same-length-2
     returns-2)

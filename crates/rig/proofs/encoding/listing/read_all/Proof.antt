@@ -1,15 +1,10 @@
--- `rig::encoding::listing::read_all` is safe and ends: the turns that are left fall.
-use mathlib.Core.Path.{_≡_}
-use lib.ListN.{length}
-use native.Mathlib.Omega.{arith}
+-- `rig::encoding::listing::read_all` is safe and ends.
 use borrow.Author.Needs.{needs}
 use Rattle.rig.proofs.encoding.listing.read_all.Statement.{statement}
 use Rattle.rig.proofs.encoding.listing.read_all.Tie as tie
 
 abbrev Inv-loop : tie.InvT-loop
-Inv-loop page₀ at piece₀ line₀ events₀ listing₀ turns₀ page piece line events listing turns =
-    (length page ≡ length page₀) × (length piece ≡ length piece₀) × (length line ≡ length line₀) ×
-    (length events ≡ length events₀)
+Inv-loop page₀ at piece₀ line₀ events₀ listing₀ turns₀ page piece line events listing turns = Unit {0}
 
 abbrev μ-loop : tie.MeasureT-loop
 μ-loop page₀ at piece₀ line₀ events₀ listing₀ turns₀ page piece line events listing turns = turns
@@ -20,59 +15,20 @@ new-requires c κs = search needs
 loop-holds : tie.Need-loop-holds Inv-loop μ-loop
 loop-holds c = search needs
 
-same-length : tie.Need-same-length Inv-loop μ-loop
-same-length c = search needs
-
-same-length-2 : tie.Need-same-length-2 Inv-loop μ-loop
-same-length-2 c = search needs
-
-same-length-3 : tie.Need-same-length-3 Inv-loop μ-loop
-same-length-3 c = search needs
-
-same-length-4 : tie.Need-same-length-4 Inv-loop μ-loop
-same-length-4 c = search needs
+sub-turns : tie.Need-sub-turns Inv-loop μ-loop
+sub-turns c = search needs
 
 returns : tie.Need-returns Inv-loop μ-loop
 returns c = search needs
 
-next-line-requires : tie.Need-next-line-requires Inv-loop μ-loop
-next-line-requires c κs = search needs
-
-followed-requires : tie.Need-followed-requires Inv-loop μ-loop
-followed-requires c κs = search needs
-
-sub-turns : tie.Need-sub-turns Inv-loop μ-loop
-sub-turns c =
-    let at-loop-test =
-    c .before .before .before .before .before .before .before .before .before .before .before
-    .before .before .before .before .before .before .before in
-    omega (arith, at-loop-test .loop-test .taken)
+with-next-requires : tie.Need-with-next-requires Inv-loop μ-loop
+with-next-requires c κs = search needs
 
 loop-less : tie.Need-loop-less Inv-loop μ-loop
-loop-less c =
-    let at-loop-test =
-    c .before .before .before .before .before .before .before .before .before .before .before
-    .before .before .before .before .before .before .before in
-    omega (arith, at-loop-test .loop-test .taken)
+loop-less c = search needs
 
 loop-again : tie.Need-loop-again Inv-loop μ-loop
-loop-again c =
-    let at-followed = c .before .before .before .before in
-    let at-next-line = at-followed .before .before .before .before .before .before .before .before in
-    let at-loop = at-next-line .before .before .before .before .before .before .before in
-    omega (arith, at-followed .followed .kept, at-next-line .next-line .kept, at-loop .loop .inv)
-
-same-length-5 : tie.Need-same-length-5 Inv-loop μ-loop
-same-length-5 c = search needs
-
-same-length-6 : tie.Need-same-length-6 Inv-loop μ-loop
-same-length-6 c = search needs
-
-same-length-7 : tie.Need-same-length-7 Inv-loop μ-loop
-same-length-7 c = search needs
-
-same-length-8 : tie.Need-same-length-8 Inv-loop μ-loop
-same-length-8 c = search needs
+loop-again c = search needs
 
 returns-2 : tie.Need-returns-2 Inv-loop μ-loop
 returns-2 c = search needs
@@ -85,18 +41,9 @@ read-all-spec =
     μ-loop
     new-requires
     loop-holds
-    same-length
-    same-length-2
-    same-length-3
-    same-length-4
-    returns
-    next-line-requires
-    followed-requires
     sub-turns
+    returns
+    with-next-requires
     loop-less
     loop-again
-    same-length-5
-    same-length-6
-    same-length-7
-    same-length-8
     returns-2)

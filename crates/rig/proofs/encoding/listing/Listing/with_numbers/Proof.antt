@@ -1,29 +1,22 @@
--- `rig::encoding::listing::Listing::with_numbers` is safe and ends: each turn leaves a shorter line.
-use mathlib.Core.Path.{_≡_}
-use lib.ListN.{length}
-use Rattle.rig_lines.proofs.Words.{past-word}
+-- `rig::encoding::listing::Listing::with_numbers` is safe and ends.
 use borrow.Author.Needs.{needs}
 use Rattle.rig.proofs.encoding.listing.Listing.with_numbers.Statement.{statement}
 use Rattle.rig.proofs.encoding.listing.Listing.with_numbers.Tie as tie
 
 abbrev Inv-loop : tie.InvT-loop
-Inv-loop page₀ events₀ line words listing₀ rest₀ page events listing rest =
-    (length page ≡ length page₀) × (length events ≡ length events₀)
+Inv-loop page₀ events₀ line words listing₀ rest₀ left₀ page events listing rest left = Unit {0}
 
 abbrev μ-loop : tie.MeasureT-loop
-μ-loop page₀ events₀ line words listing₀ rest₀ page events listing rest = length rest
+μ-loop page₀ events₀ line words listing₀ rest₀ left₀ page events listing rest left = left
 
 loop-holds : tie.Need-loop-holds Inv-loop μ-loop
 loop-holds c = search needs
 
+sub-left : tie.Need-sub-left Inv-loop μ-loop
+sub-left c = search needs
+
 first-word-requires : tie.Need-first-word-requires Inv-loop μ-loop
 first-word-requires c κs = search needs
-
-same-length : tie.Need-same-length Inv-loop μ-loop
-same-length c = search needs
-
-same-length-2 : tie.Need-same-length-2 Inv-loop μ-loop
-same-length-2 c = search needs
 
 returns : tie.Need-returns Inv-loop μ-loop
 returns c = search needs
@@ -38,19 +31,10 @@ after-word-requires : tie.Need-after-word-requires Inv-loop μ-loop
 after-word-requires c κs = search needs
 
 loop-less : tie.Need-loop-less Inv-loop μ-loop
-loop-less c =
-    let at-if1 = c .before .before .before .before .before .before .before .before .before .before in
-    let at-first-word = at-if1 .before in
-    past-word _ _ _ (at-first-word .first-word .ensures) (c .after-word .ensures) (at-if1 .if1 .taken)
+loop-less c = search needs
 
 loop-again : tie.Need-loop-again Inv-loop μ-loop
 loop-again c = search needs
-
-same-length-3 : tie.Need-same-length-3 Inv-loop μ-loop
-same-length-3 c = search needs
-
-same-length-4 : tie.Need-same-length-4 Inv-loop μ-loop
-same-length-4 c = search needs
 
 returns-2 : tie.Need-returns-2 Inv-loop μ-loop
 returns-2 c = search needs
@@ -62,15 +46,12 @@ with-numbers-spec =
     Inv-loop
     μ-loop
     loop-holds
+    sub-left
     first-word-requires
-    same-length
-    same-length-2
     returns
     first-word-requires-2
     with-number-requires
     after-word-requires
     loop-less
     loop-again
-    same-length-3
-    same-length-4
     returns-2)

@@ -1,8 +1,8 @@
--- `rig_clash::svg::put_bits` is safe and ends.
+-- `rig_clash::cells::put_bits` is safe and ends.
 use Prim.Native.Nat.{_-_}
 use borrow.Author.Needs.{needs}
-use Rattle.rig_clash.proofs.svg.put_bits.Statement.{statement}
-use Rattle.rig_clash.proofs.svg.put_bits.Tie as tie
+use Rattle.rig_clash.proofs.cells.put_bits.Statement.{statement}
+use Rattle.rig_clash.proofs.cells.put_bits.Tie as tie
 
 abbrev Inv-loop : tie.InvT-loop
 Inv-loop page₀ at byte ack column y next₀ bit₀ page next bit = Unit {0}

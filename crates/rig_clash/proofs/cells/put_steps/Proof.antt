@@ -1,8 +1,8 @@
--- `rig_clash::svg::put_steps` is safe and ends.
+-- `rig_clash::cells::put_steps` is safe and ends.
 use Prim.Native.Nat.{_-_}
 use borrow.Author.Needs.{needs}
-use Rattle.rig_clash.proofs.svg.put_steps.Statement.{statement}
-use Rattle.rig_clash.proofs.svg.put_steps.Tie as tie
+use Rattle.rig_clash.proofs.cells.put_steps.Statement.{statement}
+use Rattle.rig_clash.proofs.cells.put_steps.Tie as tie
 
 abbrev Inv-loop : tie.InvT-loop
 Inv-loop page₀ at levels from end sda y next₀ i₀ page next i = Unit {0}

@@ -1,8 +1,8 @@
--- `rig_clash::svg::put_cells` is safe and ends.
+-- `rig_clash::cells::put_cells` is safe and ends.
 use Prim.Native.Nat.{_-_}
 use borrow.Author.Needs.{needs}
-use Rattle.rig_clash.proofs.svg.put_cells.Statement.{statement}
-use Rattle.rig_clash.proofs.svg.put_cells.Tie as tie
+use Rattle.rig_clash.proofs.cells.put_cells.Statement.{statement}
+use Rattle.rig_clash.proofs.cells.put_cells.Tie as tie
 
 abbrev Inv-loop : tie.InvT-loop
 Inv-loop page₀ at carried acks parts first y end next₀ byte₀ page next byte = Unit {0}

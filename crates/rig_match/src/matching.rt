@@ -1,0 +1,176 @@
+// Each frame of the capture held against the loads, in their order.
+use crate::boards;
+use crate::book::EVENT_ROOM;
+use crate::book::MET;
+use crate::book::NAME_ROOM;
+use crate::book::ROW_ROOM;
+use crate::book::STATE;
+use crate::book::after;
+use crate::book::set;
+use crate::book::span;
+use crate::capture::EVENTS;
+use crate::ending;
+use crate::found;
+use crate::found::Found;
+use crate::frames;
+use crate::reading::Reading;
+use crate::reported;
+use crate::search;
+use rig_lines::console::PAGE;
+use rig_lines::numbers::more;
+
+// How far the frames are held against the loads, and what became of them.
+pub(crate) struct Matching {
+    // where the page goes on
+    pub(crate) at: usize,
+    // the row of the next load; past the rows where there is none
+    next: usize,
+    pub(crate) frames: u64,
+    pub(crate) rehearsed: u64,
+    pub(crate) waited: u64,
+    pub(crate) different: u64,
+    pub(crate) other: u64,
+}
+
+impl Matching {
+    fn new(at: usize, next: usize) -> Matching {
+        Matching {
+            at,
+            next,
+            frames: 0,
+            rehearsed: 0,
+            waited: 0,
+            different: 0,
+            other: 0,
+        }
+    }
+
+    fn moved(mut self, at: usize, next: usize) -> Matching {
+        self.at = at;
+        self.next = next;
+        self
+    }
+
+    // With one frame more, which was found to be something.
+    fn counted(mut self, found: Found) -> Matching {
+        self.frames = more(self.frames);
+        match found {
+            Found::Waiting(_) => self.waited = more(self.waited),
+            Found::Rehearsed(_) => self.rehearsed = more(self.rehearsed),
+            Found::Different => self.different = more(self.different),
+            Found::Other => self.other = more(self.other),
+        }
+        self
+    }
+}
+
+// The load and its boards after a frame that is about it.
+fn settle(
+    book: &mut [u32; ROW_ROOM],
+    rows: usize,
+    events: &[u16],
+    frame: &[u16],
+    load: usize,
+    found: Found,
+    number: usize,
+) {
+    if load < rows {
+        let end = search::boards_end(book, rows, load);
+        set(book, load, STATE, MET);
+        boards::settle(book, events, frame, after(load), end, found, number);
+    }
+}
+
+// The next load after a frame.
+fn next_after(book: &[u32], rows: usize, found: Found, load: usize, next: usize) -> usize {
+    match found {
+        Found::Rehearsed(_) => search::next_load(book, rows, after(load)),
+        Found::Different => search::next_load(book, rows, after(load)),
+        _ => next,
+    }
+}
+
+// The frame that begins at a place.
+fn with_frame(
+    page: &mut [u8; PAGE],
+    book: &mut [u32; ROW_ROOM],
+    rows: usize,
+    events: &[u16],
+    names: &[u8],
+    seen: &[u16],
+    stamps: &[u64],
+    from: usize,
+    so_far: Matching,
+) -> Matching {
+    let found = found::at(book, rows, events, seen, from, so_far.next);
+    let load = found::load_of(book, rows, found, so_far.next);
+    let matching = so_far.counted(found);
+    let end = frames::end_of(seen, from);
+    let front = reported::put_front(page, matching.at, stamps, from, end, matching.frames);
+    let frame = span(seen, from, end);
+    let words = reported::put(page, front, book, rows, events, names, frame, load, found);
+    let at = reported::put_end(page, words, stamps, from, end);
+    settle(
+        book,
+        rows,
+        events,
+        frame,
+        load,
+        found,
+        matching.frames as usize,
+    );
+    let next = next_after(book, rows, found, load, matching.next);
+    matching.moved(at, next)
+}
+
+// All frames, of which there are no more than events.
+fn match_all(
+    page: &mut [u8; PAGE],
+    book: &mut [u32; ROW_ROOM],
+    rows: usize,
+    events: &[u16],
+    names: &[u8],
+    seen: &[u16],
+    stamps: &[u64],
+    begun: Matching,
+) -> Matching {
+    let mut matching = begun;
+    let mut from = frames::start_from(seen, 0);
+    let mut turns = seen.len();
+    while turns > 0 {
+        turns -= 1;
+        if from >= seen.len() {
+            return matching;
+        }
+        matching = with_frame(
+            page,
+            book,
+            rows,
+            events,
+            names,
+            seen,
+            stamps,
+            from,
+            matching,
+        );
+        from = frames::end_of(seen, from);
+    }
+    matching
+}
+
+// All frames, what was not on the bus, and the last line.
+pub(crate) fn run(
+    page: &mut [u8; PAGE],
+    book: &mut [u32; ROW_ROOM],
+    events: &[u16; EVENT_ROOM],
+    names: &[u8; NAME_ROOM],
+    seen: &[u16; EVENTS],
+    stamps: &[u64; EVENTS],
+    reading: Reading,
+) -> usize {
+    let rows = reading.rows;
+    let list = span(seen, 0, reading.seen);
+    let begun = Matching::new(reading.at, search::next_load(book, rows, 0));
+    let done = match_all(page, book, rows, events, names, list, stamps, begun);
+    ending::put(page, book, rows, names, reading, done)
+}
