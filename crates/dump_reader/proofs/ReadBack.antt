@@ -14,6 +14,7 @@ use Rattle.laws.proofs.Bools.{both}
 use Rattle.laws.proofs.Search.{all-below}
 use Rattle.levels.specs.Levels.{scl, sda, levelOf}
 use Rattle.trace.specs.Limits.{largestStamp, maxSamples}
+use Rattle.trace.specs.Changes.{changedStamps, changedLevels}
 use Rattle.text.specs.Output.{digitByte, decimalUpTo}
 use Rattle.dump_reader.specs.declared.words.Run.the-variants.{Word as InWord}
 use Rattle.dump_reader.specs.declared.reader.Reader.{Reader}
@@ -22,7 +23,6 @@ use Rattle.dump_reader.specs.Reader.{started, noSample}
 use Rattle.dump_reader.specs.Reading as read
 use Rattle.dump_reader.specs.declared.DumpRead.the-variants.{Written}
 use Rattle.dump_reader.specs.DumpRead.{longestText, closed, textChecks, dumpRead}
-use Rattle.dump_reader.specs.Changes.{changesAfter}
 use Rattle.dump_reader.proofs.Spelled.{Spelt, spelled, proper, placed, words-spelled, upTo, same-text}
 use Rattle.dump_reader.proofs.Reply.{none-given, all-written}
 use Rattle.dump_reader.proofs.Header.{headerWords, header-proper, afterHeader, header-read, header-listed}
@@ -180,10 +180,14 @@ module _
     abbrev ws : List Spelt
     ws = firstWords stamp level ++ wordsAfter level stamps levels
 
-    abbrev pub samples : (ℕ → ℕ → ℕ) → List ℕ
-    samples of = of stamp level ∷ changesAfter of level stamps levels
+    -- the samples but for those that change nothing
+    abbrev stampsBack : List ℕ
+    stampsBack = changedStamps (stamp ∷ stamps) (level ∷ levels)
 
-    after-header : Reads text afterHeader (placed 127 ws) (samples (λ s l. s)) (samples (λ s l. l))
+    abbrev levelsBack : List ℕ
+    levelsBack = changedLevels (stamp ∷ stamps) (level ∷ levels)
+
+    after-header : Reads text afterHeader (placed 127 ws) stampsBack levelsBack
     after-header =
         let unshown : eqb noSample level ≡ false =
         ap (eqb noSample) (sym (legal .0)) ∙ no-level (scl level) (sda level) in
@@ -200,11 +204,11 @@ module _
     pub read-timescale : read.final text .timescale ≡ 100000000
     read-timescale = ap (λ (r : Reader). r .timescale) last ∙ after-header .timescale
 
-    pub read-stamps : read.stampsIn text ≡ samples (λ s l. s)
+    pub read-stamps : read.stampsIn text ≡ stampsBack
     read-stamps =
         ap (read.listed read.stampOf text started) all-words ∙ header-listed read.stampOf ws ∙ after-header .stamped
 
-    pub read-levels : read.levelsIn text ≡ samples (λ s l. l)
+    pub read-levels : read.levelsIn text ≡ levelsBack
     read-levels =
         ap (read.listed read.levelOf text started) all-words ∙ header-listed read.levelOf ws ∙ after-header .leveled
 
@@ -222,11 +226,11 @@ module _
         (ap (λ (r : Reader). r .wave .known) last ∙ after-header .known))
 
     -- what is read of a dump within the limits, into slices with room for the samples
-    pub read-back : (room room-too : ℕ) → length text ≤ longestText → length (samples (λ s l. s)) ≤ maxSamples
-        → length (samples (λ s l. s)) ≤ room → length (samples (λ s l. s)) ≤ room-too
-        → dumpRead text room room-too ≡ Written (length (samples (λ s l. s))) 100000000
+    pub read-back : (room room-too : ℕ) → length text ≤ longestText → length stampsBack ≤ maxSamples
+        → length stampsBack ≤ room → length stampsBack ≤ room-too
+        → dumpRead text room room-too ≡ Written (length stampsBack) 100000000
     read-back room room-too fits few enough enough-too =
-        let count : length (read.stampsIn text) ≡ length (samples (λ s l. s)) = ap length read-stamps in
+        let count : length (read.stampsIn text) ≡ length stampsBack = ap length read-stamps in
         let short : ltb room (length (read.stampsIn text)) || ltb room-too (length (read.stampsIn text)) ≡ false =
         rw (
           le-ltb room (length (read.stampsIn text)) (rw count enough),

@@ -1,7 +1,7 @@
 -- The lines of the samples read back as the samples, but for those that change nothing.
 use mathlib.Core.Path.{_≡_, refl, sym, ap, ap₂, subst, _∙_}
 use mathlib.Core.Bool.{Bool, true, false, cond, _&&_, Bool·beq}
-use mathlib.Core.List.{List, [], _∷_, _++_, append-assoc}
+use mathlib.Core.List.{List, [], _∷_, _++_, map, append-assoc}
 use Prim.Native.Nat.{ℕ, _+_, _^_, _≤_, _<_}
 use native.Mathlib.Omega.{arith}
 use borrow.Author.Tests.{lt-leb, le-ltb, eq-eqb, eqb-true, ne-eqb, eqb-false}
@@ -11,6 +11,8 @@ use lib.ListN.{length}
 use Rattle.laws.specs.Same.{same}
 use Rattle.levels.specs.Levels.{scl, sda, levelOf}
 use Rattle.trace.specs.Limits.{largestStamp}
+use Rattle.trace.specs.Samples.{samples, stampsOf, levelsOf}
+use Rattle.trace.specs.Changes.{changesFrom}
 use Rattle.text.specs.Output.{decimalText}
 use Rattle.dump_reader.specs.declared.words.Word.{Word}
 use Rattle.dump_reader.specs.declared.reader.Part.the-variants.{Values}
@@ -20,7 +22,6 @@ use Rattle.dump_reader.specs.Words.{bytesOf}
 use Rattle.dump_reader.specs.Reader.{started, noSample}
 use Rattle.dump_reader.specs.Values.{withLine, judge, assign, change}
 use Rattle.dump_reader.specs.Reading as read
-use Rattle.dump_reader.specs.Changes.{changesAfter}
 use Rattle.dump_reader.proofs.Decimal.{number-back}
 use Rattle.dump_reader.proofs.Spelled.{Spelt, spelled, placed, spanned}
 use Rattle.dump_reader.proofs.Spelled.{bytes-here, upTo, same-text, next-place}
@@ -288,7 +289,8 @@ module _ (text : List ℕ) (scl-is : bytesOf text sclWord ≡ 0x21 ∷ []) (sda-
   pub samples-read : (stamp last shown : ℕ) (stamps levels : List ℕ) → Above stamp stamps → Legal levels
       → levelOf (scl last) (sda last) ≡ last → eqb shown last ≡ false
       → Rest (wordsAfter last stamps levels) (waving stamp last shown)
-      (stamp ∷ changesAfter (λ s l. s) last stamps levels) (last ∷ changesAfter (λ s l. l) last stamps levels)
+      (stamp ∷ stampsOf (changesFrom last (samples stamps levels)))
+      (last ∷ levelsOf (changesFrom last (samples stamps levels)))
   samples-read stamp last shown [] levels above legal is other = at-end stamp last shown other
   samples-read stamp last shown (next ∷ stamps) [] above legal is other = at-end stamp last shown other
   samples-read stamp last shown (next ∷ stamps) (level ∷ levels) above legal is other =
@@ -303,13 +305,14 @@ module _ (text : List ℕ) (scl-is : bytesOf text sclWord ≡ 0x21 ∷ []) (sda-
           sym (same-level (scl level) (sda level) (scl last) (sda last)) ∙ ap₂ eqb (legal .0) is ∙ e
 
       -- what of the samples is listed, where this one changes nothing, and where it does
-      still : (of : ℕ → ℕ → ℕ) (first : ℕ) → eqb level last ≡ true
-          → first ∷ changesAfter of last stamps levels ≡ first ∷ changesAfter of last (next ∷ stamps) (level ∷ levels)
-      still of first e = rw e
+      still : (of : ℕ × ℕ → ℕ) (first : ℕ) → eqb level last ≡ true
+          → first ∷ map of (changesFrom last (samples stamps levels))
+          ≡ first ∷ map of (changesFrom last (samples (next ∷ stamps) (level ∷ levels)))
+      still of first e = rw (e, eqb-true level last e)
 
-      moved : (of : ℕ → ℕ → ℕ) (first : ℕ) → eqb level last ≡ false
-          → first ∷ of next level ∷ changesAfter of level stamps levels
-          ≡ first ∷ changesAfter of last (next ∷ stamps) (level ∷ levels)
+      moved : (of : ℕ × ℕ → ℕ) (first : ℕ) → eqb level last ≡ false
+          → first ∷ of (next, level) ∷ map of (changesFrom level (samples stamps levels))
+          ≡ first ∷ map of (changesFrom last (samples (next ∷ stamps) (level ∷ levels)))
       moved of first e = rw e
 
       no-words : eqb level last ≡ true
@@ -328,14 +331,16 @@ module _ (text : List ℕ) (scl-is : bytesOf text sclWord ≡ 0x21 ∷ []) (sda-
 
       go : (same : Bool) → eqb level last ≡ same
           → Rest (wordsAfter last stamps levels) (waving stamp last shown)
-          (stamp ∷ changesAfter (λ s l. s) last stamps levels) (last ∷ changesAfter (λ s l. l) last stamps levels)
+          (stamp ∷ stampsOf (changesFrom last (samples stamps levels)))
+          (last ∷ levelsOf (changesFrom last (samples stamps levels)))
           → (eqb last level ≡ false → Rest (wordsAfter level stamps levels) (waving next level last)
-          (next ∷ changesAfter (λ s l. s) level stamps levels) (level ∷ changesAfter (λ s l. l) level stamps levels))
+          (next ∷ stampsOf (changesFrom level (samples stamps levels)))
+          (level ∷ levelsOf (changesFrom level (samples stamps levels))))
           → Rest (sampleWords last next level ++ wordsAfter level stamps levels) (waving stamp last shown)
-          (stamp ∷ changesAfter (λ s l. s) last (next ∷ stamps) (level ∷ levels))
-          (last ∷ changesAfter (λ s l. l) last (next ∷ stamps) (level ∷ levels))
+          (stamp ∷ stampsOf (changesFrom last (samples (next ∷ stamps) (level ∷ levels))))
+          (last ∷ levelsOf (changesFrom last (samples (next ∷ stamps) (level ∷ levels))))
       go true e same-rest new-rest =
-          rest-as _ _ _ _ _ _ _ (no-words e) (still (λ s l. s) stamp e) (still (λ s l. l) last e) same-rest
+          rest-as _ _ _ _ _ _ _ (no-words e) (still (λ s. s .0) stamp e) (still (λ s. s .1) last e) same-rest
       go false e same-rest new-rest =
           let ws = wordsAfter level stamps levels in
           let one = changeWords (scl last) (scl level) sclWire in
@@ -346,7 +351,7 @@ module _ (text : List ℕ) (scl-is : bytesOf text sclWord ≡ 0x21 ∷ []) (sda-
           (scl-change next last (scl last) (scl level) (sda last) (two ++ ws) _ _
           (sda-change next last (sda last) (sda level) (scl level) ws _ _
           (wave-as ws next level _ last _ _ (sym (legal .0)) (new-rest unlike)))) in
-          rest-as _ _ _ _ _ _ _ (new-words e) (moved (λ s l. s) stamp e) (moved (λ s l. l) last e)
+          rest-as _ _ _ _ _ _ _ (new-words e) (moved (λ s. s .0) stamp e) (moved (λ s. s .1) last e)
           (stamp-word stamp last shown next (one ++ (two ++ ws)) _ _ (above .0) (above .1 .0) other changed)
 
   -- the first stamp of all, and a value for each wire

@@ -6,4 +6,3 @@ pub mod Definitions
 pub mod Values
 pub mod Reading
 pub mod DumpRead
-pub mod Changes

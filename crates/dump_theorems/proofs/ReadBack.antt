@@ -1,12 +1,12 @@
 -- What dump writes, within 60,000 bytes, reads back as the same trace without the samples that change nothing.
 use mathlib.Core.Path.{_≡_, refl, sym, ap, _∙_}
 use mathlib.Core.Bool.{Bool, true, false, cond, not}
-use mathlib.Core.List.{List, [], _∷_}
+use mathlib.Core.List.{List, [], _∷_, _++_}
 use Prim.Native.Nat.{ℕ, _≤_, _<_}
 use native.Mathlib.Omega.{arith}
 use borrow.Author.Tests.{eqb-true, ltb-true, ltb-false, not-false}
 use lib.Dec.{eqb, ltb}
-use lib.ListN.{length, take, drop}
+use lib.ListN.{length, take, drop, length-map}
 use lib.Seq.{take-at}
 use Rattle.laws.specs.Buffer.{filled}
 use Rattle.laws.specs.Everyone.{also}
@@ -16,7 +16,10 @@ use Rattle.laws.proofs.Search.{all-below}
 use Rattle.levels.specs.Levels.{scl, sda, levelOf}
 use Rattle.trace.specs.Limits.{maxSamples, largestStamp}
 use Rattle.trace.specs.Trace.{badLevel, pairs, notAbove}
+use Rattle.trace.specs.Samples.{samples}
+use Rattle.trace.specs.Changes.{changesFrom, changedStamps, changedLevels}
 use Rattle.trace.proofs.Pairs.{rising-back}
+use Rattle.trace.proofs.Samples.{samples-length}
 use Rattle.trace.proofs.Checked.{Checked}
 use Rattle.dump.specs.declared.Dumped.the-variants as wrote
 use Rattle.dump.specs.Text.{dumpText}
@@ -25,7 +28,6 @@ use Rattle.dump.proofs.Bound.{Stamps, written-trace, written-count}
 use Rattle.dump_reader.specs.declared.DumpRead.the-variants.{Written}
 use Rattle.dump_reader.specs.Reading.{stampsIn, levelsIn}
 use Rattle.dump_reader.specs.DumpRead.{longestText, dumpRead, stampsAfter, levelsAfter}
-use Rattle.dump_reader.specs.Changes.{changesAfter, changedStamps, changedLevels}
 use Rattle.dump_reader.proofs.Samples.{Above, Legal}
 use Rattle.dump_reader.proofs.ReadBack.{read-stamps, read-levels, read-back}
 use Rattle.dump_theorems.proofs.Words.{dump-spelled}
@@ -54,19 +56,14 @@ levels-legal (level ∷ levels) all =
     (level-legal level (two .0), levels-legal levels (two .1))
 
 -- there are no more changes than samples
-changes-few : (of : ℕ → ℕ → ℕ) (last : ℕ) (stamps levels : List ℕ)
-    → length (changesAfter of last stamps levels) ≤ length levels
-changes-few of last [] levels = omega arith
-changes-few of last (stamp ∷ stamps) [] = omega arith
-changes-few of last (stamp ∷ stamps) (level ∷ levels) =
-    go (eqb level last) (changes-few of last stamps levels) (changes-few of level stamps levels)
+changes-few : (last : ℕ) (list : List (ℕ × ℕ)) → length (changesFrom last list) ≤ length list
+changes-few last [] = omega arith
+changes-few last (sample ∷ list) = go (eqb (sample .1) last) (changes-few (sample .1) list)
   where
-    go : (same : Bool) → length (changesAfter of last stamps levels) ≤ length levels
-        → length (changesAfter of level stamps levels) ≤ length levels
-        → length (cond same (changesAfter of last stamps levels) (of stamp level ∷ changesAfter of level stamps levels))
-        ≤ length (level ∷ levels)
-    go true one other = omega arith
-    go false one other = omega arith
+    go : (same : Bool) → length (changesFrom (sample .1) list) ≤ length list
+        → length (cond same [] (sample ∷ []) ++ changesFrom (sample .1) list) ≤ length (sample ∷ list)
+    go true few = omega arith
+    go false few = omega arith
 
 -- the replies and slices of dump, and of read where it is handed what dump wrote
 pub record ReadBack (stamps levels text stamp-slice level-slice : List ℕ) : Type 0 where
@@ -89,8 +86,16 @@ text-back (stamp ∷ stamps) (level ∷ levels) stamp-slice level-slice (also fi
     let small : stamp ≤ largestStamp = omega arith in
     let above = rising-above stamp stamps (rising-back (stamp ∷ stamps) (trace .rises)) rest in
     let legal = levels-legal (level ∷ levels) (trace .legal) in
+    let list = samples stamps levels in
     let few : length (changedStamps (stamp ∷ stamps) (level ∷ levels)) ≤ maxSamples =
-    omega (arith, trace .few, changes-few (λ s l. s) level stamps levels) in
+    omega (
+      arith,
+      trace .same,
+      trace .few,
+      length-map (changesFrom level list) (λ s. s .0),
+      changes-few level list,
+      samples-length stamps levels (omega (arith, trace .same)),
+    ) in
     let spelt = dump-spelled stamp level stamps levels in
     let reply =
     rw (← spelt) at

@@ -1,5 +1,5 @@
 -- What the arbitration's call promises, at each of its returns.
-use Prim.Native.Nat.{ℕ, zero, suc, _+_, _-_, _*_, _/_, _%_, _^_, _≤_, _<_}
+use Prim.Native.Nat.{ℕ, zero, suc, _+_, _-_, _*_, _/_, _^_, _≤_, _<_}
 use native.Mathlib.Omega.{arith}
 use mathlib.Core.Path.{_≡_, refl, sym, ap, ap₂, subst, _∙_}
 use mathlib.Core.Bool.{Bool, true, false, cond, _||_, or-false, or-true}
@@ -36,18 +36,12 @@ use Rattle.arbitration.proofs.Given.{found, arbitration, carried-length, few, s
 use Rattle.arbitration.proofs.Given.{applies-is as own-parts}
 use Rattle.usi.specs.Module.{powerUp}
 use Rattle.export.specs.Arbitration.{Lent, Returned, gave, shortTables, clearedOf, refusalOf, packedReply, ran}
-use Rattle.export.specs.Arbitration.{returned, countIn, shownIn, packedSeat}
+use Rattle.export.specs.Arbitration.{returned, countIn, shownIn, packedSeat, Arbitrates}
 use Rattle.export.specs.Packed.{packed}
 use Rattle.export.proofs.Placed.{request-placed}
 use Rattle.export.proofs.TableEntries.{Small, Few, fates-are, final-small, few-seats}
 use Rattle.arbitration.specs.Shown as shows
 use Rattle.arbitration.specs.Shown.{shown}
-
--- the two clauses
-pub record Clauses (lent : Lent) (got : Returned) : Type 0 where
-  pub returns : got ≡ returned lent
-  pub follows : got .answer % 256 ≡ 0
-      → shownIn (messagesOf (lent .request)) got ≡ outcome (messagesOf (lent .request)) (lent .request .acknowledges)
 
 module _ (lent : Lent) where
   abbrev request : Request
@@ -77,10 +71,10 @@ module _ (lent : Lent) where
   abbrev pub kept : ℕ → Returned
   kept answer = gave answer (lent .carried) (lent .levels) (lent .modules) (lent .seats)
 
-  refused-clauses : (stopped : Refusal) (answer : ℕ) → refusalOf lent ≡ stopped → (stopped .number ≡ 0 → ⊥)
-      → stopped .number < 256 → answer ≡ packedReply (refused stopped) → Clauses lent (kept answer)
+  refused-call : (stopped : Refusal) (answer : ℕ) → refusalOf lent ≡ stopped → (stopped .number ≡ 0 → ⊥)
+      → stopped .number < 256 → answer ≡ packedReply (refused stopped) → Arbitrates lent (kept answer)
   unfolding returned refused
-  refused-clauses stopped answer applies refuses small is =
+  refused-call stopped answer applies refuses small is =
       record {
         returns = rw (applies, ne-eqb (stopped .number) 0 refuses, is);
         follows = λ unrefused. absurd (refuses (omega (arith, is, small, unrefused)));
@@ -88,16 +82,16 @@ module _ (lent : Lent) where
 
   -- refused by one of 12 to 16, whatever the buffers and tables
   pub refused-before : (answer : ℕ) → (found request .number ≡ 0 → ⊥)
-      → answer ≡ packedReply (refused (found request)) → Clauses lent (kept answer)
+      → answer ≡ packedReply (refused (found request)) → Arbitrates lent (kept answer)
   refused-before answer refuses is =
-      refused-clauses (found request) answer (applies-is ∙ rw (ne-eqb (found request .number) 0 refuses)) refuses
+      refused-call (found request) answer (applies-is ∙ rw (ne-eqb (found request .number) 0 refuses)) refuses
       found-below is
 
   -- refused by 8, since a buffer or a table is too short
   pub refused-short : (answer : ℕ) → found request .number ≡ 0 → short || shortTable ≡ true → answer ≡ 8
-      → Clauses lent (kept answer)
+      → Arbitrates lent (kept answer)
   refused-short answer passes too-short is =
-      refused-clauses (refusals.refusedAt 8 0) answer
+      refused-call (refusals.refusedAt 8 0) answer
       (applies-is ∙ rw (eq-eqb (found request .number) 0 passes, too-short)) (λ e. omega arith) (omega arith)
       (is ∙ eight)
     where
@@ -205,10 +199,10 @@ module _ (lent : Lent) (small : Bytes (lent .request .bytes)) (passes : found (l
             (modules-many ∙ sym seats-many),
       )
 
-  pub ran-clauses : (rest : List Usi) → shown messages reply (slices rest) ≡ outcome messages acks
-      → Clauses lent got
+  pub ran-call : (rest : List Usi) → shown messages reply (slices rest) ≡ outcome messages acks
+      → Arbitrates lent got
   unfolding returned
-  ran-clauses rest follows-so =
+  ran-call rest follows-so =
       record { returns = rw (unrefused); follows = λ zero-so. shown-is rest ∙ follows-so }
 
 -- what the library answers over a table of its own, where the caller's tables are long enough
@@ -325,7 +319,7 @@ module _ (lent : Lent) (small : Bytes (lent .request .bytes)) (roomy : shortTabl
       → (reply .refusal .number ≡ 0 → ⊥) → answer ≡ packedReply (refused (reply .refusal))
       → exit ≡ carriedAfter (lent .request) (reply .refusal) (lent .carried)
       → levelsExit ≡ levelsAfter (lent .request) (reply .refusal) (lent .levels)
-      → Clauses lent (gave answer exit levelsExit (lent .modules) (lent .seats))
+      → Arbitrates lent (gave answer exit levelsExit (lent .modules) (lent .seats))
   unfolding carriedAfter levelsAfter
   refused-by-library reply answer exit levelsExit same refuses is carried-is levels-are =
       let stopped = stops (rw same at refuses) in
@@ -334,7 +328,7 @@ module _ (lent : Lent) (small : Bytes (lent .request .bytes)) (roomy : shortTabl
       let kept-bytes : exit ≡ lent .carried = carried-is ∙ rw (its, zero-not) in
       let kept-levels : levelsExit ≡ lent .levels = levels-are ∙ rw (its, zero-not) in
       rw (kept-bytes, kept-levels)
-      (refused-clauses lent applies answer applies-alike (stopped .0) (applies-small .1) (is ∙ rw its))
+      (refused-call lent applies answer applies-alike (stopped .0) (applies-small .1) (is ∙ rw its))
     where
       of-refused : refused applies .refusal ≡ applies
       of-refused = unfold refused in refl
@@ -351,7 +345,7 @@ module _ (lent : Lent) (small : Bytes (lent .request .bytes)) (roomy : shortTabl
       → (done .refusal .number ≡ 0
       → shown (messagesOf (lent .request)) done (record { table = table; carried = exit; levels = levelsExit })
       ≡ outcome (messagesOf (lent .request)) (lent .request .acknowledges))
-      → Clauses lent (gave answer exit levelsExit entries numbers)
+      → Arbitrates lent (gave answer exit levelsExit entries numbers)
   unfolding tableAfter carriedAfter levelsAfter answered
   answered-by-library done answer table exit levelsExit entries numbers same none-so is table-is carried-is levels-are
       entries-are numbers-are follows-so =
@@ -374,5 +368,5 @@ module _ (lent : Lent) (small : Bytes (lent .request .bytes)) (roomy : shortTabl
       ∙ take-at sitting (replicate (maxMasters - length sitting) absent) masters
       (seats-many lent small (two .0) (two .1) roomy) in
       rw (is, entries-are, numbers-are, front, seated, bytes-are, recorded-are, its)
-      (ran-clauses lent small (two .0) (two .1) roomy rest
+      (ran-call lent small (two .0) (two .1) roomy rest
       (rw (← bytes-are, ← recorded-are, ← whole, ← its) (follows-so none-so)))

@@ -15,7 +15,7 @@ use Rattle.laws.specs.Refusals.{check, given}
 use Rattle.arbitration_rules.specs.declared.Arbitrated.{Arbitrated}
 use Rattle.arbitration_rules.specs.declared.Seat.{Seat}
 use Rattle.arbitration_rules.specs.Masters.{Master}
-use Rattle.arbitration_rules.specs.Outcome.{Fate, Outcome, least, levelCount}
+use Rattle.arbitration_rules.specs.Outcome.{Fate, Outcome, least, levelCount, outcome}
 use Rattle.arbitration_rules.specs.Reply.{Request, messagesOf, requestChecks, runOf, shortBuffer, seatOf, refused}
 use Rattle.arbitration_rules.specs.Reply.{answered}
 use Rattle.arbitration_rules.specs.Run.{Bus}
@@ -120,3 +120,9 @@ shownIn messages got =
       levels = take (levelCount (take (countIn (got .answer)) (least messages))) (got .levels);
       fates = take (length messages) (zipWith fateIn (got .modules) (got .seats));
     }
+
+-- the call's promise: what is returned, and of a run what follows from messages and acknowledges alone (01: demand 3)
+pub record Arbitrates (lent : Lent) (got : Returned) : Type 0 where
+  pub returns : got ≡ returned lent
+  pub follows : got .answer % 256 ≡ 0
+      → shownIn (messagesOf (lent .request)) got ≡ outcome (messagesOf (lent .request)) (lent .request .acknowledges)

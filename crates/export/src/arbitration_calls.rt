@@ -1,14 +1,13 @@
 // Arbitration for callers in C or Rust: the reply as a number, and two tables of an entry for each message.
 ghost use mathlib.Core.Path.{_≡_};
 ghost use mathlib.Core.List.{map};
-ghost use Prim.Native.Nat.{_<_, _≤_, _%_};
+ghost use Prim.Native.Nat.{_<_, _≤_};
 ghost use lib.ListN.{length, take};
 ghost use Rattle.laws.specs.Buffer.{filled};
 ghost use Rattle.arbitration_rules.specs.Limits.{maxMasters};
-ghost use Rattle.arbitration_rules.specs.Outcome.{outcome};
-ghost use Rattle.arbitration_rules.specs.Reply.{asked, messagesOf, refused as refusedReply};
+ghost use Rattle.arbitration_rules.specs.Reply.{asked, refused as refusedReply};
 ghost use Rattle.export.specs.Packed.{packed as packedModule};
-ghost use Rattle.export.specs.Arbitration.{gave, lent, packedReply, packedSeat, returned, shownIn};
+ghost use Rattle.export.specs.Arbitration.{Arbitrates, gave, lent, packedReply, packedSeat};
 use arbitration::Arbitrated;
 use arbitration_rules::MAX_MASTERS;
 use arbitration_rules::Seat;
@@ -80,17 +79,11 @@ pub extern "C" fn kan_arbitrate(
     modules: &mut [u64],
     seats: &mut [u32],
 ) -> u64
-    ensures returns { λ r. ⌜ gave r (now (carried .exit)) (now (levels .exit)) (now (modules .exit)) (now (seats .exit))
-        ≡ returned (lent
+    ensures { λ r. ⌜ Arbitrates
+        (lent
         (asked (now (bytes .entry)) (now (parts .entry)) (now (counts .entry)) (now (acks .entry)))
-        (now (carried .entry)) (now (levels .entry)) (now (modules .entry)) (now (seats .entry))) ⌝ }
-    ensures follows { λ r. ⌜ (r % 256 ≡ 0
-        → shownIn
-        (messagesOf (asked (now (bytes .entry)) (now (parts .entry)) (now (counts .entry)) (now (acks .entry))))
-        (gave r (now (carried .exit)) (now (levels .exit)) (now (modules .exit)) (now (seats .exit)))
-        ≡ outcome
-        (messagesOf (asked (now (bytes .entry)) (now (parts .entry)) (now (counts .entry)) (now (acks .entry))))
-        (now (acks .entry))) ⌝ }
+        (now (carried .entry)) (now (levels .entry)) (now (modules .entry)) (now (seats .entry)))
+        (gave r (now (carried .exit)) (now (levels .exit)) (now (modules .exit)) (now (seats .exit))) ⌝ }
 {
     let masters = counts.len();
     if (modules.len() < masters) | (seats.len() < masters) {

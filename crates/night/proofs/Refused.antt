@@ -5,18 +5,15 @@ use mathlib.Core.Path.{_≡_, refl, sym, ap, _∙_}
 use mathlib.Core.Bool.{Bool, true, false}
 use mathlib.Core.List.{List, [], _∷_}
 use lib.Dec.{eqb}
-use lib.ListN.{take}
 use borrow.Author.Tests.{eqb-true, eq-eqb, ne-eqb}
 use Rattle.laws.specs.declared.Refusal.{Refusal}
 use Rattle.laws.specs.Refusals.{Check, check, none, refusedAt, given, orElse}
 use Rattle.laws.specs.Search.{any}
 use Rattle.laws.proofs.Refusals.{Numbered, Passed, passed, unrefused, in-parts, number-below}
 use Rattle.arbitration_rules.specs.Outcome.{undecided}
-use Rattle.arbitration_rules.specs.Reply.{Request, cut, messagesOf, shapeChecks, requestChecks}
+use Rattle.arbitration_rules.specs.Reply.{Request, messagesOf, shapeChecks, requestChecks}
 use Rattle.arbitration_rules.proofs.Accepted.{request-numbered}
-use Rattle.arbitration_messages.specs.declared.Messages.{Messages}
-use Rattle.arbitration_messages.specs.Gathered.{gathered, passing}
-use Rattle.arbitration_messages.proofs.Whole.{whole}
+use Rattle.arbitration_messages.specs.Gathered.{passing}
 use Rattle.arbitration_checks.specs.Settled.{settled}
 use Rattle.night_rules.specs.Night.{formChecks, isOne, endApart, shortRoom, nightRefusal}
 
@@ -80,6 +77,14 @@ module _ (request : Request) where
           same ∙ sym (none-given (formChecks request) form-numbered (eqb-true (form .number) 0 zero))
       go false some apart is = rw some at sixteen
 
+  -- past 12 and 13 the messages gathered are those of the request
+  all-passing : form .number ≡ 0 → passing request ≡ messagesOf request
+  unfolding passing
+  all-passing zero =
+      let all : Passed (formChecks request) = passed (formChecks request) form-numbered zero in
+      let shaped : given (shapeChecks request) .number ≡ 0 = rw (all .0, all .1 .0) in
+      rw (eq-eqb (given (shapeChecks request) .number) 0 shaped)
+
   -- the night's: those, or else 43, 16 and 8
   module _ (roundsRoom tableRoom : ℕ) where
     abbrev rest : List Check
@@ -96,14 +101,10 @@ module _ (request : Request) where
     pub night-form : (form .number ≡ 0 → ⊥) → nightRefusal request roundsRoom tableRoom ≡ form
     night-form some = rw (ne-eqb (form .number) 0 some) at parts
 
-    pub night-rest : form .number ≡ 0 → nightRefusal request roundsRoom tableRoom ≡ given rest
-    night-rest zero = rw (eq-eqb (form .number) 0 zero) at parts
-
-  -- past 12 and 13 the messages gathered are those of the request
-  pub gathered-messages : (messages : Messages) → messages ≡ gathered request → form .number ≡ 0
-      → cut (take (messages .count) (messages .lengths)) (take (messages .size) (messages .sent)) ≡ messagesOf request
-  unfolding passing
-  gathered-messages messages is zero =
-      let all : Passed (formChecks request) = passed (formChecks request) form-numbered zero in
-      let shaped : given (shapeChecks request) .number ≡ 0 = rw (all .0, all .1 .0) in
-      whole request messages is ∙ rw (eq-eqb (given (shapeChecks request) .number) 0 shaped)
+    pub night-rest : form .number ≡ 0
+        → (one apart short : Bool) → any isOne (request .acknowledges) ≡ one → endApart (passing request) ≡ apart
+        → shortRoom request roundsRoom tableRoom ≡ short
+        → nightRefusal request roundsRoom tableRoom ≡ given (check 43 one ∷ check 16 apart ∷ check 8 short ∷ [])
+    night-rest zero one apart short ones ends tight =
+        (rw (eq-eqb (form .number) 0 zero) at parts)
+        ∙ rw (ones, ap endApart (sym (all-passing zero)) ∙ ends, tight)

@@ -1,10 +1,18 @@
 // The refusals of a night, in their order: 12, 13, 14, 15, 43, 16, 8.
 ghost use mathlib.Core.Path.{_≡_};
-ghost use Rattle.laws.specs.Refusals.{given};
+ghost use Rattle.laws.specs.Refusals.{given, refusedAt};
 ghost use Rattle.laws.specs.Search.{any};
 ghost use Rattle.arbitration_rules.specs.Reply.{asked, cut};
+ghost use Rattle.arbitration_messages.specs.Gathered.{passing};
 ghost use Rattle.night_rules.specs.Night.{formChecks, isOne, endApart, nightRefusal};
 use laws::Refusal;
+
+// A refusal that has no place.
+fn refused(number: u8) -> Refusal
+    ensures { λ r. ⌜ r ≡ refusedAt number 0 ⌝ }
+{
+    Refusal { number, place: 0 }
+}
 
 // The first of 12 to 15 that applies, as for one arbitration.
 fn form(bytes: &[u8], parts: &[u32], counts: &[u32], acks: &[u8]) -> Refusal
@@ -16,10 +24,7 @@ fn form(bytes: &[u8], parts: &[u32], counts: &[u32], acks: &[u8]) -> Refusal
     let settled = arbitration_checks::settle(bytes, parts, counts, acks);
     let found = settled.refusal;
     if found.number == 16 {
-        return Refusal {
-            number: 0,
-            place: 0,
-        };
+        return refused(0);
     }
     found
 }
@@ -55,6 +60,20 @@ fn end_apart(sent: &[u16], lengths: &[u32], acks: &[u8]) -> bool
     false
 }
 
+// 16 of the messages gathered, of which there are none where 12 or 13 applies.
+fn messages_end_apart(bytes: &[u8], parts: &[u32], counts: &[u32], acks: &[u8]) -> bool
+    ensures { λ r. ⌜ r
+        ≡ endApart
+        (passing (asked (now (bytes .entry)) (now (parts .entry)) (now (counts .entry)) (now (acks .entry)))) ⌝ }
+{
+    let messages = arbitration_messages::gather(bytes, parts, counts);
+    let sent = messages.sent;
+    let size = messages.size;
+    let lengths = messages.lengths;
+    let count = messages.count;
+    end_apart(&sent[..size], &lengths[..count], acks)
+}
+
 // The first refusal that applies, or none.
 pub(crate) fn refusal(
     bytes: &[u8],
@@ -74,30 +93,13 @@ pub(crate) fn refusal(
         return found;
     }
     if any_one(acks) {
-        return Refusal {
-            number: 43,
-            place: 0,
-        };
+        return refused(43);
     }
-    let messages = arbitration_messages::gather(bytes, parts, counts);
-    let sent = messages.sent;
-    let size = messages.size;
-    let lengths = messages.lengths;
-    let count = messages.count;
-    if end_apart(&sent[..size], &lengths[..count], acks) {
-        return Refusal {
-            number: 16,
-            place: 0,
-        };
+    if messages_end_apart(bytes, parts, counts, acks) {
+        return refused(16);
     }
     if (rounds_room < counts.len()) | (table_room < counts.len()) {
-        return Refusal {
-            number: 8,
-            place: 0,
-        };
+        return refused(8);
     }
-    Refusal {
-        number: 0,
-        place: 0,
-    }
+    refused(0)
 }

@@ -3,4 +3,5 @@ pub mod Limits
 pub mod Events
 pub mod Trace
 pub mod Samples
+pub mod Changes
 pub mod Ordered

@@ -19,7 +19,7 @@ use Rattle.levels.specs.Levels.{maxLevel}
 use Rattle.trace.specs.Samples.{samples, levelsOf}
 use Rattle.trace.specs.Trace.{badLevel}
 use Rattle.trace.proofs.Samples.{samples-drop, samples-length, levels-again}
-use Rattle.trace_thin.specs.Changes.{kept, changesFrom, thinned}
+use Rattle.trace.specs.Changes.{kept, changesFrom, thinned}
 
 -- one sample is kept, or none
 pub kept-length : (last stamp level : ℕ) → length (kept last (stamp, level)) ≡ boolByte (not (eqb level last))

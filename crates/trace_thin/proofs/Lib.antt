@@ -4,4 +4,3 @@ pub mod Reply
 pub mod Steady
 pub mod Meaning
 pub mod Worked
-pub mod AsDumped

@@ -26,7 +26,7 @@ use Rattle.decode.specs.Decode.{events, final}
 use Rattle.decode.specs.DecodeReply.{decoded, eventsAfter}
 use Rattle.decode.proofs.Reply.{room-refused, read-all}
 use Rattle.trace_thin.specs.declared.Thinned.the-variants.{Left, Refused}
-use Rattle.trace_thin.specs.Changes.{changesFrom, thinned}
+use Rattle.trace.specs.Changes.{changesFrom, thinned}
 use Rattle.trace_thin.specs.ThinReply.{captureChecks, countLeft, leftChecks, thinChecks, thinAnswer}
 use Rattle.trace_thin.specs.ThinReply.{stampsAfter, levelsAfter}
 use Rattle.trace_thin.proofs.Reply.{Captured, captured, to-capture, capture-numbered, left-is, left-all}

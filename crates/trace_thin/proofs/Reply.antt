@@ -18,7 +18,7 @@ use Rattle.trace.proofs.Pairs.{rising, rising-back}
 use Rattle.trace.proofs.Samples.{levels-again}
 use Rattle.trace_thin.specs.declared.Thinned.{Thinned}
 use Rattle.trace_thin.specs.declared.Thinned.the-variants.{Left, Refused}
-use Rattle.trace_thin.specs.Changes.{changesFrom, thinned}
+use Rattle.trace.specs.Changes.{changesFrom, thinned}
 use Rattle.trace_thin.specs.ThinReply.{captureChecks, countLeft, leftChecks, thinChecks, thinAnswer}
 use Rattle.trace_thin.proofs.Keeping.{thinned-from}
 

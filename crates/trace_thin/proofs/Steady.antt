@@ -13,7 +13,7 @@ use Rattle.decode.specs.Decode.{idle, takes, ninth, conditioned, withBit, seen,
 use Rattle.decode.specs.Decode.{events, final}
 use Rattle.decode.proofs.Sample.{Sampled, started, stopped, ignored, bit-taken, byte-taken, remembered}
 use Rattle.decode.proofs.Sample.{bitTaken, byteTaken, sampled}
-use Rattle.trace_thin.specs.Changes.{changesFrom, thinned}
+use Rattle.trace.specs.Changes.{changesFrom, thinned}
 
 -- a START or STOP is marked only while SCL is high
 abbrev pub Steady : Decoder → Type 0

@@ -1,3 +1,2 @@
 -- What thinning a capture means.
-pub mod Changes
 pub mod ThinReply

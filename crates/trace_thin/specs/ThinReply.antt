@@ -8,11 +8,11 @@ use Rattle.laws.specs.Buffer.{filled}
 use Rattle.laws.specs.Search.{first, any}
 use Rattle.laws.specs.Refusals.{Check, check, check-at, given}
 use Rattle.trace.specs.Limits.{maxSamples}
-use Rattle.trace.specs.Samples.{samples, stampsOf, levelsOf}
+use Rattle.trace.specs.Samples.{samples}
+use Rattle.trace.specs.Changes.{thinned, changedStamps, changedLevels}
 use Rattle.trace.specs.Trace.{badLevel, pairs, notAbove, badStamp}
 use Rattle.trace_thin.specs.declared.Thinned.{Thinned}
 use Rattle.trace_thin.specs.declared.Thinned.the-variants.{Left, Refused}
-use Rattle.trace_thin.specs.Changes.{thinned}
 
 -- 5, 4 and 7 as decode gives them, of a capture of any length
 abbrev pub captureChecks : List ℕ → List ℕ → List Check
@@ -55,8 +55,8 @@ thinNumbers (Refused number place) = record { refusal = number; place = place; c
 -- the samples left, and the rest of each slice as it was; after a refusal all as it was
 abbrev pub stampsAfter : Thinned → List ℕ → List ℕ → List ℕ → List ℕ
 stampsAfter answer stamps levels buffer =
-    cond (eqb (thinNumbers answer .refusal) 0) (filled (stampsOf (thinned (samples stamps levels))) buffer) buffer
+    cond (eqb (thinNumbers answer .refusal) 0) (filled (changedStamps stamps levels) buffer) buffer
 
 abbrev pub levelsAfter : Thinned → List ℕ → List ℕ → List ℕ → List ℕ
 levelsAfter answer stamps levels buffer =
-    cond (eqb (thinNumbers answer .refusal) 0) (filled (levelsOf (thinned (samples stamps levels))) buffer) buffer
+    cond (eqb (thinNumbers answer .refusal) 0) (filled (changedLevels stamps levels) buffer) buffer

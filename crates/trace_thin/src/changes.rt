@@ -5,7 +5,7 @@ ghost use lib.ListN.{length};
 ghost use lib.Seq.{sets};
 ghost use Rattle.laws.specs.Buffer.{filled};
 ghost use Rattle.trace.specs.Samples.{samples, stampsOf, levelsOf};
-ghost use Rattle.trace_thin.specs.Changes.{kept, changesFrom};
+ghost use Rattle.trace.specs.Changes.{kept, changesFrom};
 
 // No sample has it: a level before the first.
 const NO_LEVEL: u8 = 4;

@@ -58,9 +58,8 @@ refused-requires c κs = rw (stopped c) (found-placed (lentAt (c .before .before
 returns : tie.Need-returns
 returns c =
     let at = c .before in
-    let all = refused-before (lentAt (at .before .before .before .before .before)) (c .refused .result)
-    (rw (stopped at) at (at .if2 .taken)) (rw (stopped at) at (c .refused .ensures)) in
-    (all .returns, all .follows)
+    refused-before (lentAt (at .before .before .before .before .before)) (c .refused .result)
+    (rw (stopped at) at (at .if2 .taken)) (rw (stopped at) at (c .refused .ensures))
 
 returns-2 : tie.Need-returns-2
 returns-2 c =
@@ -69,8 +68,7 @@ returns-2 c =
     let passes = settled-none (lent .request) (rw (settled .ensures) at (c .if2 .left)) .0 in
     let tables : shortTable lent ≡ true = c .before .before .before .before .if1 .taken in
     let tight : short lent || shortTable lent ≡ true = rw tables (or-true (short lent)) in
-    let all = refused-short lent 8 passes tight refl in
-    (all .returns, all .follows)
+    refused-short lent 8 passes tight refl
 
 power-up-requires : tie.Need-power-up-requires
 power-up-requires c κs = search needs
@@ -123,10 +121,9 @@ returns-3 : tie.Need-returns-3
 returns-3 c =
     let s = c .before .before .before .before .before .before .before .before .before in
     let done = promise s in
-    let all = refused-by-library (lentAgain s) (smallAgain s) (roomy s) (s .rehearse .result .reply)
+    refused-by-library (lentAgain s) (smallAgain s) (roomy s) (s .rehearse .result .reply)
     (c .refused2 .result) _ _ (replied s) (c .before .if3 .taken) (c .refused2 .ensures) (done .carried)
-    (done .recorded) in
-    (all .returns, all .follows)
+    (done .recorded)
 
 long-enough : (s : tie.After-rehearse)
     → (length (lentAgain s .request .counts) ≤ length (lentAgain s .modules))
@@ -178,10 +175,9 @@ returns-4 c =
     let at = placed .before .before .before in
     let s = at .before .before .before .before .before .before .before .before in
     let done = promise s in
-    let all = answered-by-library (lentAgain s) (smallAgain s) (roomy s) (s .rehearse .result .reply) (c .reply .result)
+    answered-by-library (lentAgain s) (smallAgain s) (roomy s) (s .rehearse .result .reply) (c .reply .result)
     (s .rehearse .result .modules) _ _ _ _ (replied s) (at .if3 .left) (c .reply .ensures) (done .stepped)
-    (done .carried) (done .recorded) (placed .put-modules .ensures) (seated .put-seats .ensures) (done .follows) in
-    (all .returns, all .follows)
+    (done .carried) (done .recorded) (placed .put-modules .ensures) (seated .put-seats .ensures) (done .follows)
 
 pub kan-arbitrate-spec : {M : Type 1} → statement M
 kan-arbitrate-spec =

@@ -7,7 +7,7 @@ use lib.ListN.{length, getD, drop}
 use Rattle.laws.proofs.Bools.{bool-byte}
 use Rattle.laws.proofs.Buffer.{Progress, progress-none, progress-done}
 use Rattle.trace.specs.Samples.{samples}
-use Rattle.trace_thin.specs.Changes.{changesFrom}
+use Rattle.trace.specs.Changes.{changesFrom}
 use Rattle.trace_thin.proofs.Keeping.{counted-more, rest-none}
 use borrow.Author.Needs.{needs}
 use Rattle.trace_thin.proofs.changes.count.Statement.{statement}

@@ -4,7 +4,7 @@ use native.Mathlib.Omega.{arith}
 use lib.ListN.{length, drop}
 use Rattle.laws.proofs.Buffer.{Writing, writing-none}
 use Rattle.trace.specs.Samples.{samples, stampsOf, levelsOf}
-use Rattle.trace_thin.specs.Changes.{changesFrom}
+use Rattle.trace.specs.Changes.{changesFrom}
 use Rattle.trace_thin.proofs.Keeping.{keeping-long, keeping-room, keeping-more, keeping-done}
 use borrow.Author.Needs.{needs}
 use Rattle.trace_thin.proofs.changes.write.Statement.{statement}

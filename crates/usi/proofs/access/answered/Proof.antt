@@ -1,7 +1,7 @@
 -- The step's module and number, and what the flags lost.
 use borrow.Author.Needs.{needs}
-use Rattle.usi.proofs.answered.Statement.{statement}
-use Rattle.usi.proofs.answered.Tie as tie
+use Rattle.usi.proofs.access.answered.Statement.{statement}
+use Rattle.usi.proofs.access.answered.Tie as tie
 
 module-requires : tie.Need-module-requires
 module-requires c κs = search needs
