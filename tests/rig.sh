@@ -609,6 +609,10 @@ thinned() {
     awk '{ print $1 * 10, $2 }' capture >in && "$rig" decode - <in 2>err | grep : >first
     "$rig" decode long --thin 2>>err | grep : >second
     holds "cmp -s first second" "thinned, other events: $(diff first second | head -n 3)"
+    # a packet that is lost in a long capture
+    awk 'NR < 2000 || NR > 2200' long >in && "$rig" decode - --thin <in >out 2>err
+    holds "[ $? = 3 ]" "a lost packet in a long capture: $(tail -n 1 out)"
+    holds 'grep -q "^note: no sample from" out && tail -n 1 out | grep -q "1 long gap$"' "a lost packet: $(tail -n 1 out)"
     seq 0 65536 | sed 's/$/ 3/' >in && expect 2 "error line 65537: more than 65536 samples" decode - --thin && alone
     seq 0 65535 | sed 's/$/ 3/' >in && expect 3 "look 0 events in 65536 samples, no frame open, 0 bits pending, no byte in any frame" decode - --thin
     seq 1 4097 | awk '{ print $1, $1 % 2 }' >in && expect 1 "refused 6: $many" decode - --thin && alone

@@ -4,10 +4,13 @@ use mathlib.Core.List.{List, [], _∷_}
 use Prim.Native.Nat.{ℕ, _+_, _-_, _*_, _/_}
 use lib.Dec.{eqb, ltb, leb}
 use lib.ListN.{length, getD, drop}
-use Rattle.trace.specs.Limits.{maxSamples}
 use Rattle.decode.specs.declared.Decoder.{Decoder}
 use Rattle.decode.specs.Decode.{idle, next}
 use Rattle.trace_gaps.specs.declared.Tally.{Tally}
+
+-- of so many samples the gaps are judged
+abbrev pub maxGaps : ℕ
+maxGaps = 536870912
 
 -- whether each stamp is so far from the one before it, the first from `last`
 unfoldable pub allApart : ℕ → ℕ → List ℕ → Bool
@@ -65,5 +68,5 @@ fourfold tally = cond (eqb (tally .count) 0) 0 (4 * tally .sum / tally .count)
 -- the usual gap inside frames: their average, without those above four times the average of all
 unfoldable pub usualGap : List ℕ → List ℕ → ℕ
 usualGap stamps levels =
-    cond (ltb maxSamples (length stamps)) 0
+    cond (ltb maxGaps (length stamps)) 0
     (average (tallyOf (upTo (fourfold (tallyOf (inside stamps levels))) (inside stamps levels))))

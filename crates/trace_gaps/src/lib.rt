@@ -3,15 +3,16 @@ ghost use mathlib.Core.Path.{_≡_};
 ghost use Prim.Native.Nat.{_-_, _*_, _≤_};
 ghost use lib.Dec.{ltb};
 ghost use lib.ListN.{length, drop};
-ghost use Rattle.trace.specs.Limits.{maxSamples};
-ghost use Rattle.trace_gaps.specs.Gaps.{allApart, evenGap, inside, upTo, tallyOf, withGap};
+ghost use Rattle.trace_gaps.specs.Gaps.{maxGaps, allApart, evenGap, inside, upTo, tallyOf, withGap};
 ghost use Rattle.trace_gaps.specs.Gaps.{average as averageOf, fourfold as fourfoldOf, usualGap};
 use decode::Decoder;
-use trace::MAX_SAMPLES;
 use trace::MAX_STAMP;
 
 // A gap is long above so many times the usual one.
 const MOST: u64 = 4;
+
+// More gaps are not judged: of so many no sum passes 64 bits, however long they are.
+pub const MAX_GAPS: usize = 536870912;
 
 // How many gaps, and how long they are together.
 struct Tally {
@@ -59,7 +60,7 @@ pub fn even(stamps: &[u32]) -> u32
 impl Tally {
     // With a gap, where it lies inside a frame and is not above a limit.
     fn with_gap(self, framed: bool, gap: u32, limit: u64) -> Tally
-        requires { ⌜ (self .count ≤ maxSamples) × (self .sum ≤ maxSamples * 4294967296) ⌝ }
+        requires { ⌜ (self .count ≤ maxGaps) × (self .sum ≤ maxGaps * 4294967296) ⌝ }
         ensures { λ r. ⌜ r ≡ withGap framed gap limit self ⌝ }
     {
         if !framed {
@@ -85,7 +86,7 @@ impl Tally {
 
     // Four times the average.
     fn fourfold(self) -> u64
-        requires { ⌜ self .sum ≤ maxSamples * 4294967296 ⌝ }
+        requires { ⌜ self .sum ≤ maxGaps * 4294967296 ⌝ }
         ensures { λ r. ⌜ r ≡ fourfoldOf self ⌝ }
     {
         if self.count == 0 {
@@ -97,9 +98,9 @@ impl Tally {
 
 // The gaps inside frames that are not above a limit.
 fn counted(stamps: &[u32], levels: &[u8], limit: u64) -> Tally
-    requires { ⌜ length (now stamps) ≤ maxSamples ⌝ }
+    requires { ⌜ length (now stamps) ≤ maxGaps ⌝ }
     ensures tally { λ r. ⌜ r ≡ tallyOf (upTo limit (inside (now (stamps .entry)) (now (levels .entry)))) ⌝ }
-    ensures small { λ r. ⌜ r .sum ≤ maxSamples * 4294967296 ⌝ }
+    ensures small { λ r. ⌜ r .sum ≤ maxGaps * 4294967296 ⌝ }
 {
     let mut decoder = Decoder::idle();
     let mut tally = Tally { count: 0, sum: 0 };
@@ -119,11 +120,11 @@ fn counted(stamps: &[u32], levels: &[u8], limit: u64) -> Tally
 }
 
 // The usual gap inside frames: their average, without those above four times the average of all.
-// 0 where no gap lies inside a frame, or the trace is longer than one may be.
+// 0 where no gap lies inside a frame, or there are more samples than are judged.
 pub fn usual(stamps: &[u32], levels: &[u8]) -> u64
     ensures { λ r. ⌜ r ≡ usualGap (now (stamps .entry)) (now (levels .entry)) ⌝ }
 {
-    if stamps.len() > MAX_SAMPLES {
+    if stamps.len() > MAX_GAPS {
         return 0;
     }
     let limit = counted(stamps, levels, u64::MAX).fourfold();
