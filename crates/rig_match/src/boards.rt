@@ -1,12 +1,13 @@
-// The boards of a load that a frame is about: those that its line names, and how all stand after it.
-use crate::book;
-use crate::book::ROW_ROOM;
-use crate::book::get;
-use crate::book::set;
-use crate::found::Found;
-use crate::found::state_of;
-use crate::search::is_of;
+// The boards of a load that a frame is about: those that its line names.
 use crate::shown::put_name;
+use frame_match::CUT;
+use frame_match::IN;
+use frame_match::KIND;
+use frame_match::STATE;
+use frame_match::WAITS;
+use frame_match::WON;
+use frame_match::get;
+use frame_match::is_of;
 use rig_lines::console::PAGE;
 use rig_lines::console::begin;
 use text::put_bytes;
@@ -15,7 +16,7 @@ use text::put_bytes;
 pub(crate) fn first_of(book: &[u32], from: usize, end: usize, kind: usize) -> usize {
     let mut row = from;
     while row < end {
-        if get(book, row, book::KIND) == kind {
+        if get(book, row, KIND) == kind {
             return row;
         }
         row += 1;
@@ -32,16 +33,16 @@ pub(crate) enum Which {
 
 fn is_named(which: Which, kind: usize, state: usize, sends: bool) -> bool {
     match which {
-        Which::Waiting => sends & (state == book::WAITS),
-        Which::Undecided => kind == book::IN,
-        Which::Winners => (kind == book::WON) | (kind == book::CUT),
+        Which::Waiting => sends & (state == WAITS),
+        Which::Undecided => kind == IN,
+        Which::Winners => (kind == WON) | (kind == CUT),
     }
 }
 
 // A board is among them.
 fn is_among(book: &[u32], events: &[u16], frame: &[u16], row: usize, which: Which) -> bool {
-    let kind = get(book, row, book::KIND);
-    let state = get(book, row, book::STATE);
+    let kind = get(book, row, KIND);
+    let state = get(book, row, STATE);
     is_named(which, kind, state, is_of(book, events, row, frame))
 }
 
@@ -84,30 +85,4 @@ pub(crate) fn put(
         row += 1;
     }
     at
-}
-
-// How a board stands; where it begins to wait, since which frame.
-fn stand(book: &mut [u32; ROW_ROOM], row: usize, state: usize, number: usize) {
-    if get(book, row, book::STATE) != book::WAITS {
-        set(book, row, book::SINCE, number);
-    }
-    set(book, row, book::STATE, state);
-}
-
-// How the boards in rows stand after a frame.
-pub(crate) fn settle(
-    book: &mut [u32; ROW_ROOM],
-    events: &[u16],
-    frame: &[u16],
-    from: usize,
-    end: usize,
-    found: Found,
-    number: usize,
-) {
-    let mut row = from;
-    while row < end {
-        let state = state_of(book, events, row, found, frame);
-        stand(book, row, state, number);
-        row += 1;
-    }
 }

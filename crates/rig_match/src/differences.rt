@@ -1,12 +1,13 @@
 // Where a frame differs from what was rehearsed, and whose bytes it has.
-use crate::book;
-use crate::book::get;
-use crate::book::span;
 use crate::shown::byte_of;
 use crate::shown::put_acknowledge;
 use crate::shown::put_event;
 use event_match::Difference;
 use event_match::Part;
+use frame_match::FROM;
+use frame_match::TO;
+use frame_match::get;
+use frame_match::span;
 use rig_lines::console::PAGE;
 use rig_lines::console::put_form;
 use text::put_bytes;
@@ -140,7 +141,7 @@ pub(crate) fn owner(
 ) -> usize {
     let mut row = from;
     while row < end {
-        let message = span(events, get(book, row, book::FROM), get(book, row, book::TO));
+        let message = span(events, get(book, row, FROM), get(book, row, TO));
         if goes_on(message, seen, index) {
             return row;
         }

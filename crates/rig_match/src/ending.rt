@@ -1,14 +1,15 @@
 // What was not on the bus, and the last line.
-use crate::book;
-use crate::book::STATE;
-use crate::book::get;
-use crate::book::is_load;
-use crate::book::is_rehearsed;
 use crate::matching::Matching;
 use crate::reading::IN_ERROR;
 use crate::reading::REFUSED;
 use crate::reading::Reading;
 use crate::shown::put_name;
+use frame_match::SINCE;
+use frame_match::STATE;
+use frame_match::WAITS;
+use frame_match::get;
+use frame_match::is_load;
+use frame_match::is_rehearsed;
 use rig_lines::console::PAGE;
 use rig_lines::console::begin;
 use rig_lines::console::put_count;
@@ -72,9 +73,9 @@ impl Missing {
 // What is missing of the load in a row.
 fn lack_of(book: &[u32], row: usize) -> Lack {
     match get(book, row, STATE) {
-        book::MET => Lack::Nothing,
-        book::REFUSED => Lack::Refusal,
-        book::IN_ERROR => Lack::Error,
+        frame_match::MET => Lack::Nothing,
+        frame_match::REFUSED => Lack::Refusal,
+        frame_match::IN_ERROR => Lack::Error,
         _ => lack_unless(!is_rehearsed(book, row)),
     }
 }
@@ -125,7 +126,7 @@ fn with_board(
     row: usize,
     missing: Missing,
 ) -> Missing {
-    if get(book, row, STATE) != book::WAITS {
+    if get(book, row, STATE) != WAITS {
         return missing;
     }
     let from = begin(page, missing.at);
@@ -133,7 +134,7 @@ fn with_board(
     let load = put_name(page, front, book, names, missing.load);
     let of = put_bytes(page, load, b", message of ");
     let name = put_name(page, of, book, names, row);
-    let since = [get(book, row, book::SINCE) as u64];
+    let since = [get(book, row, SINCE) as u64];
     missing.without_message(put_form(page, name, b", waiting since frame #\n", &since))
 }
 

@@ -1,21 +1,20 @@
 // Each frame of the capture held against the loads, in their order.
-use crate::boards;
 use crate::book::EVENT_ROOM;
-use crate::book::MET;
 use crate::book::NAME_ROOM;
 use crate::book::ROW_ROOM;
-use crate::book::STATE;
-use crate::book::after;
-use crate::book::set;
-use crate::book::span;
 use crate::capture::EVENTS;
 use crate::ending;
-use crate::found;
-use crate::found::Found;
-use crate::frames;
 use crate::reading::Reading;
 use crate::reported;
-use crate::search;
+use frame_match::Found;
+use frame_match::end_of;
+use frame_match::find;
+use frame_match::load_about;
+use frame_match::next_after;
+use frame_match::next_load;
+use frame_match::settle;
+use frame_match::span;
+use frame_match::start_from;
 use rig_lines::console::PAGE;
 use rig_lines::numbers::more;
 
@@ -64,32 +63,6 @@ impl Matching {
     }
 }
 
-// The load and its boards after a frame that is about it.
-fn settle(
-    book: &mut [u32; ROW_ROOM],
-    rows: usize,
-    events: &[u16],
-    frame: &[u16],
-    load: usize,
-    found: Found,
-    number: usize,
-) {
-    if load < rows {
-        let end = search::boards_end(book, rows, load);
-        set(book, load, STATE, MET);
-        boards::settle(book, events, frame, after(load), end, found, number);
-    }
-}
-
-// The next load after a frame.
-fn next_after(book: &[u32], rows: usize, found: Found, load: usize, next: usize) -> usize {
-    match found {
-        Found::Rehearsed(_) => search::next_load(book, rows, after(load)),
-        Found::Different => search::next_load(book, rows, after(load)),
-        _ => next,
-    }
-}
-
 // The frame that begins at a place.
 fn with_frame(
     page: &mut [u8; PAGE],
@@ -102,10 +75,10 @@ fn with_frame(
     from: usize,
     so_far: Matching,
 ) -> Matching {
-    let found = found::at(book, rows, events, seen, from, so_far.next);
-    let load = found::load_of(book, rows, found, so_far.next);
+    let found = find(book, rows, events, seen, from, so_far.next);
+    let load = load_about(book, rows, found, so_far.next);
     let matching = so_far.counted(found);
-    let end = frames::end_of(seen, from);
+    let end = end_of(seen, from);
     let front = reported::put_front(page, matching.at, stamps, from, end, matching.frames);
     let frame = span(seen, from, end);
     let words = reported::put(page, front, book, rows, events, names, frame, load, found);
@@ -135,7 +108,7 @@ fn match_all(
     begun: Matching,
 ) -> Matching {
     let mut matching = begun;
-    let mut from = frames::start_from(seen, 0);
+    let mut from = start_from(seen, 0);
     let mut turns = seen.len();
     while turns > 0 {
         turns -= 1;
@@ -153,7 +126,7 @@ fn match_all(
             from,
             matching,
         );
-        from = frames::end_of(seen, from);
+        from = end_of(seen, from);
     }
     matching
 }
@@ -170,7 +143,7 @@ pub(crate) fn run(
 ) -> usize {
     let rows = reading.rows;
     let list = span(seen, 0, reading.seen);
-    let begun = Matching::new(reading.at, search::next_load(book, rows, 0));
+    let begun = Matching::new(reading.at, next_load(book, rows, 0));
     let done = match_all(page, book, rows, events, names, list, stamps, begun);
     ending::put(page, book, rows, names, reading, done)
 }

@@ -3,13 +3,27 @@ use crate::book;
 use crate::book::EVENT_ROOM;
 use crate::book::NAME_ROOM;
 use crate::book::ROW_ROOM;
-use crate::book::get;
-use crate::book::set;
 use crate::reading;
 use crate::reading::Reading;
 use crate::trouble;
 use crate::words;
 use check::same;
+use frame_match::CUT;
+use frame_match::FROM;
+use frame_match::IN;
+use frame_match::IN_ERROR;
+use frame_match::KIND;
+use frame_match::LOAD;
+use frame_match::LOST;
+use frame_match::NAME;
+use frame_match::NAME_END;
+use frame_match::NUMBER;
+use frame_match::REFUSED;
+use frame_match::STATE;
+use frame_match::TO;
+use frame_match::WON;
+use frame_match::get;
+use frame_match::set;
 use rig_lines::console::PAGE;
 use rig_lines::input;
 use rig_lines::input::ROOM;
@@ -41,11 +55,11 @@ fn begun(
 ) -> Reading {
     let row = reading.rows;
     let end = put_bytes(names, reading.names, name);
-    set(book, row, book::KIND, kind);
-    set(book, row, book::FROM, reading.events);
-    set(book, row, book::TO, reading.events);
-    set(book, row, book::NAME, reading.names);
-    set(book, row, book::NAME_END, end);
+    set(book, row, KIND, kind);
+    set(book, row, FROM, reading.events);
+    set(book, row, TO, reading.events);
+    set(book, row, NAME, reading.names);
+    set(book, row, NAME_END, end);
     reading.kept(book::after(row), reading.events, end)
 }
 
@@ -57,7 +71,7 @@ fn with_load(
     rest: &[u8],
 ) -> Reading {
     let row = reading.rows;
-    let next = begun(reading, book, names, book::LOAD, first_word(rest));
+    let next = begun(reading, book, names, LOAD, first_word(rest));
     next.with_load(row)
 }
 
@@ -74,8 +88,8 @@ fn message_words(words: &[u8]) -> usize {
 
 // A board that WON may be cut.
 fn kind_of(kind: usize, words: &[u8], n: usize) -> usize {
-    if (kind == book::WON) & same(first_word(words::past(words, n)), b"CUT") {
-        return book::CUT;
+    if (kind == WON) & same(first_word(words::past(words, n)), b"CUT") {
+        return CUT;
     }
     kind
 }
@@ -95,13 +109,8 @@ fn with_message(
     let row = reading.rows;
     let next = begun(reading, book, names, kind_of(kind, words, n), name);
     let end = words::put_message(events, next.events, words, n);
-    set(book, row, book::TO, end);
-    set(
-        book,
-        row,
-        book::NUMBER,
-        least_number(number, LARGEST) as usize,
-    );
+    set(book, row, TO, end);
+    set(book, row, NUMBER, least_number(number, LARGEST) as usize);
     next.kept(next.rows, end, next.names)
 }
 
@@ -155,15 +164,15 @@ fn with_frame(
     rest: &[u8],
 ) -> Reading {
     let end = words::put_frame(events, reading.events, rest);
-    set(book, reading.load, book::FROM, reading.events);
-    set(book, reading.load, book::TO, end);
+    set(book, reading.load, FROM, reading.events);
+    set(book, reading.load, TO, end);
     reading.kept(reading.rows, end, reading.names)
 }
 
 // The load is not rehearsed, where a line says so.
 fn without_frame(reading: Reading, book: &mut [u32; ROW_ROOM], state: usize) -> Reading {
-    if state > get(book, reading.load, book::STATE) {
-        set(book, reading.load, book::STATE, state);
+    if state > get(book, reading.load, STATE) {
+        set(book, reading.load, STATE, state);
     }
     reading
 }
@@ -171,23 +180,23 @@ fn without_frame(reading: Reading, book: &mut [u32; ROW_ROOM], state: usize) -> 
 // What a line of a load is, by its first word: a board of a kind, the frame, or the state of a load without one.
 fn kind_in(word: &[u8]) -> usize {
     if same(word, b"WON") {
-        return book::WON;
+        return WON;
     }
     if same(word, b"in") {
-        return book::IN;
+        return IN;
     }
     if same(word, b"lost") {
-        return book::LOST;
+        return LOST;
     }
     0
 }
 
 fn state_in(word: &[u8]) -> usize {
     if same(word, b"refused") {
-        return book::REFUSED;
+        return REFUSED;
     }
     if same(word, b"ERROR:") {
-        return book::IN_ERROR;
+        return IN_ERROR;
     }
     0
 }

@@ -1,16 +1,23 @@
 // The line of a frame.
 use crate::boards;
 use crate::boards::Which;
-use crate::book;
 use crate::book::after;
-use crate::book::get;
-use crate::book::span;
 use crate::capture::DOUBTFUL;
 use crate::differences;
-use crate::found::Found;
-use crate::search;
 use crate::shown;
 use crate::shown::put_name;
+use frame_match::CUT;
+use frame_match::FROM;
+use frame_match::Found;
+use frame_match::IN;
+use frame_match::SINCE;
+use frame_match::TO;
+use frame_match::WON;
+use frame_match::boards_end;
+use frame_match::get;
+use frame_match::load_about;
+use frame_match::sender;
+use frame_match::span;
 use rig_lines::console::PAGE;
 use rig_lines::console::begin;
 use rig_lines::console::put_count;
@@ -81,12 +88,12 @@ fn bytes_in(frame: &[u16]) -> u64 {
 
 // The first board that WON is cut.
 fn is_cut(book: &[u32], from: usize, end: usize) -> bool {
-    let cut = boards::first_of(book, from, end, book::CUT);
-    (cut < end) & (cut < boards::first_of(book, from, end, book::WON))
+    let cut = boards::first_of(book, from, end, CUT);
+    (cut < end) & (cut < boards::first_of(book, from, end, WON))
 }
 
 fn is_undecided(book: &[u32], from: usize, end: usize) -> bool {
-    boards::first_of(book, from, end, book::IN) < end
+    boards::first_of(book, from, end, IN) < end
 }
 
 // Who is named: those between whom it is undecided, or who won.
@@ -162,7 +169,7 @@ fn put_waiting(
         end,
         Which::Waiting,
     );
-    let since = [get(book, row, book::SINCE) as u64];
+    let since = [get(book, row, SINCE) as u64];
     put_form(page, who, b", waiting since frame #", &since)
 }
 
@@ -177,11 +184,7 @@ fn put_different(
     load: usize,
     end: usize,
 ) -> usize {
-    let rehearsed = span(
-        events,
-        get(book, load, book::FROM),
-        get(book, load, book::TO),
-    );
+    let rehearsed = span(events, get(book, load, FROM), get(book, load, TO));
     let difference = differences::put(page, at, rehearsed, frame);
     let index = differences::index_of(rehearsed, frame);
     let row = differences::owner(book, events, after(load), end, frame, index);
@@ -205,14 +208,20 @@ fn put_other(
 ) -> usize {
     let words = put_bytes(page, at, b"not rehearsed: ");
     let bytes = shown::put_frame(page, words, frame);
-    let row = search::sender(book, events, 0, rows, frame);
+    let row = sender(book, events, frame, 0, rows);
     if row >= rows {
         return bytes;
     }
     let of = put_bytes(page, bytes, b"; the message of ");
     let board = put_name(page, of, book, names, row);
     let within = put_bytes(page, board, b" in ");
-    put_name(page, within, book, names, search::load_of(book, row))
+    put_name(
+        page,
+        within,
+        book,
+        names,
+        load_about(book, rows, Found::Waiting(row), rows),
+    )
 }
 
 // What a frame was found to be, and which load it is about.
@@ -230,7 +239,7 @@ pub(crate) fn put(
     if load >= rows {
         return put_other(page, at, book, rows, events, names, frame);
     }
-    let end = search::boards_end(book, rows, load);
+    let end = boards_end(book, rows, load);
     let name = put_name(page, at, book, names, load);
     match found {
         Found::Waiting(row) => put_waiting(page, name, book, events, names, frame, row, end),

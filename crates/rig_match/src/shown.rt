@@ -1,7 +1,10 @@
 // Parts of a line: names, and events in words.
-use crate::book;
-use crate::book::get;
 use crate::book::text;
+use frame_match::NAME;
+use frame_match::NAME_END;
+use frame_match::NUMBER;
+use frame_match::get;
+use frame_match::is_load;
 use rig_lines::console::PAGE;
 use rig_lines::console::begin;
 use rig_lines::console::put_form;
@@ -20,13 +23,9 @@ pub(crate) fn put_name(
     names: &[u8],
     row: usize,
 ) -> usize {
-    let name = text(
-        names,
-        get(book, row, book::NAME),
-        get(book, row, book::NAME_END),
-    );
-    if (name.len() == 0) & !book::is_load(book, row) {
-        return put_form(page, at, b"board #", &[get(book, row, book::NUMBER) as u64]);
+    let name = text(names, get(book, row, NAME), get(book, row, NAME_END));
+    if (name.len() == 0) & !is_load(book, row) {
+        return put_form(page, at, b"board #", &[get(book, row, NUMBER) as u64]);
     }
     put_bytes(page, at, name)
 }
