@@ -519,7 +519,7 @@ fn every_refusal_occurs() {
         ("catalogues", &[0, 40, 41, 42]),
     ];
     for (cases, numbers) in expected {
-        let counts = run(comparison(cases), &Model, 1, 20_000).unwrap();
+        let counts = run(comparison(cases), &Model, 1, 5_000).unwrap();
         for number in numbers {
             assert!(counts.get(&format!("refused {number}")) >= 5, "{cases}: refusal {number}");
         }
