@@ -1,15 +1,16 @@
 // rig_match, run by `rig match`: a capture held against a rehearsal, both as the other programs print them.
 // The last line of output says how it went: `ok`, `look`, `refused` with a number, or `error`.
 mod book; // book.rt: how much of the rehearsal is kept
-mod boards; // boards.rt: the boards of a load that a frame is about
 mod capture; // capture.rt: the lines of the capture
 mod differences; // differences.rt: where a frame differs from what was rehearsed
 mod ending; // ending.rt: what was not on the bus, and the last line
+mod lists; // lists.rt: words in a list
 mod matching; // matching.rt: each frame held against the loads
+mod phrase; // phrase.rt: words with marks for numbers, names and events
 mod reading; // reading.rt: the input, line by line
 mod rehearsal; // rehearsal.rt: the lines of the rehearsal
 mod reported; // reported.rt: the line of a frame
-mod shown; // shown.rt: parts of a line
+mod shown; // shown.rt: what the marks of a phrase stand for
 mod trouble; // trouble.rt: what was not understood or could not be read
 mod words; // words.rt: messages and frames in words
 
