@@ -2,7 +2,6 @@
 use crate::lists::line_of;
 use crate::matching::Matching;
 use crate::phrase;
-use crate::reading::IN_ERROR;
 use crate::reading::REFUSED;
 use crate::reading::Reading;
 use frame_match::SINCE;
@@ -113,15 +112,12 @@ fn put_missing(
 }
 
 // The place of the first word: that of the rehearsal where it was not read, else whether all is as it was rehearsed.
-fn verdict_of(verdict: u8, done: Matching, absent: u64, gaps: u64) -> usize {
-    match verdict {
-        REFUSED => 2,
-        IN_ERROR => 3,
-        _ => {
-            let clean = (done.different == 0) & (done.other == 0) & (absent == 0) & (gaps == 0);
-            !((done.frames > 0) & clean) as usize
-        }
+fn verdict_of(verdict: usize, done: Matching, absent: u64, gaps: u64) -> usize {
+    if verdict >= REFUSED {
+        return verdict;
     }
+    let clean = (done.different == 0) & (done.other == 0) & (absent == 0) & (gaps == 0);
+    !((done.frames > 0) & clean) as usize
 }
 
 pub(crate) fn put(
