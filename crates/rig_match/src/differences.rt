@@ -1,114 +1,26 @@
 // Where a frame differs from what was rehearsed, and whose bytes it has.
-use crate::shown::byte_of;
-use crate::shown::put_acknowledge;
-use crate::shown::put_event;
+use crate::book::after;
+use crate::reported::Said;
+use crate::shown::NO_EVENT;
 use event_match::Difference;
 use event_match::Part;
 use frame_match::FROM;
 use frame_match::TO;
 use frame_match::get;
 use frame_match::span;
-use rig_lines::console::PAGE;
-use rig_lines::console::put_form;
-use text::put_bytes;
 
+// An event of a list, as far as it has one.
 fn event_at(events: &[u16], index: usize) -> u16 {
     if index < events.len() {
         events[index]
     } else {
-        0
+        NO_EVENT
     }
-}
-
-// An event of a list, or nothing where it has ended.
-fn put_what(page: &mut [u8; PAGE], at: usize, events: &[u16], index: usize) -> usize {
-    if index < events.len() {
-        return put_event(page, at, events[index]);
-    }
-    put_bytes(page, at, b"nothing")
 }
 
 // The place of a bit on the bus, where the most significant is sent first.
 fn place_of(bit: u8) -> u64 {
     if bit < 8 { 7 - bit as u64 } else { 0 }
-}
-
-fn put_bit(
-    page: &mut [u8; PAGE],
-    at: usize,
-    byte: usize,
-    bit: u8,
-    rehearsed: u16,
-    seen: u16,
-) -> usize {
-    let numbers = [
-        byte as u64,
-        place_of(bit),
-        byte_of(rehearsed),
-        byte_of(seen),
-    ];
-    put_form(
-        page,
-        at,
-        b" differs at byte # bit #: rehearsed %, bus %",
-        &numbers,
-    )
-}
-
-fn put_acknowledged(
-    page: &mut [u8; PAGE],
-    at: usize,
-    byte: usize,
-    rehearsed: u16,
-    seen: u16,
-) -> usize {
-    let numbers = [byte as u64, byte_of(rehearsed)];
-    let front = put_form(page, at, b" differs at byte # (%): rehearsed ", &numbers);
-    let one = put_acknowledge(page, front, rehearsed);
-    let other = put_bytes(page, one, b", bus ");
-    put_acknowledge(page, other, seen)
-}
-
-fn put_other(
-    page: &mut [u8; PAGE],
-    at: usize,
-    byte: usize,
-    rehearsed: &[u16],
-    seen: &[u16],
-    index: usize,
-) -> usize {
-    let front = put_form(page, at, b" differs at byte #: rehearsed ", &[byte as u64]);
-    let one = put_what(page, front, rehearsed, index);
-    let other = put_bytes(page, one, b", bus ");
-    put_what(page, other, seen, index)
-}
-
-// The first difference of two lists.
-pub(crate) fn put(page: &mut [u8; PAGE], at: usize, rehearsed: &[u16], seen: &[u16]) -> usize {
-    match event_match::compare(rehearsed, seen) {
-        Difference::Equal => at,
-        Difference::At { index, byte, part } => {
-            let one = event_at(rehearsed, index);
-            let other = event_at(seen, index);
-            match part {
-                Part::Bit(bit) => put_bit(page, at, byte, bit, one, other),
-                Part::Acknowledge => put_acknowledged(page, at, byte, one, other),
-                Part::Other => put_other(page, at, byte, rehearsed, seen, index),
-            }
-        }
-    }
-}
-
-// The index at which two lists differ; their end where they do not.
-pub(crate) fn index_of(rehearsed: &[u16], seen: &[u16]) -> usize {
-    match event_match::compare(rehearsed, seen) {
-        Difference::Equal => seen.len(),
-        Difference::At {
-            index,
-            byte: _,
-            part: _,
-        } => index,
-    }
 }
 
 fn is_acknowledge(part: Part) -> bool {
@@ -130,8 +42,8 @@ fn goes_on(message: &[u16], seen: &[u16], index: usize) -> bool {
     }
 }
 
-// The first board whose bytes these are, of those in rows.
-pub(crate) fn owner(
+// The first board whose bytes these are, of those in rows; 0, which is no board's row, where none has them.
+fn owner(
     book: &[u32],
     events: &[u16],
     from: usize,
@@ -147,5 +59,28 @@ pub(crate) fn owner(
         }
         row += 1;
     }
-    end
+    0
+}
+
+// How a frame differs from that of a load, whose boards end at a row.
+pub(crate) fn said(book: &[u32], events: &[u16], frame: &[u16], load: usize, end: usize) -> Said {
+    let rehearsed = span(events, get(book, load, FROM), get(book, load, TO));
+    let first = after(load);
+    match event_match::compare(rehearsed, frame) {
+        Difference::Equal => {
+            let who = owner(book, events, first, end, frame, frame.len());
+            Said::new(7, [load as u64, who as u64, 0, 0, 0, 0])
+        }
+        Difference::At { index, byte, part } => {
+            let who = owner(book, events, first, end, frame, index) as u64;
+            let one = event_at(rehearsed, index) as u64;
+            let other = event_at(frame, index) as u64;
+            let at = byte as u64;
+            match part {
+                Part::Bit(bit) => Said::new(4, [load as u64, at, place_of(bit), one, other, who]),
+                Part::Acknowledge => Said::new(5, [load as u64, at, one, one, other, who]),
+                Part::Other => Said::new(6, [load as u64, at, one, other, who, 0]),
+            }
+        }
+    }
 }

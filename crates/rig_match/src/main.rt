@@ -1,21 +1,22 @@
 // rig_match, run by `rig match`: a capture held against a rehearsal, both as the other programs print them.
 // The last line of output says how it went: `ok`, `look`, `refused` with a number, or `error`.
 mod book; // book.rt: how much of the rehearsal is kept
-mod boards; // boards.rt: the boards of a load that a frame is about
 mod capture; // capture.rt: the lines of the capture
 mod differences; // differences.rt: where a frame differs from what was rehearsed
 mod ending; // ending.rt: what was not on the bus, and the last line
+mod lists; // lists.rt: words in a list
 mod matching; // matching.rt: each frame held against the loads
-mod reading; // reading.rt: the input, line by line
+mod phrase; // phrase.rt: words with marks for numbers, names and events
+mod reading; // reading.rt: the input, line by line, and what is wrong with it
 mod rehearsal; // rehearsal.rt: the lines of the rehearsal
 mod reported; // reported.rt: the line of a frame
-mod shown; // shown.rt: parts of a line
-mod trouble; // trouble.rt: what was not understood or could not be read
+mod shown; // shown.rt: what the marks of a phrase stand for
 mod words; // words.rt: messages and frames in words
 
 use rig_lines::console::PAGE;
 use rig_lines::console::flush;
 use rig_lines::console::put_quoted;
+use rig_lines::input::ROOM;
 use text::put_bytes;
 
 // All of the input, then all of the frames.
@@ -25,15 +26,19 @@ fn run(page: &mut [u8; PAGE]) -> usize {
     let mut names = [0u8; book::NAME_ROOM];
     let mut seen = [0u16; capture::EVENTS];
     let mut stamps = [0u64; capture::EVENTS];
+    let mut piece = [0u8; PAGE];
+    let mut line = [0u8; ROOM];
     let reading = reading::read_all(
         page,
+        &mut piece,
+        &mut line,
         &mut book,
         &mut events,
         &mut names,
         &mut seen,
         &mut stamps,
     );
-    if reading.broken {
+    if reading.wrong > 0 {
         return reading.at;
     }
     matching::run(page, &mut book, &events, &names, &seen, &stamps, reading)
@@ -52,13 +57,12 @@ fn unexpected(page: &mut [u8; PAGE]) -> usize {
 }
 
 fn answer(page: &mut [u8; PAGE]) {
-    if os::arg_count() > 2 {
-        let end = unexpected(page);
-        flush(page, end);
+    let end = if os::arg_count() > 2 {
+        unexpected(page)
     } else {
-        let end = run(page);
-        flush(page, end);
-    }
+        run(page)
+    };
+    flush(page, end);
 }
 
 fn main() {

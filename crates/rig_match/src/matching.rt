@@ -32,24 +32,6 @@ pub(crate) struct Matching {
 }
 
 impl Matching {
-    fn new(at: usize, next: usize) -> Matching {
-        Matching {
-            at,
-            next,
-            frames: 0,
-            rehearsed: 0,
-            waited: 0,
-            different: 0,
-            other: 0,
-        }
-    }
-
-    fn moved(mut self, at: usize, next: usize) -> Matching {
-        self.at = at;
-        self.next = next;
-        self
-    }
-
     // With one frame more, which was found to be something.
     fn counted(mut self, found: Found) -> Matching {
         self.frames = more(self.frames);
@@ -77,37 +59,57 @@ fn with_frame(
 ) -> Matching {
     let found = find(book, rows, events, seen, from, so_far.next);
     let load = load_about(book, rows, found, so_far.next);
-    let matching = so_far.counted(found);
+    let mut matching = so_far.counted(found);
     let end = end_of(seen, from);
-    let front = reported::put_front(page, matching.at, stamps, from, end, matching.frames);
-    let frame = span(seen, from, end);
-    let words = reported::put(page, front, book, rows, events, names, frame, load, found);
-    let at = reported::put_end(page, words, stamps, from, end);
+    let number = matching.frames;
+    matching.at = reported::put(
+        page,
+        matching.at,
+        book,
+        rows,
+        events,
+        names,
+        seen,
+        stamps,
+        from,
+        end,
+        number,
+        load,
+        found,
+    );
     settle(
         book,
         rows,
         events,
-        frame,
+        span(seen, from, end),
         load,
         found,
-        matching.frames as usize,
+        number as usize,
     );
-    let next = next_after(book, rows, found, load, matching.next);
-    matching.moved(at, next)
+    matching.next = next_after(book, rows, found, load, matching.next);
+    matching
 }
 
 // All frames, of which there are no more than events.
 fn match_all(
     page: &mut [u8; PAGE],
+    at: usize,
     book: &mut [u32; ROW_ROOM],
     rows: usize,
     events: &[u16],
     names: &[u8],
     seen: &[u16],
     stamps: &[u64],
-    begun: Matching,
 ) -> Matching {
-    let mut matching = begun;
+    let mut matching = Matching {
+        at,
+        next: next_load(book, rows, 0),
+        frames: 0,
+        rehearsed: 0,
+        waited: 0,
+        different: 0,
+        other: 0,
+    };
     let mut from = start_from(seen, 0);
     let mut turns = seen.len();
     while turns > 0 {
@@ -141,9 +143,16 @@ pub(crate) fn run(
     stamps: &[u64; EVENTS],
     reading: Reading,
 ) -> usize {
-    let rows = reading.rows;
     let list = span(seen, 0, reading.seen);
-    let begun = Matching::new(reading.at, next_load(book, rows, 0));
-    let done = match_all(page, book, rows, events, names, list, stamps, begun);
-    ending::put(page, book, rows, names, reading, done)
+    let done = match_all(
+        page,
+        reading.at,
+        book,
+        reading.rows,
+        events,
+        names,
+        list,
+        stamps,
+    );
+    ending::put(page, book, events, names, list, reading, done)
 }

@@ -5,29 +5,52 @@ use crate::book::NAME_ROOM;
 use crate::book::ROW_ROOM;
 use crate::capture;
 use crate::capture::EVENTS;
+use crate::lists::line_of;
 use crate::rehearsal;
-use crate::trouble;
+use check::same;
 use libc::STDIN_FILENO;
 use rig_lines::console::PAGE;
+use rig_lines::console::begin;
+use rig_lines::console::put_form;
+use rig_lines::console::put_quoted;
+use rig_lines::files::put_reason;
 use rig_lines::input;
 use rig_lines::input::Line;
 use rig_lines::input::ROOM;
 use rig_lines::input::Source;
 use rig_lines::input::Taken;
 use rig_lines::numbers::more;
+use text::first_word;
+use text::put_byte;
+use text::put_bytes;
 
-// How the rehearsal ended: not yet, read, refused by a number, or in error.
-pub(crate) const OPEN: u8 = 0;
+// How the rehearsal ended: `ok` or `look`, refused by a number, in error; from OPEN on not yet.
+pub(crate) const REFUSED: usize = 2;
 
-pub(crate) const READ: u8 = 1;
+pub(crate) const OPEN: usize = 4;
 
-pub(crate) const REFUSED: u8 = 2;
+// What is wrong with the input.
+const OPEN_REHEARSAL: usize = 1;
 
-pub(crate) const IN_ERROR: u8 = 3;
+const OPEN_CAPTURE: usize = 2;
+
+const FULL: usize = 3;
+
+const TOO_LONG: usize = 4;
+
+const NO_TEXT: usize = 5;
+
+pub(crate) const CROWDED: usize = 6;
+
+pub(crate) const STRANGE: usize = 7;
+
+const UNREADABLE: usize = 8;
 
 // How far the input is read, and how much of it is kept.
 pub(crate) struct Reading {
-    pub(crate) source: Source,
+    source: Source,
+    // how many bytes the line taken last has
+    length: usize,
     // where the page goes on
     pub(crate) at: usize,
     // rows, events and bytes of names of the rehearsal
@@ -40,18 +63,19 @@ pub(crate) struct Reading {
     pub(crate) seen: usize,
     pub(crate) gaps: u64,
     // how the rehearsal ended, the number of its refusal, and how many faults it has
-    pub(crate) verdict: u8,
+    pub(crate) verdict: usize,
     pub(crate) number: u64,
     pub(crate) faults: u64,
     pub(crate) more: bool,
-    // an error stands on the page
-    pub(crate) broken: bool,
+    // 0 where nothing is
+    pub(crate) wrong: usize,
 }
 
 impl Reading {
     fn new() -> Reading {
         Reading {
             source: input::begin(STDIN_FILENO, 0),
+            length: 0,
             at: 0,
             rows: 0,
             events: 0,
@@ -63,134 +87,146 @@ impl Reading {
             number: 0,
             faults: 0,
             more: true,
-            broken: false,
+            wrong: 0,
         }
     }
 
-    fn with_source(mut self, source: Source) -> Reading {
+    pub(crate) fn failed(mut self, wrong: usize) -> Reading {
+        self.more = false;
+        self.wrong = wrong;
+        self
+    }
+
+    // Follows what taking a line found: its length, or what is wrong with it.
+    fn after(mut self, taken: Taken) -> Reading {
+        let found = taken.line;
+        let source = taken.source;
         self.source = source;
-        self
-    }
-
-    pub(crate) fn moved(mut self, at: usize) -> Reading {
-        self.at = at;
-        self
-    }
-
-    pub(crate) fn kept(mut self, rows: usize, events: usize, names: usize) -> Reading {
-        self.rows = rows;
-        self.events = events;
-        self.names = names;
-        self
-    }
-
-    pub(crate) fn with_load(mut self, row: usize) -> Reading {
-        self.load = row;
-        self
-    }
-
-    pub(crate) fn ended(mut self, verdict: u8, number: u64) -> Reading {
-        self.verdict = verdict;
-        self.number = number;
-        self
-    }
-
-    // A fault stands on the page up to a position.
-    pub(crate) fn with_fault(mut self, at: usize) -> Reading {
-        self.at = at;
-        self.faults = more(self.faults);
-        self
-    }
-
-    pub(crate) fn with_gap(mut self) -> Reading {
-        self.gaps = more(self.gaps);
-        self
-    }
-
-    pub(crate) fn with_seen(mut self, seen: usize) -> Reading {
-        self.seen = seen;
-        self
-    }
-
-    pub(crate) fn finished(mut self) -> Reading {
-        self.more = false;
-        self
-    }
-
-    // An error stands on the page up to a position.
-    pub(crate) fn failed(mut self, at: usize) -> Reading {
-        self.at = at;
-        self.more = false;
-        self.broken = true;
-        self
-    }
-
-    // The rehearsal is still to be read.
-    pub(crate) fn is_rehearsal(self) -> bool {
-        self.more & (self.verdict == OPEN)
+        self.length = 0;
+        match found {
+            Line::Text(n) => {
+                self.length = n;
+                self
+            }
+            Line::TooLong => self.failed(TOO_LONG),
+            Line::NoText => self.failed(NO_TEXT),
+            Line::Failed => self.failed(UNREADABLE),
+            Line::End => {
+                if self.verdict < OPEN {
+                    return self.failed(OPEN_CAPTURE);
+                }
+                self.failed(OPEN_REHEARSAL)
+            }
+        }
     }
 
     // More is to be kept than there is room for.
-    fn is_full(self) -> bool {
-        (self.rows > book::ROWS) | (self.events > book::EVENTS) | (self.names > book::NAMES)
-    }
-
-    pub(crate) fn checked(self, page: &mut [u8; PAGE]) -> Reading {
-        if self.is_full() {
-            let words = b"error the rehearsal is too long to be kept: name a load";
-            return self.failed(trouble::say(page, self.at, words));
+    fn checked(self) -> Reading {
+        if (self.rows > book::ROWS) | (self.events > book::EVENTS) | (self.names > book::NAMES) {
+            return self.failed(FULL);
         }
         self
     }
 
-    // The input has ended before the last line of the rehearsal, or of the capture.
-    fn unended(self, page: &mut [u8; PAGE]) -> Reading {
-        if self.verdict == OPEN {
-            return self.failed(trouble::say(
-                page,
-                self.at,
-                b"error the rehearsal has no last line",
-            ));
+    // A line is passed on, and the page goes on after it.
+    fn passed(mut self, at: usize) -> Reading {
+        self.at = at;
+        if self.verdict < OPEN {
+            self.gaps = more(self.gaps);
+        } else {
+            self.faults = more(self.faults);
         }
-        self.failed(trouble::say(page, self.at, b"error the capture has no last line"))
-    }
-
-    fn unread(self, page: &mut [u8; PAGE], found: Line) -> Reading {
-        let from = self.source;
-        self.failed(trouble::unread(page, self.at, found, from))
+        self
     }
 }
 
-// Follows what taking a line found: its end, or what is wrong with it. A line of text changes nothing.
-pub(crate) fn after(page: &mut [u8; PAGE], reading: Reading, taken: Taken) -> Reading {
-    let found = taken.line;
-    let source = taken.source;
-    let next = reading.with_source(source);
-    match found {
-        Line::Text(_) => next,
-        Line::End => next.unended(page),
-        _ => next.unread(page, found),
+// A line that is passed on: a fault of the rehearsal, or a long gap of the capture.
+fn is_passed(verdict: usize, line: &[u8]) -> bool {
+    if verdict < OPEN {
+        return same(first_word(line), b"note:");
     }
+    same(first_word(line), b"!") & !rehearsal::is_inner(line)
 }
 
-// How many bytes a line of text has; else none.
-pub(crate) fn length(taken: Taken) -> usize {
-    let found = taken.line;
-    if let Line::Text(n) = found { n } else { 0 }
-}
-
-// All of the input: the rehearsal, and then the capture.
-pub(crate) fn read_all(
+// Follows the line taken last.
+fn with_line(
     page: &mut [u8; PAGE],
+    reading: Reading,
+    line: &[u8],
     book: &mut [u32; ROW_ROOM],
     events: &mut [u16; EVENT_ROOM],
     names: &mut [u8; NAME_ROOM],
     seen: &mut [u16; EVENTS],
     stamps: &mut [u64; EVENTS],
 ) -> Reading {
-    let mut piece = [0u8; PAGE];
-    let mut line = [0u8; ROOM];
-    let begun = Reading::new();
-    let rehearsed = rehearsal::read_all(page, begun, &mut piece, &mut line, book, events, names);
-    capture::read_all(page, rehearsed, &mut piece, &mut line, seen, stamps)
+    let words = input::content(line, reading.length);
+    if is_passed(reading.verdict, words) {
+        let start = begin(page, reading.at);
+        let end = put_bytes(page, start, book::text(line, 0, reading.length));
+        return reading.passed(put_byte(page, end, b'\n'));
+    }
+    if reading.verdict < OPEN {
+        return capture::with_line(reading, words, seen, stamps);
+    }
+    let next = rehearsal::with_line(reading, book, events, names, words);
+    next.checked()
+}
+
+// The word that was met, or why the input cannot be read.
+fn put_detail(page: &mut [u8; PAGE], at: usize, line: &[u8], reading: Reading) -> usize {
+    let wrong = reading.wrong;
+    match wrong {
+        STRANGE => put_quoted(page, at, first_word(input::content(line, reading.length))),
+        UNREADABLE => put_reason(page, at, reading.source.errno),
+        _ => at,
+    }
+}
+
+// Says what is wrong, if anything is.
+fn ended(page: &mut [u8; PAGE], line: &[u8], so_far: Reading) -> Reading {
+    let mut reading = so_far;
+    if reading.wrong == 0 {
+        return reading;
+    }
+    let words = line_of(
+        b"
+error the rehearsal has no last line
+error the capture has no last line
+error the rehearsal is too long to be kept: name a load
+error line #: longer than 4096 bytes
+error line #: a byte that is no text
+error line #: more than 4096 events
+error line #: expected what rig decode prints, not \nerror cannot read standard input: ",
+        reading.wrong,
+    );
+    let start = begin(page, reading.at);
+    let front = put_form(page, start, words, &[reading.source.line]);
+    let end = put_detail(page, front, line, reading);
+    reading.at = put_byte(page, end, b'\n');
+    reading
+}
+
+// All of the input.
+pub(crate) fn read_all(
+    page: &mut [u8; PAGE],
+    piece: &mut [u8; PAGE],
+    line: &mut [u8; ROOM],
+    book: &mut [u32; ROW_ROOM],
+    events: &mut [u16; EVENT_ROOM],
+    names: &mut [u8; NAME_ROOM],
+    seen: &mut [u16; EVENTS],
+    stamps: &mut [u64; EVENTS],
+) -> Reading {
+    let mut reading = Reading::new();
+    let mut turns = u64::MAX;
+    while turns > 0 {
+        turns -= 1;
+        if !reading.more {
+            return ended(page, line, reading);
+        }
+        let taken = input::next_line(piece, line, reading.source);
+        let next = reading.after(taken);
+        reading = with_line(page, next, line, book, events, names, seen, stamps);
+    }
+    reading
 }

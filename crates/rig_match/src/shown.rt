@@ -1,10 +1,23 @@
-// Parts of a line: names, and events in words.
+// What the marks of a phrase stand for: names, events, the boards of a load, the bytes of a frame.
 use crate::book::text;
+use crate::lists::line_of;
+use crate::phrase::UNDECIDED;
+use crate::phrase::WINNERS;
+use frame_match::CUT;
+use frame_match::FROM;
+use frame_match::IN;
+use frame_match::KIND;
 use frame_match::NAME;
 use frame_match::NAME_END;
 use frame_match::NUMBER;
+use frame_match::STATE;
+use frame_match::TO;
+use frame_match::WAITS;
+use frame_match::WON;
 use frame_match::get;
 use frame_match::is_load;
+use frame_match::is_of;
+use frame_match::span;
 use rig_lines::console::PAGE;
 use rig_lines::console::begin;
 use rig_lines::console::put_form;
@@ -13,7 +26,9 @@ use trace::NACK;
 use trace::PARTIAL;
 use trace::REPEATED_START;
 use trace::START;
-use trace::STOP;
+
+// Stands for the event of a list that has ended.
+pub(crate) const NO_EVENT: u16 = PARTIAL + 1;
 
 // A load by its name, a board by its name or, where it has none, by its number.
 pub(crate) fn put_name(
@@ -23,88 +38,138 @@ pub(crate) fn put_name(
     names: &[u8],
     row: usize,
 ) -> usize {
+    let from = begin(page, at);
     let name = text(names, get(book, row, NAME), get(book, row, NAME_END));
     if (name.len() == 0) & !is_load(book, row) {
-        return put_form(page, at, b"board #", &[get(book, row, NUMBER) as u64]);
+        return put_form(page, from, b"board #", &[get(book, row, NUMBER) as u64]);
     }
-    put_bytes(page, at, name)
+    put_bytes(page, from, name)
 }
 
-// A byte of the bus: the event without its acknowledge.
-pub(crate) fn byte_of(event: u16) -> u64 {
-    (event % NACK) as u64
-}
-
-pub(crate) fn is_acknowledged(event: u16) -> bool {
-    event < NACK
-}
-
-// An event that is held against another.
-pub(crate) fn put_event(page: &mut [u8; PAGE], at: usize, event: u16) -> usize {
-    match event {
-        START => put_bytes(page, at, b"START"),
-        REPEATED_START => put_bytes(page, at, b"repeated START"),
-        STOP => put_bytes(page, at, b"STOP"),
-        PARTIAL => put_bytes(page, at, b"cut byte"),
-        _ => put_form(page, at, b"%", &[byte_of(event)]),
+// An event that is held against another: a byte, or one of those from START on.
+pub(crate) fn put_event(page: &mut [u8; PAGE], at: usize, event: u64) -> usize {
+    if event < START as u64 {
+        return put_form(page, at, b"%", &[event]);
     }
+    let words = b"START\nrepeated START\nSTOP\ncut byte\nnothing";
+    put_bytes(page, at, line_of(words, event as usize - START as usize))
 }
 
-pub(crate) fn put_acknowledge(page: &mut [u8; PAGE], at: usize, event: u16) -> usize {
-    if is_acknowledged(event) {
-        return put_bytes(page, at, b"ACK");
+// The place of an acknowledge in a list: 1 is none.
+pub(crate) fn acknowledge(event: u64) -> usize {
+    (event >= NACK as u64) as usize
+}
+
+// The last byte before a position.
+fn byte_before(page: &[u8], at: usize) -> u8 {
+    if at > 0 {
+        let last = at - 1;
+        if last < page.len() {
+            return page[last];
+        }
     }
-    put_bytes(page, at, b"NACK")
+    0
 }
 
-// A byte with its acknowledge, or a cut byte.
-fn put_carried(page: &mut [u8; PAGE], at: usize, event: u16) -> usize {
-    if event == PARTIAL {
-        return put_bytes(page, at, b"cut byte");
-    }
-    let byte = put_form(page, at, b"% ", &[byte_of(event)]);
-    put_acknowledge(page, byte, event)
-}
-
-// What stands before an event of a frame: nothing before the first, and a restart in the place of a comma.
-fn put_between(page: &mut [u8; PAGE], at: usize, first: bool, restarted: bool) -> usize {
-    if first {
+// A comma and a blank, unless a blank stands before.
+pub(crate) fn put_comma(page: &mut [u8; PAGE], at: usize) -> usize {
+    if byte_before(page, at) == b' ' {
         return at;
     }
-    if restarted {
-        return put_bytes(page, at, b" / ");
-    }
     put_bytes(page, at, b", ")
+}
+
+// A board is of those that a mark names: it won, is undecided, or waits with the message of the first.
+fn is_among(book: &[u32], events: &[u16], mark: u8, first: usize, row: usize) -> bool {
+    let kind = get(book, row, KIND);
+    match mark {
+        WINNERS => (kind == WON) | (kind == CUT),
+        UNDECIDED => kind == IN,
+        _ => {
+            let message = span(events, get(book, first, FROM), get(book, first, TO));
+            (get(book, row, STATE) == WAITS) & is_of(book, events, row, message)
+        }
+    }
+}
+
+fn put_next_name(
+    page: &mut [u8; PAGE],
+    at: usize,
+    book: &[u32],
+    names: &[u8],
+    row: usize,
+) -> usize {
+    let next = put_comma(page, at);
+    put_name(page, next, book, names, row)
+}
+
+// The boards in rows that a mark names.
+pub(crate) fn put_boards(
+    page: &mut [u8; PAGE],
+    begun: usize,
+    book: &[u32],
+    events: &[u16],
+    names: &[u8],
+    mark: u8,
+    from: usize,
+    end: usize,
+) -> usize {
+    let mut at = begun;
+    let mut row = from;
+    while row < end {
+        if is_among(book, events, mark, from, row) {
+            at = put_next_name(page, at, book, names, row);
+        }
+        row += 1;
+    }
+    at
 }
 
 fn is_shown(event: u16) -> bool {
     (event < START) | (event == PARTIAL)
 }
 
-// An event of a frame, after others or as the first.
-fn put_next(page: &mut [u8; PAGE], at: usize, event: u16, first: bool, restarted: bool) -> usize {
+// The place of what stands before the next byte: nothing before the first, then a comma, or a restart.
+fn between(before: usize, event: u16) -> usize {
+    if is_shown(event) {
+        return 1;
+    }
+    if (event == REPEATED_START) & (before > 0) {
+        return 2;
+    }
+    before
+}
+
+// A byte with its acknowledge, or a cut byte, after what stands before it.
+fn put_byte(page: &mut [u8; PAGE], at: usize, event: u16, before: usize) -> usize {
     if !is_shown(event) {
         return at;
     }
     let from = begin(page, at);
-    let next = put_between(page, from, first, restarted);
-    put_carried(page, next, event)
+    let next = put_bytes(page, from, line_of(b"\n, \n / ", before));
+    let words = line_of(b"% ACK\n% NACK\ncut byte", event as usize / NACK as usize);
+    put_form(page, next, words, &[event as u64])
 }
 
 // The bytes of a frame, or that it has none.
-pub(crate) fn put_frame(page: &mut [u8; PAGE], from: usize, frame: &[u16]) -> usize {
-    let mut at = from;
-    let mut first = true;
-    let mut restarted = false;
+pub(crate) fn put_frame(
+    page: &mut [u8; PAGE],
+    begun: usize,
+    seen: &[u16],
+    from: usize,
+    end: usize,
+) -> usize {
+    let frame = span(seen, from, end);
+    let mut at = begun;
+    let mut before: usize = 0;
     let mut i = 0;
     while i < frame.len() {
         let event = frame[i];
-        at = put_next(page, at, event, first, restarted);
-        first = first & !is_shown(event);
-        restarted = (restarted & !is_shown(event)) | (event == REPEATED_START);
+        at = put_byte(page, at, event, before);
+        before = between(before, event);
         i += 1;
     }
-    if first {
+    if before == 0 {
         return put_bytes(page, at, b"no byte");
     }
     at

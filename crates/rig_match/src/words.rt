@@ -1,4 +1,5 @@
 // Messages and frames in words, as events.
+use crate::book;
 use crate::book::EVENT_ROOM;
 use check::same;
 use rig_lines::numbers::hex_byte;
@@ -11,52 +12,74 @@ use trace::REPEATED_START;
 use trace::START;
 use trace::STOP;
 
+// Words without so many bytes at their end.
+pub(crate) fn front(words: &[u8], rest: usize) -> &[u8] {
+    if rest > words.len() {
+        return words;
+    }
+    book::text(words, 0, words.len() - rest)
+}
+
+// A word without a colon at its end.
+pub(crate) fn before_colon(word: &[u8]) -> &[u8] {
+    if word.len() == 0 {
+        return word;
+    }
+    if word[word.len() - 1] == b':' {
+        return front(word, 1);
+    }
+    word
+}
+
 // A byte: two hexadecimal digits.
 pub(crate) fn is_byte(word: &[u8]) -> bool {
     (word.len() == 2) & (value(hex_byte(word)) < 256)
 }
 
+// Between two parts of a message.
 fn is_restart(word: &[u8]) -> bool {
     same(word, b"/")
 }
 
-fn byte_in(word: &[u8]) -> u8 {
-    (value(hex_byte(word)) % 256) as u8
+// An event stands first: a byte or a restart. The count of bytes in `2 of 4 bytes carried`, after a message, is none.
+fn is_event(words: &[u8], carried: bool) -> bool {
+    let word = first_word(words);
+    let counted = same(first_word(after_word(words)), b"of") & !carried;
+    (is_byte(word) | is_restart(word)) & !counted
 }
 
-// A byte, or the restart between two parts.
-fn event_in(word: &[u8]) -> u16 {
-    if is_restart(word) {
+fn is_unacknowledged(word: &[u8]) -> bool {
+    same(word, b"NACK") | same(word, b"NACK,")
+}
+
+// The first event; a byte that was carried has its acknowledge after it.
+fn event_in(words: &[u8], carried: bool) -> u16 {
+    if is_restart(first_word(words)) {
         return REPEATED_START;
     }
-    byte_in(word) as u16
-}
-
-// A byte, or a restart.
-fn is_message(word: &[u8]) -> bool {
-    is_byte(word) | is_restart(word)
-}
-
-// How many words are bytes or restarts, from the first on.
-pub(crate) fn count(words: &[u8]) -> usize {
-    let mut n: usize = 0;
-    let mut rest = words;
-    while n < words.len() {
-        if !is_message(first_word(rest)) {
-            return n;
-        }
-        let next = after_word(rest);
-        rest = next;
-        n += 1;
+    let byte = (value(hex_byte(first_word(words))) % 256) as u16;
+    if carried & is_unacknowledged(first_word(after_word(words))) {
+        return byte + NACK;
     }
-    n
+    byte
 }
 
-// What follows so many words.
-pub(crate) fn past(words: &[u8], n: usize) -> &[u8] {
+// What follows the first event.
+fn after_event(words: &[u8], carried: bool) -> &[u8] {
+    if carried & !is_restart(first_word(words)) {
+        return after_word(after_word(words));
+    }
+    after_word(words)
+}
+
+// What follows a message.
+pub(crate) fn after_message(words: &[u8]) -> &[u8] {
     let mut rest = words;
-    let mut left = n;
+    let mut left = words.len();
     while left > 0 {
+        if !is_event(rest, false) {
+            return rest;
+        }
         let next = after_word(rest);
         rest = next;
         left -= 1;
@@ -64,79 +87,24 @@ pub(crate) fn past(words: &[u8], n: usize) -> &[u8] {
     rest
 }
 
-fn put_words(events: &mut [u16; EVENT_ROOM], at: usize, words: &[u8], n: usize) -> usize {
-    let mut next = at;
-    let mut rest = words;
-    let mut left = n;
-    while left > 0 {
-        next = store::event(events, next, event_in(first_word(rest)));
-        let after = after_word(rest);
-        rest = after;
-        left -= 1;
-    }
-    next
-}
-
-// A message of so many words, all of it acknowledged, from START to STOP.
-pub(crate) fn put_message(
+// A message, all of it acknowledged, or a frame that was carried, with its acknowledges; from START to STOP.
+pub(crate) fn put_events(
     events: &mut [u16; EVENT_ROOM],
     at: usize,
     words: &[u8],
-    n: usize,
+    carried: bool,
 ) -> usize {
-    let start = store::event(events, at, START);
-    let end = put_words(events, start, words, n);
-    store::event(events, end, STOP)
-}
-
-fn is_unacknowledged(word: &[u8]) -> bool {
-    same(word, b"NACK") | same(word, b"NACK,")
-}
-
-// A byte, with the acknowledge that stands after it.
-fn acknowledged(words: &[u8]) -> u16 {
-    let byte = byte_in(first_word(words));
-    if is_unacknowledged(first_word(after_word(words))) {
-        return byte as u16 + NACK;
-    }
-    byte as u16
-}
-
-// A byte with its acknowledge, or a restart.
-fn carried_in(words: &[u8]) -> u16 {
-    if is_restart(first_word(words)) {
-        return REPEATED_START;
-    }
-    acknowledged(words)
-}
-
-// What follows it.
-fn after_carried(words: &[u8]) -> &[u8] {
-    if is_restart(first_word(words)) {
-        return after_word(words);
-    }
-    after_word(after_word(words))
-}
-
-fn put_carried(events: &mut [u16; EVENT_ROOM], at: usize, words: &[u8]) -> usize {
-    let mut next = at;
+    let mut next = store::event(events, at, START);
     let mut rest = words;
     let mut left = words.len();
     while left > 0 {
-        if !is_message(first_word(rest)) {
-            return next;
+        if !is_event(rest, carried) {
+            return store::event(events, next, STOP);
         }
-        next = store::event(events, next, carried_in(rest));
-        let after = after_carried(rest);
+        next = store::event(events, next, event_in(rest, carried));
+        let after = after_event(rest, carried);
         rest = after;
         left -= 1;
     }
-    next
-}
-
-// A frame that was carried, with its acknowledges, from START to STOP.
-pub(crate) fn put_frame(events: &mut [u16; EVENT_ROOM], at: usize, words: &[u8]) -> usize {
-    let start = store::event(events, at, START);
-    let end = put_carried(events, start, words);
-    store::event(events, end, STOP)
+    store::event(events, next, STOP)
 }

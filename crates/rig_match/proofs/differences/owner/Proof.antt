@@ -1,6 +1,6 @@
 -- `rig_match::differences::owner` is safe and ends.
-use Prim.Native.Nat.{_-_}
 use borrow.Author.Needs.{needs}
+use Prim.Native.Nat.{_-_}
 use Rattle.rig_match.proofs.differences.owner.Statement.{statement}
 use Rattle.rig_match.proofs.differences.owner.Tie as tie
 

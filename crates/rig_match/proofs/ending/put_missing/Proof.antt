@@ -1,14 +1,14 @@
 -- `rig_match::ending::put_missing` is safe and ends.
-use Prim.Native.Nat.{_-_}
 use borrow.Author.Needs.{needs}
+use Prim.Native.Nat.{_-_}
 use Rattle.rig_match.proofs.ending.put_missing.Statement.{statement}
 use Rattle.rig_match.proofs.ending.put_missing.Tie as tie
 
 abbrev Inv-loop : tie.InvT-loop
-Inv-loop page₀ at book rows names missing₀ row₀ page missing row = Unit {0}
+Inv-loop page₀ at book rows events names seen missing₀ row₀ page missing row = Unit {0}
 
 abbrev μ-loop : tie.MeasureT-loop
-μ-loop page₀ at book rows names missing₀ row₀ page missing row = rows - row
+μ-loop page₀ at book rows events names seen missing₀ row₀ page missing row = rows - row
 
 loop-holds : tie.Need-loop-holds Inv-loop μ-loop
 loop-holds c = search needs

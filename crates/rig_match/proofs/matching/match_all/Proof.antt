@@ -4,10 +4,13 @@ use Rattle.rig_match.proofs.matching.match_all.Statement.{statement}
 use Rattle.rig_match.proofs.matching.match_all.Tie as tie
 
 abbrev Inv-loop : tie.InvT-loop
-Inv-loop page₀ book₀ rows events names seen stamps matching₀ from₀ turns₀ page book matching from turns = Unit {0}
+Inv-loop page₀ at book₀ rows events names seen stamps matching₀ from₀ turns₀ page book matching from turns = Unit {0}
 
 abbrev μ-loop : tie.MeasureT-loop
-μ-loop page₀ book₀ rows events names seen stamps matching₀ from₀ turns₀ page book matching from turns = turns
+μ-loop page₀ at book₀ rows events names seen stamps matching₀ from₀ turns₀ page book matching from turns = turns
+
+next-load-requires : tie.Need-next-load-requires Inv-loop μ-loop
+next-load-requires c κs = search needs
 
 start-from-requires : tie.Need-start-from-requires Inv-loop μ-loop
 start-from-requires c κs = search needs
@@ -42,6 +45,7 @@ match-all-spec =
     (tie.spec
     Inv-loop
     μ-loop
+    next-load-requires
     start-from-requires
     loop-holds
     sub-turns

@@ -1,15 +1,18 @@
 -- `rig_match::shown::put_frame` is safe and ends.
+use borrow.Author.Needs.{needs}
 use Prim.Native.Nat.{_-_}
 use lib.ListN.{length}
-use borrow.Author.Needs.{needs}
 use Rattle.rig_match.proofs.shown.put_frame.Statement.{statement}
 use Rattle.rig_match.proofs.shown.put_frame.Tie as tie
 
 abbrev Inv-loop : tie.InvT-loop
-Inv-loop page₀ from frame at₀ first₀ restarted₀ i₀ t9 page at first restarted i = Unit {0}
+Inv-loop page₀ begun seen from end frame at₀ before₀ i₀ t11 page at before i = Unit {0}
 
 abbrev μ-loop : tie.MeasureT-loop
-μ-loop page₀ from frame at₀ first₀ restarted₀ i₀ t9 page at first restarted i = length frame - i
+μ-loop page₀ begun seen from end frame at₀ before₀ i₀ t11 page at before i = length frame - i
+
+span-requires : tie.Need-span-requires Inv-loop μ-loop
+span-requires c κs = search needs
 
 loop-holds : tie.Need-loop-holds Inv-loop μ-loop
 loop-holds c = search needs
@@ -20,14 +23,11 @@ mul-event c = search needs
 shared-slice-read-event : tie.Need-shared-slice-read-event Inv-loop μ-loop
 shared-slice-read-event c = search needs
 
-put-next-requires : tie.Need-put-next-requires Inv-loop μ-loop
-put-next-requires c κs = search needs
+put-byte-requires : tie.Need-put-byte-requires Inv-loop μ-loop
+put-byte-requires c κs = search needs
 
-is-shown-requires : tie.Need-is-shown-requires Inv-loop μ-loop
-is-shown-requires c κs = search needs
-
-is-shown-requires-2 : tie.Need-is-shown-requires-2 Inv-loop μ-loop
-is-shown-requires-2 c κs = search needs
+between-requires : tie.Need-between-requires Inv-loop μ-loop
+between-requires c κs = search needs
 
 add-i : tie.Need-add-i Inv-loop μ-loop
 add-i c = search needs
@@ -56,12 +56,12 @@ put-frame-spec =
     (tie.spec
     Inv-loop
     μ-loop
+    span-requires
     loop-holds
     mul-event
     shared-slice-read-event
-    put-next-requires
-    is-shown-requires
-    is-shown-requires-2
+    put-byte-requires
+    between-requires
     add-i
     loop-less
     loop-again

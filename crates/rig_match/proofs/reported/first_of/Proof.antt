@@ -1,8 +1,8 @@
--- `rig_match::boards::first_of` is safe and ends.
+-- `rig_match::reported::first_of` is safe and ends.
 use Prim.Native.Nat.{_-_}
 use borrow.Author.Needs.{needs}
-use Rattle.rig_match.proofs.boards.first_of.Statement.{statement}
-use Rattle.rig_match.proofs.boards.first_of.Tie as tie
+use Rattle.rig_match.proofs.reported.first_of.Statement.{statement}
+use Rattle.rig_match.proofs.reported.first_of.Tie as tie
 
 abbrev Inv-loop : tie.InvT-loop
 Inv-loop book from end kind row₀ row = Unit {0}
