@@ -5,6 +5,7 @@ pub(crate) mod samples; // samples.rt: a trace read from its lines
 mod shown; // shown.rt: the events one a line
 
 use crate::arguments::Arguments;
+use crate::lines::end;
 use crate::lines::line_of;
 use crate::lines::put;
 use crate::lines::say;
@@ -55,38 +56,36 @@ fn show_start(page: &mut [u8; PAGE], at: usize, stamps: &[u32]) -> usize {
     say(page, next, b"gap #", &[gap as u64], b"")
 }
 
-// A count of what needs a look, where there is any.
-fn put_met(page: &mut [u8; PAGE], at: usize, words: &[u8], n: u64) -> usize {
-    if n == 0 {
-        return at;
+// Which words begin the last line: a frame that is open needs a look.
+fn verdict(shown: Shown, framed: bool) -> usize {
+    if framed {
+        return 2;
     }
-    put(page, at, words, &[n], b"")
+    if (shown.cut_bytes > 0) | (shown.long_gaps > 0) | !shown.bytes {
+        return 1;
+    }
+    0
 }
 
 // The last line: how the trace ends, and what was met that needs a look.
 fn summary(page: &mut [u8; PAGE], shown: Shown, samples: usize, ending: Ending) -> usize {
-    let looks = ending.framed | (shown.cut_bytes > 0) | (shown.long_gaps > 0) | !shown.bytes;
-    let verdict = put(
-        page,
-        shown.at,
-        line_of(b"ok \nlook \n", looks as usize),
-        &[0],
-        b"",
-    );
     let words = line_of(
-        b"# event~ in # sample~, no frame open, # bit~ pending
-# event~ in # sample~, frame open, # bit~ pending
+        b"ok # event~ in # sample~, no frame open, # bit~ pending
+look # event~ in # sample~, no frame open, # bit~ pending
+look # event~ in # sample~, frame open, # bit~ pending
 ",
-        ending.framed as usize,
+        verdict(shown, ending.framed),
     );
     let numbers = [ending.count as u64, samples as u64, ending.pending as u64];
-    let read = put(page, verdict, words, &numbers, b"");
     let value = line_of(b"\n, value %h\n", (ending.pending > 0) as usize);
-    let pending = put(page, read, value, &[ending.value as u64], b"");
-    let cut = put_met(page, pending, b", # cut byte~", shown.cut_bytes);
-    let gaps = put_met(page, cut, b", # long gap~", shown.long_gaps);
+    let cut = line_of(b"\n, # cut byte~\n", (shown.cut_bytes > 0) as usize);
+    let long = line_of(b"\n, # long gap~\n", (shown.long_gaps > 0) as usize);
     let bytes = line_of(b", no byte in any frame\n", shown.bytes as usize);
-    say(page, gaps, bytes, &[0], b"")
+    let pending = put(page, shown.at, words, &numbers, b"");
+    let valued = put(page, pending, value, &[ending.value as u64], b"");
+    let cuts = put(page, valued, cut, &[shown.cut_bytes], b"");
+    let gaps = put(page, cuts, long, &[shown.long_gaps], b"");
+    end(page, gaps, bytes)
 }
 
 // A refusal, with the line of its sample; a sample of a dump has no line, and is named by its stamp.

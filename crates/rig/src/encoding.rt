@@ -92,7 +92,7 @@ fn answer_read(
     events: &[u16; EVENTS],
     room: usize,
 ) -> usize {
-    if listing.fault != NOTHING {
+    if listing.progress.fault != NOTHING {
         return listing.complain(page, line);
     }
     answer_part(page, listing, events, room)

@@ -1,7 +1,7 @@
 // What a file is, by its words: a hint where a command is handed another one's file.
+use crate::lines;
 use crate::lines::line_of;
 use crate::lines::place_of;
-use crate::lines::say;
 use rig_lines::console::PAGE;
 
 // The places of the hints below.
@@ -60,5 +60,5 @@ pub(crate) fn end(page: &mut [u8; PAGE], at: usize, hint: usize) -> usize {
 ",
         hint,
     );
-    say(page, at, words, &[0], b"")
+    lines::end(page, at, words)
 }

@@ -8,6 +8,7 @@ use rig_lines::store::line_at;
 use text::after_line;
 use text::first_line;
 use text::put_byte;
+use text::put_bytes;
 use text::put_decimal;
 use text::put_hex_byte;
 
@@ -23,7 +24,7 @@ const WORD: u8 = b'$';
 
 const COMMAND: u8 = b'*';
 
-// No line has more numbers, and no list more words.
+// No line has more numbers, and no list in which a word is looked for has more.
 const MANY: usize = 16;
 
 // The place of the next number after a byte of the words.
@@ -65,7 +66,7 @@ fn put_mark(
     }
 }
 
-// A part of a line.
+// A part of a line, perhaps its first.
 pub(crate) fn put(
     page: &mut [u8; PAGE],
     at: usize,
@@ -94,6 +95,12 @@ pub(crate) fn say(
     word: &[u8],
 ) -> usize {
     let next = put(page, at, words, numbers, word);
+    put_byte(page, next, b'\n')
+}
+
+// The rest of a line, in words without marks.
+pub(crate) fn end(page: &mut [u8; PAGE], at: usize, words: &[u8]) -> usize {
+    let next = put_bytes(page, at, words);
     put_byte(page, next, b'\n')
 }
 

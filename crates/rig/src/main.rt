@@ -6,6 +6,7 @@ mod dumping; // dumping.rt: a trace drawn as a Value Change Dump
 mod encoding; // encoding.rt: an event list drawn as a trace
 mod hints; // hints.rt: what a file is, by its words
 mod lines; // lines.rt: lines of output
+mod reading; // reading.rt: a file, line by line
 mod session; // session.rt: a module driven by commands
 mod sorting; // sorting.rt: a capture in the order of its stamps
 mod traced; // traced.rt: a trace read from its lines

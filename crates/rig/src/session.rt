@@ -3,12 +3,13 @@ mod command; // command.rt: the commands of a session
 mod reply; // reply.rt: what a command is answered
 
 use crate::lines::say;
+use crate::reading::Progress;
+use crate::reading::after;
 use crate::trouble;
 use reply::Reply;
 use rig_lines::console::PAGE;
 use rig_lines::console::flush;
 use rig_lines::input;
-use rig_lines::input::Line;
 use rig_lines::input::ROOM;
 use rig_lines::input::Source;
 use rig_lines::numbers::more;
@@ -61,10 +62,12 @@ impl Session {
         self
     }
 
-    // A line was taken; whether it is the last.
-    fn with_source(mut self, source: Source, ends: bool) -> Session {
+    // A line was taken, perhaps one that is no text.
+    fn with_progress(mut self, progress: Progress) -> Session {
+        let source = progress.source;
+        let fault = progress.fault;
         self.source = source;
-        self.more = !ends;
+        self.more = progress.more | (fault == trouble::TOO_LONG) | (fault == trouble::NO_TEXT);
         self
     }
 
@@ -85,11 +88,11 @@ impl Session {
     }
 
     // Replies to a line at once.
-    fn replied(self, page: &mut [u8; PAGE], found: Line, words: &[u8]) -> Session {
+    fn replied(self, page: &mut [u8; PAGE], fault: usize, words: &[u8]) -> Session {
         if !self.more {
             return self;
         }
-        let reply = reply::to(self.device, found, words);
+        let reply = reply::to(self.device, fault, words);
         let end = reply.put(page, first_word(words));
         flush(page, end);
         self.after(reply)
@@ -120,22 +123,6 @@ impl Session {
     }
 }
 
-// How many bytes of a line are its text.
-fn length(found: Line) -> usize {
-    match found {
-        Line::Text(n) => n,
-        _ => 0,
-    }
-}
-
-fn is_end(found: Line) -> bool {
-    match found {
-        Line::End => true,
-        Line::Failed => true,
-        _ => false,
-    }
-}
-
 // Replies to the next line.
 fn with_next(
     page: &mut [u8; PAGE],
@@ -145,10 +132,9 @@ fn with_next(
 ) -> Session {
     let from = session.source;
     let taken = input::next_line(piece, line, from);
-    let found = taken.line;
-    let after = taken.source;
-    let next = session.with_source(after, is_end(found));
-    next.replied(page, found, input::content(line, length(found)))
+    let progress = after(taken);
+    let next = session.with_progress(progress);
+    next.replied(page, progress.fault, input::content(line, progress.length))
 }
 
 fn run_all(

@@ -1,8 +1,9 @@
 // rig sort: the samples of a capture in the order of their stamps, one a line.
 use crate::decoding::crossed::falls;
-use crate::decoding::crossed::stamp_at;
+use crate::decoding::crossed::first_from;
 use crate::decoding::refuse;
 use crate::encoding::show_all;
+use crate::lines::end;
 use crate::lines::line_of;
 use crate::lines::say;
 use rig_lines::console::PAGE;
@@ -12,18 +13,6 @@ use trace::MAX_SAMPLES;
 
 // The refusal of two samples with one stamp.
 const TAKEN: u8 = 7;
-
-// The first sample that has the stamp of another.
-fn first_with(stamps: &[u32], stamp: u32) -> usize {
-    let mut i: usize = 0;
-    while i < stamps.len() {
-        if stamps[i] == stamp {
-            return i;
-        }
-        i += 1;
-    }
-    i
-}
 
 // How many samples have a stamp that is not above that of the one before them.
 fn out_of_order(stamps: &[u32]) -> u64 {
@@ -40,7 +29,7 @@ fn out_of_order(stamps: &[u32]) -> u64 {
 
 // Two samples have one stamp.
 fn taken(page: &mut [u8; PAGE], stamps: &[u32], lines: &[u64], place: usize) -> usize {
-    let earlier = first_with(stamps, stamp_at(stamps, place));
+    let earlier = first_from(stamps, place, false);
     let numbers = [place as u64, line_at(lines, place), line_at(lines, earlier)];
     let words = b"refused 7 sample # (line #): its stamp is that of line #";
     say(page, 0, words, &numbers, b"")
@@ -53,7 +42,7 @@ fn sorted(page: &mut [u8; PAGE], at: usize, count: usize, crossed: u64) -> usize
         (crossed > 0) as usize,
     );
     if count == 0 {
-        return say(page, at, b"look 0 samples", &[0], b"");
+        return end(page, at, b"look 0 samples");
     }
     say(page, at, words, &[count as u64, crossed], b"")
 }

@@ -55,7 +55,7 @@ fn answer_read(
     levels: &[u8; CAPTURE],
     lines: &[u64; CAPTURE],
 ) -> usize {
-    if reading.fault != NOTHING {
+    if reading.progress.fault != NOTHING {
         return reading.complain(page, line);
     }
     answer(page, given, reading, stamps, levels, lines)

@@ -1,6 +1,7 @@
 // A trace read from a Value Change Dump.
 use super::answer;
 use crate::arguments::Arguments;
+use crate::lines::end;
 use crate::lines::line_of;
 use crate::lines::put;
 use crate::lines::say;
@@ -98,7 +99,7 @@ export a Value Change Dump of SCL and SDA alone
 ",
         hint_place(number),
     );
-    say(page, named, hint, &[0], b"")
+    end(page, named, hint)
 }
 
 // Ends a line with a timescale as it is said, 1, 10 or 100 of a unit; 0 is none.

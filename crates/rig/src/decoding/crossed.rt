@@ -1,17 +1,23 @@
 // A stamp that does not rise: packets of samples that look exchanged on the way.
 use crate::lines::before;
+use crate::lines::end;
 use crate::lines::line_of;
 use crate::lines::put;
 use crate::lines::say;
 use rig_lines::console::PAGE;
 use rig_lines::store::line_at;
 
-// The first sample whose stamp is that of a sample or above it.
-fn first_from(stamps: &[u32], place: usize) -> usize {
+// Whether a stamp is another, or, where those above count too, above it.
+fn meets(stamp: u32, other: u32, above: bool) -> bool {
+    (stamp == other) | (above & (stamp > other))
+}
+
+// The first sample whose stamp is that of a sample, or, where those above count too, above it.
+pub(crate) fn first_from(stamps: &[u32], place: usize, above: bool) -> usize {
     let stamp = stamp_at(stamps, place);
     let mut i: usize = 0;
     while i < stamps.len() {
-        if stamps[i] >= stamp {
+        if meets(stamp_at(stamps, i), stamp, above) {
             return i;
         }
         i += 1;
@@ -53,16 +59,18 @@ pub(crate) fn say_why(
     lines: &[u64],
     place: usize,
 ) -> usize {
-    let first = first_from(stamps, place);
+    let first = first_from(stamps, place, true);
     let limit = stamp_at(stamps, first);
     let line = line_at(lines, first);
     if limit == stamp_at(stamps, place) {
         return say(page, at, b"; its stamp is that of line #", &[line], b"");
     }
-    let end = before(place);
-    let words = line_of(b"; lines #\n; lines # to #\n", (first != end) as usize);
-    let front = put(page, at, words, &[line, line_at(lines, end)], b"");
     let last = last_below(stamps, place, limit);
+    let words = line_of(
+        b"; lines #\n; lines # to #\n",
+        (first != before(place)) as usize,
+    );
+    let front = put(page, at, words, &[line, line_at(lines, before(place))], b"");
     let also = line_of(b" and #\n and # to #\n", (place != last) as usize);
     let back = put(
         page,
@@ -71,11 +79,9 @@ pub(crate) fn say_why(
         &[line_at(lines, place), line_at(lines, last)],
         b"",
     );
-    say(
+    end(
         page,
         back,
         b" look exchanged: rig sort puts samples in order",
-        &[0],
-        b"",
     )
 }

@@ -1,12 +1,12 @@
 // A trace, one sample a line: stamp and level in decimal.
 use super::captured::TEXT;
 use crate::hints;
-use crate::lines::suffix;
+use crate::reading::Progress;
+use crate::reading::after;
 use crate::trouble;
 use check::same;
 use rig_lines::console::PAGE;
 use rig_lines::input;
-use rig_lines::input::Line;
 use rig_lines::input::ROOM;
 use rig_lines::input::Source;
 use rig_lines::numbers::is_number;
@@ -26,7 +26,7 @@ pub(crate) const CAPTURE: usize = 65536 + 1;
 const LARGEST_LEVEL: u64 = 255;
 
 pub(crate) struct Reading {
-    source: Source,
+    pub(crate) progress: Progress,
     // how many samples are read at most
     limit: usize,
     pub(crate) stamps: usize,
@@ -36,11 +36,6 @@ pub(crate) struct Reading {
     level: u8,
     // the first line with a stamp and no level
     pub(crate) unpaired: u64,
-    more: bool,
-    // what is wrong with the last line, how long that is, and where the word stands, in bytes before its end
-    pub(crate) fault: usize,
-    length: usize,
-    left: usize,
 }
 
 // What a line says. Of one that is wrong: how, and where the word stands, in bytes before its end.
@@ -94,24 +89,19 @@ impl Reading {
     // A capture that is thinned is longer.
     pub(crate) fn new(source: Source, thin: bool) -> Reading {
         Reading {
-            source,
+            progress: Progress::new(source),
             limit: if thin { CAPTURE } else { SAMPLES },
             stamps: 0,
             levels: 0,
             stamp: 0,
             level: 0,
             unpaired: 0,
-            more: true,
-            fault: trouble::NOTHING,
-            length: 0,
-            left: 0,
         }
     }
 
     fn ended(mut self, fault: usize, left: usize) -> Reading {
-        self.more = false;
-        self.fault = fault;
-        self.left = left;
+        let progress = self.progress;
+        self.progress = progress.ended(fault, left);
         self
     }
 
@@ -121,7 +111,9 @@ impl Reading {
         if self.stamps == CAPTURE {
             return self.ended(trouble::MANY_SAMPLES, 0);
         }
-        self.more = self.stamps < self.limit;
+        if self.stamps == self.limit {
+            return self.ended(trouble::NOTHING, 0);
+        }
         self
     }
 
@@ -133,15 +125,18 @@ impl Reading {
 
     fn unpaired(mut self) -> Reading {
         if self.unpaired == 0 {
-            self.unpaired = self.source.line;
+            self.unpaired = self.progress.source.line;
         }
         self
     }
 
-    // What a line of so many bytes leaves behind.
-    fn with_line(mut self, line: &[u8], n: usize) -> Reading {
-        self.length = n;
-        match parse(input::content(line, n)) {
+    // What a line leaves behind.
+    fn with_line(mut self, progress: Progress, line: &[u8]) -> Reading {
+        self.progress = progress;
+        if !progress.more {
+            return self;
+        }
+        match parse(input::content(line, progress.length)) {
             Sample::Nothing => self,
             Sample::Both(stamp, level) => self.with_stamp(stamp).with_level(level),
             Sample::Stamp(stamp) => self.with_stamp(stamp).unpaired(),
@@ -149,30 +144,14 @@ impl Reading {
         }
     }
 
-    // Follows what taking a line found.
-    fn followed(mut self, source: Source, found: Line, line: &[u8]) -> Reading {
-        self.source = source;
-        match found {
-            Line::Text(n) => self.with_line(line, n),
-            Line::TooLong => self.ended(trouble::TOO_LONG, 0),
-            Line::NoText => self.ended(trouble::NO_TEXT, 0),
-            Line::End => self.ended(trouble::NOTHING, 0),
-            Line::Failed => self.ended(trouble::FAILED, 0),
-        }
-    }
-
-    // A hint where the line is none of a trace.
-    fn hint(self, words: &[u8]) -> usize {
-        if self.fault == trouble::NO_SAMPLE {
-            return hints::other(first_word(words));
-        }
-        hints::NONE
-    }
-
+    // Says what is wrong, with a hint where the line is none of a trace.
     pub(crate) fn complain(self, page: &mut [u8; PAGE], line: &[u8; ROOM]) -> usize {
-        let words = input::content(line, self.length);
-        let word = first_word(suffix(words, self.left));
-        trouble::fault(page, self.source, self.fault, word, self.hint(words))
+        let progress = self.progress;
+        let mut hint = hints::NONE;
+        if progress.fault == trouble::NO_SAMPLE {
+            hint = hints::other(first_word(input::content(line, progress.length)));
+        }
+        progress.complain(page, line, hint)
     }
 }
 
@@ -185,14 +164,13 @@ fn with_next(
     levels: &mut [u8; CAPTURE],
     lines: &mut [u64; CAPTURE],
 ) -> Reading {
-    let from = reading.source;
+    let progress = reading.progress;
+    let from = progress.source;
     let taken = input::next_line(piece, line, from);
-    let found = taken.line;
-    let after = taken.source;
-    let next = reading.followed(after, found, line);
+    let next = reading.with_line(after(taken), line);
     store::stamp(stamps, reading.stamps, next.stamp);
     store::byte(levels, reading.levels, next.level);
-    store::line(lines, reading.stamps, after.line);
+    store::line(lines, reading.stamps, next.progress.source.line);
     next
 }
 
@@ -208,7 +186,7 @@ pub(crate) fn read_all(
     let mut turns = u64::MAX;
     while turns > 0 {
         turns -= 1;
-        if !reading.more {
+        if !reading.progress.more {
             return reading;
         }
         reading = with_next(reading, piece, line, stamps, levels, lines);

@@ -1,4 +1,5 @@
 // The events of a trace one a line, each with the stamp of the sample that lists it, and notes of long gaps between.
+use crate::lines::end;
 use crate::lines::line_of;
 use crate::lines::put;
 use crate::lines::say;
@@ -67,14 +68,8 @@ impl Shown {
         let doubts = self.doubtful & !is_condition(event);
         let stamped = put(page, self.at, b"#: ", &[stamp as u64], b"");
         let words = trace_text::show(page, stamped, event, self.addressed);
-        let end = say(
-            page,
-            words,
-            line_of(b"\n doubtful\n", doubts as usize),
-            &[0],
-            b"",
-        );
-        self.after(event, end)
+        let next = end(page, words, line_of(b"\n doubtful\n", doubts as usize));
+        self.after(event, next)
     }
 
     fn with_listed(self, page: &mut [u8; PAGE], listed: Listed, stamp: u32) -> Shown {

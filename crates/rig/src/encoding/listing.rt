@@ -3,10 +3,11 @@ use super::statement;
 use super::statement::Statement;
 use crate::hints;
 use crate::lines::suffix;
+use crate::reading::Progress;
+use crate::reading::after;
 use crate::trouble;
 use rig_lines::console::PAGE;
 use rig_lines::input;
-use rig_lines::input::Line;
 use rig_lines::input::ROOM;
 use rig_lines::input::Source;
 use rig_lines::numbers::is_number;
@@ -26,33 +27,24 @@ const LARGEST_EVENT: u64 = 65535;
 const GAP: u32 = 50;
 
 pub(crate) struct Listing {
-    source: Source,
+    pub(crate) progress: Progress,
     pub(crate) count: usize,
     pub(crate) start: u32,
     pub(crate) gap: u32,
     // a line of event numbers was read, and a line that is no sample of a trace
     numbers: bool,
     other: bool,
-    more: bool,
-    // what is wrong with the last line, how long that is, and where the word stands, in bytes before its end
-    pub(crate) fault: usize,
-    length: usize,
-    left: usize,
 }
 
 impl Listing {
     pub(crate) fn new(source: Source) -> Listing {
         Listing {
-            source,
+            progress: Progress::new(source),
             count: 0,
             start: 0,
             gap: GAP,
             numbers: false,
             other: false,
-            more: true,
-            fault: trouble::NOTHING,
-            length: 0,
-            left: 0,
         }
     }
 
@@ -62,9 +54,8 @@ impl Listing {
     }
 
     fn ended(mut self, fault: usize, left: usize) -> Listing {
-        self.more = false;
-        self.fault = fault;
-        self.left = left;
+        let progress = self.progress;
+        self.progress = progress.ended(fault, left);
         self
     }
 
@@ -108,7 +99,7 @@ impl Listing {
         let mut left = words.len();
         while left > 0 {
             left -= 1;
-            if !listing.more | (first_word(rest).len() == 0) {
+            if !listing.progress.more | (first_word(rest).len() == 0) {
                 return listing;
             }
             listing = listing.with_number(events, rest);
@@ -133,30 +124,18 @@ impl Listing {
         }
     }
 
-    // Follows what taking a line found.
-    fn followed(
-        mut self,
-        events: &mut [u16; EVENTS],
-        source: Source,
-        found: Line,
-        line: &[u8],
-    ) -> Listing {
-        self.source = source;
-        match found {
-            Line::Text(n) => {
-                self.length = n;
-                self.with_line(events, input::content(line, n))
-            }
-            Line::TooLong => self.ended(trouble::TOO_LONG, 0),
-            Line::NoText => self.ended(trouble::NO_TEXT, 0),
-            Line::End => self.ended(trouble::NOTHING, 0),
-            Line::Failed => self.ended(trouble::FAILED, 0),
+    // Follows what was taken.
+    fn followed(mut self, events: &mut [u16; EVENTS], progress: Progress, line: &[u8]) -> Listing {
+        self.progress = progress;
+        if !progress.more {
+            return self;
         }
+        self.with_line(events, input::content(line, progress.length))
     }
 
     // A hint where the line, or the list, looks like another file's.
     fn hint(self, words: &[u8]) -> usize {
-        let fault = self.fault;
+        let fault = self.progress.fault;
         match fault {
             trouble::NO_EVENT => hints::loads(first_word(words)),
             trouble::MANY_EVENTS => hints::trace(self.like_trace()),
@@ -165,9 +144,9 @@ impl Listing {
     }
 
     pub(crate) fn complain(self, page: &mut [u8; PAGE], line: &[u8; ROOM]) -> usize {
-        let words = input::content(line, self.length);
-        let word = first_word(suffix(words, self.left));
-        trouble::fault(page, self.source, self.fault, word, self.hint(words))
+        let progress = self.progress;
+        let words = input::content(line, progress.length);
+        progress.complain(page, line, self.hint(words))
     }
 }
 
@@ -178,11 +157,10 @@ fn with_next(
     line: &mut [u8; ROOM],
     events: &mut [u16; EVENTS],
 ) -> Listing {
-    let from = listing.source;
+    let progress = listing.progress;
+    let from = progress.source;
     let taken = input::next_line(piece, line, from);
-    let found = taken.line;
-    let after = taken.source;
-    listing.followed(events, after, found, line)
+    listing.followed(events, after(taken), line)
 }
 
 pub(crate) fn read_all(
@@ -195,7 +173,7 @@ pub(crate) fn read_all(
     let mut turns = u64::MAX;
     while turns > 0 {
         turns -= 1;
-        if !listing.more {
+        if !listing.progress.more {
             return listing;
         }
         listing = with_next(listing, piece, line, events);

@@ -1,11 +1,12 @@
 // What a command of a session is answered.
 use super::command;
 use super::command::Command;
+use crate::lines::end;
 use crate::lines::line_of;
 use crate::lines::put;
 use crate::lines::say;
+use crate::trouble;
 use rig_lines::console::PAGE;
-use rig_lines::input::Line;
 use rig_lines::refusals::put_refusal;
 use usi::Read;
 use usi::Step;
@@ -25,14 +26,15 @@ pub(crate) const NOTHING: usize = 12;
 
 pub(crate) const HELP: usize = 13;
 
-// the module follows, or a byte
-const OK: usize = 14;
+const MODULE: usize = 14;
 
-const HIGH_BYTE: usize = 15;
+const BYTE: usize = 15;
 
-const SCL: usize = 16;
+const WORD: usize = 16;
 
-const SCLK: usize = 18;
+const SCL: usize = 17;
+
+const SCLK: usize = 19;
 
 // The places of the words with which it ends.
 const NO_TAIL: usize = 0;
@@ -46,9 +48,8 @@ const SDA: usize = 3;
 const SDO: usize = 5;
 
 pub(crate) struct Reply {
-    // the module after the command, and whether it is shown
+    // the module after the command
     pub(crate) device: Usi,
-    shows: bool,
     words: usize,
     tail: usize,
     // what was read, or the flags that a write cleared
@@ -60,19 +61,7 @@ pub(crate) struct Reply {
 fn said(device: Usi, words: usize, tail: usize, number: u16) -> Reply {
     Reply {
         device,
-        shows: false,
         words,
-        tail,
-        number,
-        refusal: 0,
-    }
-}
-
-fn shown(device: Usi, tail: usize, number: u16) -> Reply {
-    Reply {
-        device,
-        shows: true,
-        words: OK,
         tail,
         number,
         refusal: 0,
@@ -82,8 +71,7 @@ fn shown(device: Usi, tail: usize, number: u16) -> Reply {
 fn refused(device: Usi, refusal: u8) -> Reply {
     Reply {
         device,
-        shows: false,
-        words: OK,
+        words: MODULE,
         tail: NO_TAIL,
         number: 0,
         refusal,
@@ -102,12 +90,12 @@ fn written(written: Written) -> Reply {
     if written.refusal != 0 {
         return refused(device, written.refusal);
     }
-    shown(device, CLEARED, written.cleared as u16)
+    said(device, MODULE, CLEARED, written.cleared as u16)
 }
 
 fn stepped(step: Step) -> Reply {
     match step {
-        Step::Next(device) => shown(device, NO_TAIL, 0),
+        Step::Next(device) => said(device, MODULE, NO_TAIL, 0),
         Step::Refused(number, device) => refused(device, number),
     }
 }
@@ -147,9 +135,9 @@ fn lines(device: Usi) -> Reply {
 fn to_command(device: Usi, command: Command) -> Reply {
     match command {
         Command::Words(words) => said(device, words, NO_TAIL, 0),
-        Command::Power(low, high) => shown(Usi::power_up(low, high), NO_TAIL, 0),
-        Command::Read(address) => read(device, device.read(address), OK),
-        Command::ReadWord(address) => read(device, device.read_word(address), HIGH_BYTE),
+        Command::Power(low, high) => said(Usi::power_up(low, high), MODULE, NO_TAIL, 0),
+        Command::Read(address) => read(device, device.read(address), BYTE),
+        Command::ReadWord(address) => read(device, device.read_word(address), WORD),
         Command::Write(address, value) => written(device.write(address, value)),
         Command::WriteWord(address, value) => written(device.write_word(address, value)),
         Command::Sample(level) => stepped(device.sample(level)),
@@ -158,11 +146,11 @@ fn to_command(device: Usi, command: Command) -> Reply {
     }
 }
 
-// The reply to a line that was found.
-pub(crate) fn to(device: Usi, found: Line, words: &[u8]) -> Reply {
-    match found {
-        Line::TooLong => said(device, TOO_LONG, NO_TAIL, 0),
-        Line::NoText => said(device, NO_TEXT, NO_TAIL, 0),
+// The reply to a line, by its fault and its words.
+pub(crate) fn to(device: Usi, fault: usize, words: &[u8]) -> Reply {
+    match fault {
+        trouble::TOO_LONG => said(device, TOO_LONG, NO_TAIL, 0),
+        trouble::NO_TEXT => said(device, NO_TEXT, NO_TAIL, 0),
         _ => to_command(device, command::parse(words)),
     }
 }
@@ -178,8 +166,8 @@ impl Reply {
         self.words < NOTHING
     }
 
-    fn put_shown(self, page: &mut [u8; PAGE], at: usize) -> usize {
-        if self.shows {
+    fn put_device(self, page: &mut [u8; PAGE], at: usize) -> usize {
+        if self.words == MODULE {
             return put_module(page, at, self.device);
         }
         at
@@ -189,7 +177,7 @@ impl Reply {
     pub(crate) fn put(self, page: &mut [u8; PAGE], word: &[u8]) -> usize {
         if self.refusal > 0 {
             let next = put_refusal(page, 0, self.refusal);
-            return say(page, next, b"", &[0], b"");
+            return end(page, next, b"");
         }
         let words = line_of(
             b"error expected power or power LL HH
@@ -206,9 +194,7 @@ error longer than 4096 bytes
 error a byte that is no text
 ok
 ok power [LL HH], read AAA, write AAA VV, readw AAA, writew AAA VVVV, sample L, tick, lines, help
-ok \nok %
-ok scl=released
-ok scl=low
+ok \nok \nok %\nok scl=released\nok scl=low
 ok sclk=released
 ok sclk=low
 ok sclk=high
@@ -216,7 +202,7 @@ ok sclk=high
             self.words,
         );
         let front = put(page, 0, words, &[(self.number / 256) as u64], word);
-        let next = self.put_shown(page, front);
+        let next = self.put_device(page, front);
         let tail =
             b"\n%\n cleared=%\n sda=released\n sda=low\n sdo=released\n sdo=low\n sdo=high\n";
         say(
