@@ -1,44 +1,81 @@
-// The words of the command line after the command.
+// The words of the command line: a command by its name, and what follows it.
+use crate::lines::line_of;
+use crate::lines::place_of;
 use crate::lines::say;
-use crate::task::Task;
 use check::same;
 use phases::Mode;
 use rig_lines::console::PAGE;
-use rig_lines::console::begin;
-use rig_lines::console::put_quoted;
 use rig_lines::numbers::is_number;
 use rig_lines::numbers::value;
 use rig_lines::options::is_option;
-use rig_lines::options::put_no_number;
-use text::put_bytes;
+
+// The commands by their place in the list of names.
+pub(crate) const DECODE: usize = 0;
+
+pub(crate) const DUMP: usize = 1;
+
+pub(crate) const ENCODE: usize = 2;
+
+pub(crate) const SESSION: usize = 3;
+
+const SORT: usize = 4;
+
+// What is wrong with the words: the places of the lines below.
+pub(crate) const NOTHING: usize = 0;
+
+const TOO_LONG: usize = 1;
+
+const NO_NUMBER: usize = 2;
+
+const WORD_FOR_NUMBER: usize = 3;
+
+const NO_FILE: usize = 4;
+
+const INPUT_TWICE: usize = 5;
+
+const TWO_MODES: usize = 6;
+
+const MODE_AND_THIN: usize = 7;
+
+const NO_COMMAND: usize = 8;
+
+const UNKNOWN_COMMAND: usize = 9;
+
+const SECOND_FILE: usize = 10;
+
+const UNKNOWN_OPTION: usize = 11;
 
 pub(crate) struct Arguments {
-    pub(crate) task: Task,
+    pub(crate) task: usize,
     // which argument names the file; 0: none does
     pub(crate) file: usize,
     // the phases of a trace are judged as of Standard-mode, or of Fast-mode
-    standard: bool,
-    fast: bool,
+    pub(crate) standard: bool,
+    pub(crate) fast: bool,
     // samples that change no level are dropped
     pub(crate) thin: bool,
     // room to lend to the library; a command lends no more than it has
     pub(crate) room: usize,
-    // standard input is one of the files
+    // the file is standard input
     input: bool,
     // the next word is the number of --room
     wants_room: bool,
-    // an error stands on the page
-    pub(crate) broken: bool,
-    // where the page goes on
-    pub(crate) at: usize,
+    // what is wrong, and with which argument
+    pub(crate) trouble: usize,
+    about: usize,
 }
 
-pub(crate) fn too_long(page: &mut [u8; PAGE], at: usize) -> usize {
-    say(page, at, b"error an argument is longer than 4096 bytes")
+// How many of the options a command takes, in the order of their list.
+fn options(task: usize) -> usize {
+    match task {
+        DECODE => 4,
+        ENCODE => 1,
+        _ => 0,
+    }
 }
 
 impl Arguments {
-    fn none(task: Task) -> Arguments {
+    fn none(task: usize) -> Arguments {
         Arguments {
             task,
             file: 0,
@@ -48,72 +85,38 @@ impl Arguments {
             room: usize::MAX,
             input: false,
             wants_room: false,
-            broken: false,
-            at: 0,
+            trouble: NOTHING,
+            about: 0,
         }
     }
 
-    // An error stands on the page up to a position.
-    fn failed(mut self, at: usize) -> Arguments {
-        self.broken = true;
-        self.at = at;
+    fn failed(mut self, trouble: usize, argument: usize) -> Arguments {
+        self.trouble = trouble;
+        self.about = argument;
         self
     }
 
-    fn trouble(self, page: &mut [u8; PAGE], words: &[u8]) -> Arguments {
-        self.failed(say(page, self.at, words))
-    }
-
-    fn unknown_option(self, page: &mut [u8; PAGE], word: &[u8]) -> Arguments {
-        let from = begin(page, self.at);
-        let task = self.task;
-        self.failed(task.put_unknown(page, from, word))
-    }
-
-    fn second_file(self, page: &mut [u8; PAGE], word: &[u8]) -> Arguments {
-        let from = begin(page, self.at);
-        let error = put_bytes(page, from, b"error a second file ");
-        let quoted = put_quoted(page, error, word);
-        let of = put_bytes(page, quoted, b": ");
-        let task = self.task;
-        let named = task.put_name(page, of);
-        self.failed(put_bytes(page, named, b" reads one\n"))
-    }
-
-    fn with_room(mut self, page: &mut [u8; PAGE], word: &[u8]) -> Arguments {
+    fn with_room(mut self, argument: usize, word: &[u8]) -> Arguments {
         let number = text::decimal(word);
         if !is_number(number) {
-            let from = begin(page, self.at);
-            return self.failed(put_no_number(page, from, word));
+            return self.failed(WORD_FOR_NUMBER, argument);
         }
         self.room = value(number) as usize;
         self.wants_room = false;
         self
     }
 
-    fn with_file(mut self, page: &mut [u8; PAGE], argument: usize, word: &[u8]) -> Arguments {
-        if self.file == 0 {
-            self.file = argument;
-            return self;
-        }
-        self.second_file(page, word)
-    }
-
     // Standard input is read once.
-    fn with_input(mut self, page: &mut [u8; PAGE]) -> Arguments {
-        if self.input {
-            return self.trouble(page, b"error - stands twice: standard input is read once");
+    fn with_file(mut self, argument: usize, input: bool) -> Arguments {
+        if self.input & input {
+            return self.failed(INPUT_TWICE, argument);
         }
-        self.input = true;
+        if self.file > 0 {
+            return self.failed(SECOND_FILE, argument);
+        }
+        self.file = argument;
+        self.input = input;
         self
-    }
-
-    fn with_input_file(self, page: &mut [u8; PAGE], argument: usize) -> Arguments {
-        let next = self.with_input(page);
-        if next.broken {
-            return next;
-        }
-        next.with_file(page, argument, b"-")
     }
 
     // The mode in which a trace is read.
@@ -127,92 +130,108 @@ impl Arguments {
         Mode::Unchecked
     }
 
-    // An option that rig decode alone takes.
-    fn with_mode(mut self, page: &mut [u8; PAGE], word: &[u8]) -> Arguments {
-        let task = self.task;
-        if task.is_decode() {
-            if same(word, b"--standard") {
-                self.standard = true;
-                return self;
-            }
-            if same(word, b"--fast") {
-                self.fast = true;
-                return self;
-            }
-            if same(word, b"--thin") {
-                self.thin = true;
-                return self;
-            }
+    fn with_option(mut self, argument: usize, word: &[u8]) -> Arguments {
+        let option = place_of(b"--room\n--standard\n--fast\n--thin\n", word);
+        if option >= options(self.task) {
+            return self.failed(UNKNOWN_OPTION, argument);
         }
-        self.unknown_option(page, word)
+        self.wants_room = option == 0;
+        self.standard = self.standard | (option == 1);
+        self.fast = self.fast | (option == 2);
+        self.thin = self.thin | (option == 3);
+        self
     }
 
-    fn with_option(mut self, page: &mut [u8; PAGE], word: &[u8]) -> Arguments {
-        let task = self.task;
-        if same(word, b"--room") & task.lends_room() {
-            self.wants_room = true;
-            return self;
-        }
-        self.with_mode(page, word)
-    }
-
-    fn with_word(self, page: &mut [u8; PAGE], argument: usize, word: &[u8]) -> Arguments {
+    fn with_word(self, argument: usize, word: &[u8]) -> Arguments {
         if self.wants_room {
-            return self.with_room(page, word);
+            return self.with_room(argument, word);
         }
         if is_option(word) {
-            return self.with_option(page, word);
+            return self.with_option(argument, word);
         }
-        if same(word, b"-") {
-            return self.with_input_file(page, argument);
-        }
-        self.with_file(page, argument, word)
+        self.with_file(argument, same(word, b"-"))
     }
 
-    fn with_argument(self, page: &mut [u8; PAGE], argument: usize) -> Arguments {
+    fn with_argument(self, argument: usize) -> Arguments {
         let mut space = io::buffer();
         let n = os::arg(argument, &mut space);
         if os::errno() != 0 {
-            return self.failed(too_long(page, self.at));
+            return self.failed(TOO_LONG, argument);
         }
-        self.with_word(page, argument, &space[..n])
+        self.with_word(argument, &space[..n])
     }
 
-    // What is found once all words are read.
-    fn finished(self, page: &mut [u8; PAGE]) -> Arguments {
-        let task = self.task;
-        if self.broken {
+    // What is found once all words are read. rig encode and rig session go without a file.
+    fn finished(self) -> Arguments {
+        if self.trouble != NOTHING {
             return self;
         }
         if self.wants_room {
-            return self.trouble(page, b"error expected a number after --room");
+            return self.failed(NO_NUMBER, 0);
         }
-        if (self.file == 0) & !task.reads_input() {
-            return self.trouble(page, b"error expected a file, or - for standard input");
+        if (self.file == 0) & (self.task != ENCODE) & (self.task != SESSION) {
+            return self.failed(NO_FILE, 0);
         }
         if self.standard & self.fast {
-            return self.trouble(page, b"error --standard does not go with --fast");
+            return self.failed(TWO_MODES, 0);
         }
         if self.thin & (self.standard | self.fast) {
-            return self.trouble(
-                page,
-                b"error --thin goes with neither --standard nor --fast",
-            );
+            return self.failed(MODE_AND_THIN, 0);
         }
         self
     }
+
+    pub(crate) fn complain(self, page: &mut [u8; PAGE]) -> usize {
+        let mut space = io::buffer();
+        let n = os::arg(self.about, &mut space);
+        let words = line_of(
+            b"
+error an argument is longer than 4096 bytes
+error expected a number after --room
+error expected a number after --room, not $
+error expected a file, or - for standard input
+error - stands twice: standard input is read once
+error --standard does not go with --fast
+error --thin goes with neither --standard nor --fast
+error expected a command: clash, decode, draw, dump, encode, match, night, session or sort
+error unknown command $: expected clash, decode, draw, dump, encode, match, night, session or sort
+error a second file $: * reads one
+error unknown option $ for *
+",
+            self.trouble,
+        );
+        say(page, 0, words, &[0], &space[..n])
+    }
 }
 
-pub(crate) fn parse(page: &mut [u8; PAGE], task: Task) -> Arguments {
-    let mut given = Arguments::none(task);
+// The command that the first word names.
+fn begun() -> Arguments {
+    let none = Arguments::none(0);
+    if os::arg_count() < 2 {
+        return none.failed(NO_COMMAND, 0);
+    }
+    let mut space = io::buffer();
+    let n = os::arg(1, &mut space);
+    if os::errno() != 0 {
+        return none.failed(TOO_LONG, 1);
+    }
+    let task = place_of(b"decode\ndump\nencode\nsession\nsort\n", &space[..n]);
+    if task > SORT {
+        return none.failed(UNKNOWN_COMMAND, 1);
+    }
+    Arguments::none(task)
+}
+
+pub(crate) fn parse() -> Arguments {
+    let mut given = begun();
     let count = os::arg_count();
     let mut i: usize = 2;
     while i < count {
-        if given.broken {
+        if given.trouble != NOTHING {
             return given;
         }
-        given = given.with_argument(page, i);
+        given = given.with_argument(i);
         i += 1;
     }
-    given.finished(page)
+    given.finished()
 }

@@ -3,47 +3,38 @@ pub(crate) mod captured; // captured.rt: a trace read from a Value Change Dump
 pub(crate) mod crossed; // crossed.rt: packets that look exchanged
 pub(crate) mod samples; // samples.rt: a trace read from its lines
 mod shown; // shown.rt: the events one a line
-mod thinned; // thinned.rt: a longer trace, without the samples that change no level
 
+use crate::arguments::Arguments;
 use crate::lines::end;
-use crate::lines::tell;
-use captured::TEXT;
+use crate::lines::line_of;
+use crate::lines::put;
+use crate::lines::say;
 use decode::Decoded;
-use phases::Mode;
 use rig_lines::console::PAGE;
-use rig_lines::console::begin;
-use rig_lines::console::put_count;
-use rig_lines::console::put_form;
-use rig_lines::input;
-use rig_lines::input::Source;
 use rig_lines::parts;
 use rig_lines::refusals::put_refusal;
 use rig_lines::refusals::put_sample_refusal;
+use rig_lines::refusals::put_stamp_refusal;
 use rig_lines::store;
-use samples::CAPTURE;
-use samples::Reading;
-use samples::SAMPLES;
 use shown::Shown;
-use text::put_bytes;
 use trace::MAX_GAP;
 use trace::MAX_SAMPLES;
+use trace_thin::Thinned;
 
 // No trace that the library takes lists more events than it has samples.
-pub(crate) const EVENTS: usize = MAX_SAMPLES;
+const EVENTS: usize = MAX_SAMPLES;
 
-// The refusal of a stamp that does not rise.
+// The refusals of a stamp without a level, and of one that does not rise.
+const UNPAIRED: u8 = 5;
+
 const CROSSED: u8 = 7;
 
 // How a trace ends, as the library says it.
-pub(crate) struct Ending {
-    pub(crate) count: usize,
-    pub(crate) framed: bool,
-    pub(crate) pending: u8,
-    pub(crate) value: u8,
-}
-
-fn show_setting(page: &mut [u8; PAGE], at: usize, words: &[u8], n: u32) -> usize {
-    tell(page, at, words, &[n as u64])
+struct Ending {
+    count: usize,
+    framed: bool,
+    pending: u8,
+    value: u8,
 }
 
 // The first stamp and the gap, so that rig encode draws the trace again.
@@ -51,154 +42,134 @@ fn show_start(page: &mut [u8; PAGE], at: usize, stamps: &[u32]) -> usize {
     if stamps.len() == 0 {
         return at;
     }
-    let next = show_setting(page, at, b"start #", stamps[0]);
     let gap = trace_gaps::even(stamps);
+    let next = say(
+        page,
+        at,
+        b"start #",
+        &[crossed::stamp_at(stamps, 0) as u64],
+        b"",
+    );
     if (gap == 0) | (gap > MAX_GAP) {
         return next;
     }
-    show_setting(page, next, b"gap #", gap)
+    say(page, next, b"gap #", &[gap as u64], b"")
 }
 
-fn put_frame(page: &mut [u8; PAGE], at: usize, framed: bool) -> usize {
+// Which words begin the last line: a frame that is open needs a look.
+fn verdict(shown: Shown, framed: bool) -> usize {
     if framed {
-        return put_bytes(page, at, b", frame open, ");
+        return 2;
     }
-    put_bytes(page, at, b", no frame open, ")
-}
-
-fn put_pending(page: &mut [u8; PAGE], at: usize, pending: u8, value: u8) -> usize {
-    let bits = put_count(page, at, pending as u64, b"bit");
-    let next = put_bytes(page, bits, b" pending");
-    if pending == 0 {
-        return next;
+    if (shown.cut_bytes > 0) | (shown.long_gaps > 0) | !shown.bytes {
+        return 1;
     }
-    put_form(page, next, b", value %h", &[value as u64])
+    0
 }
 
-// A count of what needs a look, where there is any.
-fn put_met(page: &mut [u8; PAGE], at: usize, n: u64, thing: &[u8]) -> usize {
-    if n == 0 {
-        return at;
-    }
-    let next = put_bytes(page, at, b", ");
-    put_count(page, next, n, thing)
-}
-
-fn put_bytes_missing(page: &mut [u8; PAGE], at: usize, bytes: bool) -> usize {
-    if bytes {
-        return at;
-    }
-    put_bytes(page, at, b", no byte in any frame")
-}
-
-fn put_verdict(page: &mut [u8; PAGE], at: usize, shown: Shown, framed: bool) -> usize {
-    if framed | (shown.cut_bytes > 0) | (shown.long_gaps > 0) | !shown.bytes {
-        return put_bytes(page, at, b"look ");
-    }
-    put_bytes(page, at, b"ok ")
-}
-
-// How much was read.
-fn put_amount(page: &mut [u8; PAGE], at: usize, samples: usize, count: usize) -> usize {
-    let events = put_count(page, at, count as u64, b"event");
-    let among = put_bytes(page, events, b" in ");
-    put_count(page, among, samples as u64, b"sample")
-}
-
-// What was met that needs a look.
-fn put_doubts(page: &mut [u8; PAGE], at: usize, shown: Shown) -> usize {
-    let cut = put_met(page, at, shown.cut_bytes, b"cut byte");
-    let gaps = put_met(page, cut, shown.long_gaps, b"long gap");
-    put_bytes_missing(page, gaps, shown.bytes)
-}
-
-// The last line: how the trace ends.
+// The last line: how the trace ends, and what was met that needs a look.
 fn summary(page: &mut [u8; PAGE], shown: Shown, samples: usize, ending: Ending) -> usize {
-    let from = begin(page, shown.at);
-    let verdict = put_verdict(page, from, shown, ending.framed);
-    let amount = put_amount(page, verdict, samples, ending.count);
-    let frame = put_frame(page, amount, ending.framed);
-    let pending = put_pending(page, frame, ending.pending, ending.value);
-    let doubts = put_doubts(page, pending, shown);
-    end(page, doubts)
+    let words = line_of(
+        b"ok # event~ in # sample~, no frame open, # bit~ pending
+look # event~ in # sample~, no frame open, # bit~ pending
+look # event~ in # sample~, frame open, # bit~ pending
+",
+        verdict(shown, ending.framed),
+    );
+    let numbers = [ending.count as u64, samples as u64, ending.pending as u64];
+    let value = line_of(b"\n, value %h\n", (ending.pending > 0) as usize);
+    let cut = line_of(b"\n, # cut byte~\n", (shown.cut_bytes > 0) as usize);
+    let long = line_of(b"\n, # long gap~\n", (shown.long_gaps > 0) as usize);
+    let bytes = line_of(b", no byte in any frame\n", shown.bytes as usize);
+    let pending = put(page, shown.at, words, &numbers, b"");
+    let valued = put(page, pending, value, &[ending.value as u64], b"");
+    let cuts = put(page, valued, cut, &[shown.cut_bytes], b"");
+    let gaps = put(page, cuts, long, &[shown.long_gaps], b"");
+    end(page, gaps, bytes)
 }
 
-fn put_unpaired(page: &mut [u8; PAGE], at: usize, line: u64) -> usize {
-    let next = put_refusal(page, at, 5);
-    put_form(page, next, b"; line # has no level", &[line])
-}
-
-fn put_refused(
-    page: &mut [u8; PAGE],
-    at: usize,
-    number: u8,
-    place: usize,
-    lines: &[u64],
-    unpaired: u64,
-) -> usize {
+// A refusal, with the line of its sample; a sample of a dump has no line, and is named by its stamp.
+fn put_refused(page: &mut [u8; PAGE], number: u8, place: usize, stamp: u32, line: u64) -> usize {
     match number {
-        4 | 7 | 18 => put_sample_refusal(page, at, number, place, store::line_at(lines, place)),
-        5 => put_unpaired(page, at, unpaired),
-        _ => put_refusal(page, at, number),
+        4 | 7 | 18 => {
+            if line == 0 {
+                return put_stamp_refusal(page, 0, number, place, stamp);
+            }
+            put_sample_refusal(page, 0, number, place, line)
+        }
+        _ => put_refusal(page, 0, number),
     }
 }
 
+// A trace that the library refuses; the first line of it with a stamp and no level is given.
 pub(crate) fn refuse(
     page: &mut [u8; PAGE],
-    reading: Reading,
     number: u8,
     place: usize,
+    unpaired: u64,
     stamps: &[u32],
     lines: &[u64],
 ) -> usize {
-    let from = begin(page, reading.at);
-    let next = put_refused(page, from, number, place, lines, reading.unpaired);
+    let stamp = crossed::stamp_at(stamps, place);
+    let next = put_refused(page, number, place, stamp, store::line_at(lines, place));
     if number == CROSSED {
-        let added = crossed::put(page, next, stamps, lines, place);
-        return end(page, added);
+        return crossed::say_why(page, next, stamps, lines, place);
     }
-    end(page, next)
+    let why = line_of(b"\n; line # has no level\n", (number == UNPAIRED) as usize);
+    say(page, next, why, &[unpaired], b"")
 }
 
-// Shows a trace that the library has read, with its usual gap inside frames; 0: none is judged.
-fn show_trace(
+// What the library says of a trace, of which only the samples that change a level are held to the limit.
+fn decoded_thin(stamps: &[u32], levels: &[u8], events: &mut [u16]) -> Decoded {
+    let mut left_stamps = [0u32; MAX_SAMPLES];
+    let mut left_levels = [0u8; MAX_SAMPLES];
+    match trace_thin::thin(stamps, levels, &mut left_stamps, &mut left_levels) {
+        Thinned::Refused { number, place } => Decoded::Refused { number, place },
+        Thinned::Left(count) => {
+            let left = parts::stamps(count, &left_stamps);
+            let also = parts::bytes(count, &left_levels);
+            decode::decode(&left_stamps[..left], &left_levels[..also], events)
+        }
+    }
+}
+
+// What the library says of a trace.
+fn decoded(given: Arguments, stamps: &[u32], levels: &[u8]) -> Decoded {
+    let mut events = [0u16; EVENTS];
+    let lent = parts::events(given.room, &events);
+    if given.thin {
+        return decoded_thin(stamps, levels, &mut events[..lent]);
+    }
+    phases::decode_in(given.mode(), stamps, levels, &mut events[..lent])
+}
+
+// Shows a trace that the library has read. The gaps of a dump are not judged: it has no lines.
+fn show(
     page: &mut [u8; PAGE],
     at: usize,
     stamps: &[u32],
     levels: &[u8],
     lines: &[u64],
-    usual: u64,
     ending: Ending,
 ) -> usize {
+    let usual = shown::inside(lines.len() > 0, trace_gaps::usual(stamps, levels));
     let next = show_start(page, at, stamps);
     let shown = shown::show_all(page, next, stamps, levels, lines, usual);
     summary(page, shown, levels.len(), ending)
 }
 
-pub(crate) fn show(
+// Hands a trace to the library, and shows what it answers: the events from a position of the page on, a refusal alone.
+pub(crate) fn answer(
     page: &mut [u8; PAGE],
     at: usize,
+    given: Arguments,
+    unpaired: u64,
     stamps: &[u32],
     levels: &[u8],
     lines: &[u64],
-    ending: Ending,
 ) -> usize {
-    let usual = trace_gaps::usual(stamps, levels);
-    show_trace(page, at, stamps, levels, lines, usual, ending)
-}
-
-// Hands a trace to the library, and shows what it answers.
-fn answer(
-    page: &mut [u8; PAGE],
-    reading: Reading,
-    stamps: &[u32],
-    levels: &[u8],
-    lines: &[u64],
-    events: &mut [u16],
-    mode: Mode,
-) -> usize {
-    match phases::decode_in(mode, stamps, levels, events) {
-        Decoded::Refused { number, place } => refuse(page, reading, number, place, stamps, lines),
+    match decoded(given, stamps, levels) {
+        Decoded::Refused { number, place } => refuse(page, number, place, unpaired, stamps, lines),
         Decoded::Events {
             count,
             framed,
@@ -211,93 +182,7 @@ fn answer(
                 pending,
                 value,
             };
-            show(page, reading.at, stamps, levels, lines, ending)
+            show(page, at, stamps, levels, lines, ending)
         }
     }
-}
-
-fn answer_part(
-    page: &mut [u8; PAGE],
-    reading: Reading,
-    stamps: &[u32],
-    levels: &[u8],
-    lines: &[u64],
-    room: usize,
-    mode: Mode,
-) -> usize {
-    let mut events = [0u16; EVENTS];
-    let stamp_count = parts::stamps(reading.stamps, stamps);
-    let level_count = parts::bytes(reading.levels, levels);
-    let lent = parts::events(room, &events);
-    answer(
-        page,
-        reading,
-        &stamps[..stamp_count],
-        &levels[..level_count],
-        lines,
-        &mut events[..lent],
-        mode,
-    )
-}
-
-// The same, where all lines were understood.
-fn answer_read(
-    page: &mut [u8; PAGE],
-    reading: Reading,
-    stamps: &[u32; CAPTURE],
-    levels: &[u8; CAPTURE],
-    lines: &[u64; CAPTURE],
-    room: usize,
-    mode: Mode,
-) -> usize {
-    if reading.broken {
-        return reading.at;
-    }
-    answer_part(page, reading, stamps, levels, lines, room, mode)
-}
-
-// Reads the lines of a trace.
-fn run_lines(
-    page: &mut [u8; PAGE],
-    at: usize,
-    piece: &mut [u8; TEXT],
-    source: Source,
-    room: usize,
-    mode: Mode,
-) -> usize {
-    let mut line = [0u8; input::ROOM];
-    let mut stamps = [0u32; CAPTURE];
-    let mut levels = [0u8; CAPTURE];
-    let mut lines = [0u64; CAPTURE];
-    let reading = samples::read_all(
-        page,
-        Reading::new(source, at, SAMPLES),
-        piece,
-        &mut line,
-        &mut stamps,
-        &mut levels,
-        &mut lines,
-    );
-    answer_read(page, reading, &stamps, &levels, &lines, room, mode)
-}
-
-// A dump is known by how its text begins, all of which is read first.
-pub(crate) fn run(
-    page: &mut [u8; PAGE],
-    at: usize,
-    source: Source,
-    room: usize,
-    mode: Mode,
-    thin: bool,
-) -> usize {
-    let mut piece = [0u8; TEXT];
-    let ready = input::fill(&mut piece, source);
-    let n = parts::bytes(ready.end, &piece);
-    if captured::begins(&piece[..n]) {
-        return captured::run(page, at, &piece[..n], ready, room, mode);
-    }
-    if thin {
-        return thinned::run(page, at, &mut piece, ready, room);
-    }
-    run_lines(page, at, &mut piece, ready, room, mode)
 }

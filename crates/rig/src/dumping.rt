@@ -1,13 +1,9 @@
 // rig dump: a trace drawn as a Value Change Dump, gathered in a buffer of 4,096 bytes before each write.
 use crate::decoding::refuse;
-use crate::decoding::samples::Reading;
-use crate::lines::end;
+use crate::lines::say;
 use dump::Dumped;
 use rig_lines::console::PAGE;
-use rig_lines::console::begin;
 use rig_lines::console::flush;
-use rig_lines::console::put_count;
-use text::put_bytes;
 
 const GATHERED: usize = 4096;
 
@@ -44,20 +40,10 @@ fn write(stamps: &[u32], levels: &[u8]) -> usize {
     from
 }
 
-// The last line, after the text.
-fn written(page: &mut [u8; PAGE], at: usize, stamps: &[u32], levels: &[u8]) -> usize {
-    let from = begin(page, at);
-    let ok = put_bytes(page, from, b"ok ");
-    let bytes = put_count(page, ok, write(stamps, levels) as u64, b"byte");
-    let of = put_bytes(page, bytes, b" for ");
-    let samples = put_count(page, of, levels.len() as u64, b"sample");
-    end(page, samples)
-}
-
 // No room is lent, so a trace that can be drawn is refused with 8.
 pub(crate) fn answer(
     page: &mut [u8; PAGE],
-    reading: Reading,
+    unpaired: u64,
     stamps: &[u32],
     levels: &[u8],
     lines: &[u64],
@@ -66,10 +52,11 @@ pub(crate) fn answer(
     match dump::dump(stamps, levels, &mut none) {
         Dumped::Refused { number, place } => {
             if number == SHORT {
-                return written(page, reading.at, stamps, levels);
+                let numbers = [write(stamps, levels) as u64, levels.len() as u64];
+                return say(page, 0, b"ok # byte~ for # sample~", &numbers, b"");
             }
-            refuse(page, reading, number, place, stamps, lines)
+            refuse(page, number, place, unpaired, stamps, lines)
         }
-        Dumped::Written(_) => reading.at,
+        Dumped::Written(_) => 0,
     }
 }

@@ -1,28 +1,25 @@
 // rig encode: an event list in words or numbers, drawn as a trace that rig decode reads.
-mod faults; // faults.rt: what is wrong with a line
 mod listing; // listing.rt: an event list read from its lines
+mod statement; // statement.rt: what a line of it says
 
 use crate::hints;
-use crate::lines::end;
-use crate::lines::tell;
+use crate::lines::say;
+use crate::trouble::NOTHING;
 use encode::Encoded;
 use listing::EVENTS;
 use listing::Listing;
 use rig_lines::console::PAGE;
-use rig_lines::console::begin;
-use rig_lines::console::put_count;
 use rig_lines::input;
 use rig_lines::input::Source;
 use rig_lines::parts;
 use rig_lines::refusals::put_refusal;
-use text::put_bytes;
 use trace::MAX_SAMPLES;
 
 // The refusal of a list that is not complete.
 const INCOMPLETE: u8 = 9;
 
 fn show_sample(page: &mut [u8; PAGE], at: usize, stamp: u32, level: u8) -> usize {
-    tell(page, at, b"# #", &[stamp as u64, level as u64])
+    say(page, at, b"# #", &[stamp as u64, level as u64], b"")
 }
 
 fn show_at(page: &mut [u8; PAGE], at: usize, stamps: &[u32], levels: &[u8], i: usize) -> usize {
@@ -34,35 +31,20 @@ fn show_at(page: &mut [u8; PAGE], at: usize, stamps: &[u32], levels: &[u8], i: u
     at
 }
 
+// Shows the first samples of a trace, so many, one a line.
 pub(crate) fn show_all(
     page: &mut [u8; PAGE],
-    at: usize,
     stamps: &[u32],
     levels: &[u8],
     count: usize,
 ) -> usize {
-    let mut next = at;
+    let mut next: usize = 0;
     let mut i: usize = 0;
     while i < count {
         next = show_at(page, next, stamps, levels, i);
         i += 1;
     }
     next
-}
-
-// The last line: how many samples were drawn.
-fn done(page: &mut [u8; PAGE], at: usize, count: usize) -> usize {
-    let from = begin(page, at);
-    let ok = put_bytes(page, from, b"ok ");
-    let samples = put_count(page, ok, count as u64, b"sample");
-    end(page, samples)
-}
-
-fn refuse(page: &mut [u8; PAGE], listing: Listing, number: u8) -> usize {
-    let from = begin(page, listing.at);
-    let refusal = put_refusal(page, from, number);
-    let hint = hints::put_trace(page, refusal, listing.like_trace() & (number == INCOMPLETE));
-    end(page, hint)
 }
 
 // Hands an event list to the library, and shows the trace that it draws.
@@ -74,14 +56,19 @@ fn answer(
     levels: &mut [u8],
 ) -> usize {
     match encode::encode(events, listing.start, listing.gap, stamps, levels) {
-        Encoded::Refused(number) => refuse(page, listing, number),
+        Encoded::Refused(number) => {
+            let refusal = put_refusal(page, 0, number);
+            let hint = hints::trace(listing.like_trace() & (number == INCOMPLETE));
+            hints::end(page, refusal, hint)
+        }
         Encoded::Drawn(count) => {
-            let next = show_all(page, listing.at, stamps, levels, count);
-            done(page, next, count)
+            let next = show_all(page, stamps, levels, count);
+            say(page, next, b"ok # sample~", &[count as u64], b"")
         }
     }
 }
 
+// What was read, with the room that is lent.
 fn answer_part(page: &mut [u8; PAGE], listing: Listing, events: &[u16], room: usize) -> usize {
     let mut stamps = [0u32; MAX_SAMPLES];
     let mut levels = [0u8; MAX_SAMPLES];
@@ -97,23 +84,24 @@ fn answer_part(page: &mut [u8; PAGE], listing: Listing, events: &[u16], room: us
     )
 }
 
-// The same, where all lines were understood.
+// The same, where every line was understood.
 fn answer_read(
     page: &mut [u8; PAGE],
     listing: Listing,
+    line: &[u8; input::ROOM],
     events: &[u16; EVENTS],
     room: usize,
 ) -> usize {
-    if listing.broken {
-        return listing.at;
+    if listing.progress.fault != NOTHING {
+        return listing.complain(page, line);
     }
     answer_part(page, listing, events, room)
 }
 
-pub(crate) fn run(page: &mut [u8; PAGE], at: usize, source: Source, room: usize) -> usize {
+pub(crate) fn run(page: &mut [u8; PAGE], source: Source, room: usize) -> usize {
     let mut piece = [0u8; PAGE];
     let mut line = [0u8; input::ROOM];
     let mut events = [0u16; EVENTS];
-    let listing = listing::read_all(page, at, &mut piece, &mut line, source, &mut events);
-    answer_read(page, listing, &events, room)
+    let listing = listing::read_all(Listing::new(source), &mut piece, &mut line, &mut events);
+    answer_read(page, listing, &line, &events, room)
 }

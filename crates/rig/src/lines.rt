@@ -1,30 +1,138 @@
-// Whole lines of output, and what errors have in common.
+// Lines of output in words with marks, and words by their place in a list.
+use check::same;
 use rig_lines::console::PAGE;
 use rig_lines::console::begin;
-use rig_lines::console::put_form;
 use rig_lines::console::put_quoted;
+use rig_lines::files::put_name;
+use rig_lines::store::line_at;
+use text::after_line;
+use text::first_line;
 use text::put_byte;
 use text::put_bytes;
+use text::put_decimal;
+use text::put_hex_byte;
 
-pub(crate) fn end(page: &mut [u8; PAGE], at: usize) -> usize {
-    put_byte(page, at, b'\n')
+// What stands for the next number, in decimal or as two hexadecimal digits; for `s`, unless the number before was 1;
+// for a word that was met, in quotes; and for the command, which is the first argument.
+const DECIMAL: u8 = b'#';
+
+const HEX: u8 = b'%';
+
+const PLURAL: u8 = b'~';
+
+const WORD: u8 = b'$';
+
+const COMMAND: u8 = b'*';
+
+// No line has more numbers, and no list in which a word is looked for has more.
+const MANY: usize = 16;
+
+// The place of the next number after a byte of the words.
+fn after(b: u8, place: usize) -> usize {
+    if place < MANY {
+        if (b == DECIMAL) | (b == HEX) {
+            return place + 1;
+        }
+    }
+    place
 }
 
-pub(crate) fn say(page: &mut [u8; PAGE], at: usize, words: &[u8]) -> usize {
-    let from = begin(page, at);
-    let next = put_bytes(page, from, words);
-    end(page, next)
+pub(crate) fn before(place: usize) -> usize {
+    if place > 0 { place - 1 } else { 0 }
 }
 
-// A line with numbers in it.
-pub(crate) fn tell(page: &mut [u8; PAGE], at: usize, words: &[u8], numbers: &[u64]) -> usize {
-    let from = begin(page, at);
-    let next = put_form(page, from, words, numbers);
-    end(page, next)
+fn put_plural(page: &mut [u8; PAGE], at: usize, number: u64) -> usize {
+    if number == 1 {
+        return at;
+    }
+    put_byte(page, at, b's')
 }
 
-// The word that was met in place of what was expected.
-pub(crate) fn put_not(page: &mut [u8; PAGE], at: usize, word: &[u8]) -> usize {
-    let next = put_bytes(page, at, b", not ");
-    put_quoted(page, next, word)
+fn put_mark(
+    page: &mut [u8; PAGE],
+    at: usize,
+    b: u8,
+    numbers: &[u64],
+    place: usize,
+    word: &[u8],
+) -> usize {
+    match b {
+        DECIMAL => put_decimal(page, at, line_at(numbers, place)),
+        HEX => put_hex_byte(page, at, (line_at(numbers, place) % 256) as u8),
+        PLURAL => put_plural(page, at, line_at(numbers, before(place))),
+        WORD => put_quoted(page, at, word),
+        COMMAND => put_name(page, at, 1),
+        _ => put_byte(page, at, b),
+    }
+}
+
+// A part of a line, perhaps its first.
+pub(crate) fn put(
+    page: &mut [u8; PAGE],
+    at: usize,
+    words: &[u8],
+    numbers: &[u64],
+    word: &[u8],
+) -> usize {
+    let mut next = begin(page, at);
+    let mut place: usize = 0;
+    let mut i = 0;
+    while i < words.len() {
+        let b = words[i];
+        next = put_mark(page, next, b, numbers, place, word);
+        place = after(b, place);
+        i += 1;
+    }
+    next
+}
+
+// The rest of a line, or all of it.
+pub(crate) fn say(
+    page: &mut [u8; PAGE],
+    at: usize,
+    words: &[u8],
+    numbers: &[u64],
+    word: &[u8],
+) -> usize {
+    let next = put(page, at, words, numbers, word);
+    put_byte(page, next, b'\n')
+}
+
+// The rest of a line, in words without marks.
+pub(crate) fn end(page: &mut [u8; PAGE], at: usize, words: &[u8]) -> usize {
+    let next = put_bytes(page, at, words);
+    put_byte(page, next, b'\n')
+}
+
+// The words at a place of a list, in which each stand in a line; none where it is past the end.
+pub(crate) fn line_of(list: &[u8], place: usize) -> &[u8] {
+    let mut rest = list;
+    let mut left = place;
+    while left > 0 {
+        let next = after_line(rest);
+        rest = next;
+        left -= 1;
+    }
+    first_line(rest)
+}
+
+// The place of a word in a list, which is past its end where it has no such word.
+pub(crate) fn place_of(list: &[u8], word: &[u8]) -> usize {
+    let mut place: usize = 0;
+    while place < MANY {
+        if same(line_of(list, place), word) {
+            return place;
+        }
+        place += 1;
+    }
+    place
+}
+
+// So many bytes at the end of a line.
+pub(crate) fn suffix(line: &[u8], left: usize) -> &[u8] {
+    if left < line.len() {
+        let from = line.len() - left;
+        return &line[from..];
+    }
+    line
 }

@@ -5,65 +5,43 @@ mod decoding; // decoding.rt: the events of a trace
 mod dumping; // dumping.rt: a trace drawn as a Value Change Dump
 mod encoding; // encoding.rt: an event list drawn as a trace
 mod hints; // hints.rt: what a file is, by its words
-mod lines; // lines.rt: whole lines of output
+mod lines; // lines.rt: lines of output
+mod reading; // reading.rt: a file, line by line
 mod session; // session.rt: a module driven by commands
 mod sorting; // sorting.rt: a capture in the order of its stamps
-mod sources; // sources.rt: the file of an argument
-mod task; // task.rt: the commands by name
 mod traced; // traced.rt: a trace read from its lines
 mod trouble; // trouble.rt: what was not understood or could not be read
 
 use arguments::Arguments;
+use arguments::ENCODE;
+use arguments::NOTHING;
+use arguments::SESSION;
 use rig_lines::console;
 use rig_lines::console::PAGE;
+use rig_lines::files;
 use rig_lines::files::Opened;
 use rig_lines::input::Source;
-use task::Named;
-use task::Task;
 
-fn run_on(page: &mut [u8; PAGE], given: Arguments, source: Source) -> usize {
+// Runs a command on its file; answers how much then stands on the page.
+fn run(page: &mut [u8; PAGE], given: Arguments, source: Source) -> usize {
     let task = given.task;
     match task {
-        Task::Decode => decoding::run(page, given.at, source, given.room, given.mode(), given.thin),
-        Task::Dump => traced::run(page, given.at, source, false),
-        Task::Sort => traced::run(page, given.at, source, true),
-        Task::Encode => encoding::run(page, given.at, source, given.room),
-        Task::Session => {
-            session::run(page, source);
-            given.at
-        }
+        ENCODE => encoding::run(page, source, given.room),
+        SESSION => session::run(page, source),
+        _ => traced::run(page, given, source),
     }
 }
 
-// Runs a command that reads one file.
-fn run_one(page: &mut [u8; PAGE], given: Arguments) -> usize {
-    match sources::open(given.file) {
-        Opened::Source(source) => run_on(page, given, source),
-        Opened::Failed(errno) => trouble::file(page, given.at, b"cannot open ", given.file, errno),
-    }
-}
-
-fn run(page: &mut [u8; PAGE], task: Task) -> usize {
-    let given = arguments::parse(page, task);
-    if given.broken {
-        return given.at;
-    }
-    run_one(page, given)
-}
-
-// Runs the command that the first argument names.
 fn begin(page: &mut [u8; PAGE]) -> usize {
-    if os::arg_count() < 2 {
-        return task::none(page);
+    let given = arguments::parse();
+    if given.trouble != NOTHING {
+        return given.complain(page);
     }
-    let mut space = io::buffer();
-    let n = os::arg(1, &mut space);
-    if os::errno() != 0 {
-        return arguments::too_long(page, 0);
-    }
-    match task::find(&space[..n]) {
-        Named::Task(task) => run(page, task),
-        Named::Unknown => task::unknown(page, &space[..n]),
+    let mut name = io::buffer();
+    let n = os::arg(given.file, &mut name);
+    match files::open(given.file, &name[..n]) {
+        Opened::Source(source) => run(page, given, source),
+        Opened::Failed(errno) => trouble::file(page, b"error cannot open ", given.file, errno),
     }
 }
 

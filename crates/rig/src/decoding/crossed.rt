@@ -1,15 +1,23 @@
 // A stamp that does not rise: packets of samples that look exchanged on the way.
+use crate::lines::before;
+use crate::lines::end;
+use crate::lines::line_of;
+use crate::lines::put;
+use crate::lines::say;
 use rig_lines::console::PAGE;
-use rig_lines::console::put_form;
-use rig_lines::store;
-use text::put_bytes;
+use rig_lines::store::line_at;
 
-// The first sample whose stamp is that of a sample or above it.
-fn first_from(stamps: &[u32], place: usize) -> usize {
+// Whether a stamp is another, or, where those above count too, above it.
+fn meets(stamp: u32, other: u32, above: bool) -> bool {
+    (stamp == other) | (above & (stamp > other))
+}
+
+// The first sample whose stamp is that of a sample, or, where those above count too, above it.
+pub(crate) fn first_from(stamps: &[u32], place: usize, above: bool) -> usize {
     let stamp = stamp_at(stamps, place);
     let mut i: usize = 0;
     while i < stamps.len() {
-        if stamps[i] >= stamp {
+        if meets(stamp_at(stamps, i), stamp, above) {
             return i;
         }
         i += 1;
@@ -30,21 +38,12 @@ pub(crate) fn falls(stamps: &[u32], place: usize) -> bool {
     (place > 0) & (stamp_at(stamps, place) <= stamp_at(stamps, before(place)))
 }
 
-// A sample is no more one of those that rise, and are below a stamp.
-fn ends(stamps: &[u32], place: usize, limit: u32) -> bool {
-    (stamp_at(stamps, place) >= limit) | falls(stamps, place)
-}
-
-fn before(place: usize) -> usize {
-    if place > 0 { place - 1 } else { 0 }
-}
-
 // The last sample from one on up to which all rise and are below a stamp.
 fn last_below(stamps: &[u32], from: usize, limit: u32) -> usize {
     let mut last = from;
     while last < stamps.len() {
         let next = last + 1;
-        if (next >= stamps.len()) | ends(stamps, next, limit) {
+        if (next >= stamps.len()) | (stamp_at(stamps, next) >= limit) | falls(stamps, next) {
             return last;
         }
         last = next;
@@ -52,48 +51,37 @@ fn last_below(stamps: &[u32], from: usize, limit: u32) -> usize {
     last
 }
 
-// The lines from one sample to another, or the one line.
-fn put_lines(page: &mut [u8; PAGE], at: usize, lines: &[u64], first: usize, last: usize) -> usize {
-    let numbers = [store::line_at(lines, first), store::line_at(lines, last)];
-    if first == last {
-        return put_form(page, at, b"#", &numbers);
-    }
-    put_form(page, at, b"# to #", &numbers)
-}
-
-// Which lines look exchanged.
-fn put_exchanged(
+// Ends the refusal of a sample whose stamp does not rise: which line has its stamp, or which look exchanged.
+pub(crate) fn say_why(
     page: &mut [u8; PAGE],
     at: usize,
     stamps: &[u32],
     lines: &[u64],
-    first: usize,
     place: usize,
 ) -> usize {
-    let last = last_below(stamps, place, stamp_at(stamps, first));
-    let word = put_bytes(page, at, b"; lines ");
-    let front = put_lines(page, word, lines, first, before(place));
-    let and = put_bytes(page, front, b" and ");
-    let back = put_lines(page, and, lines, place, last);
-    put_bytes(
+    let first = first_from(stamps, place, true);
+    let limit = stamp_at(stamps, first);
+    let line = line_at(lines, first);
+    if limit == stamp_at(stamps, place) {
+        return say(page, at, b"; its stamp is that of line #", &[line], b"");
+    }
+    let last = last_below(stamps, place, limit);
+    let words = line_of(
+        b"; lines #\n; lines # to #\n",
+        (first != before(place)) as usize,
+    );
+    let front = put(page, at, words, &[line, line_at(lines, before(place))], b"");
+    let also = line_of(b" and #\n and # to #\n", (place != last) as usize);
+    let back = put(
+        page,
+        front,
+        also,
+        &[line_at(lines, place), line_at(lines, last)],
+        b"",
+    );
+    end(
         page,
         back,
         b" look exchanged: rig sort puts samples in order",
     )
-}
-
-// What is added to the refusal of a sample whose stamp does not rise.
-pub(crate) fn put(
-    page: &mut [u8; PAGE],
-    at: usize,
-    stamps: &[u32],
-    lines: &[u64],
-    place: usize,
-) -> usize {
-    let first = first_from(stamps, place);
-    if stamp_at(stamps, first) == stamp_at(stamps, place) {
-        let numbers = [store::line_at(lines, first)];
-        return put_form(page, at, b"; its stamp is that of line #", &numbers);
-    }
-    put_exchanged(page, at, stamps, lines, first, place)
 }

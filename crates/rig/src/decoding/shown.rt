@@ -1,14 +1,13 @@
 // The events of a trace one a line, each with the stamp of the sample that lists it, and notes of long gaps between.
 use crate::lines::end;
-use crate::lines::tell;
+use crate::lines::line_of;
+use crate::lines::put;
+use crate::lines::say;
 use decode::Decoder;
 use decode::Listed;
 use rig_lines::console::PAGE;
-use rig_lines::console::begin;
-use rig_lines::console::put_form;
 use rig_lines::numbers::more;
 use rig_lines::store;
-use text::put_bytes;
 use trace::PARTIAL;
 use trace::REPEATED_START;
 use trace::START;
@@ -35,15 +34,8 @@ fn is_condition(event: u16) -> bool {
 }
 
 // The usual gap inside a frame; outside none is judged.
-fn inside(framed: bool, usual: u64) -> u64 {
+pub(super) fn inside(framed: bool, usual: u64) -> u64 {
     if framed { usual } else { 0 }
-}
-
-fn put_doubt(page: &mut [u8; PAGE], at: usize, doubtful: bool) -> usize {
-    if doubtful {
-        return put_bytes(page, at, b" doubtful");
-    }
-    at
 }
 
 impl Shown {
@@ -73,11 +65,11 @@ impl Shown {
     }
 
     fn with_event(self, page: &mut [u8; PAGE], event: u16, stamp: u32) -> Shown {
-        let from = begin(page, self.at);
-        let stamped = put_form(page, from, b"#: ", &[stamp as u64]);
+        let doubts = self.doubtful & !is_condition(event);
+        let stamped = put(page, self.at, b"#: ", &[stamp as u64], b"");
         let words = trace_text::show(page, stamped, event, self.addressed);
-        let judged = put_doubt(page, words, self.doubtful & !is_condition(event));
-        self.after(event, end(page, judged))
+        let next = end(page, words, line_of(b"\n doubtful\n", doubts as usize));
+        self.after(event, next)
     }
 
     fn with_listed(self, page: &mut [u8; PAGE], listed: Listed, stamp: u32) -> Shown {
@@ -91,34 +83,31 @@ impl Shown {
         }
     }
 
-    fn with_note(
+    // A gap, with the line of the sample that ends it, and the usual gap; 0: it is not judged.
+    fn with_gap(
         mut self,
         page: &mut [u8; PAGE],
         from: u32,
         to: u32,
         line: u64,
-        times: u64,
+        usual: u64,
     ) -> Shown {
-        self.at = tell(
-            page,
-            self.at,
-            b"note: no sample from # to # (line #), # times the usual gap: samples may be lost there",
-            &[from as u64, to as u64, line, times],
-        );
-        self.long_gaps = more(self.long_gaps);
-        self.doubtful = true;
-        self
-    }
-
-    // A gap, with the line of the sample that ends it, and the usual gap; 0: it is not judged.
-    fn with_gap(self, page: &mut [u8; PAGE], from: u32, to: u32, line: u64, usual: u64) -> Shown {
         let gap = apart(from, to);
         if usual == 0 {
             return self;
         }
-        if is_long(gap, usual) {
-            return self.with_note(page, from, to, line, gap as u64 / usual);
+        if !is_long(gap, usual) {
+            return self;
         }
+        self.at = say(
+            page,
+            self.at,
+            b"note: no sample from # to # (line #), # times the usual gap: samples may be lost there",
+            &[from as u64, to as u64, line, gap as u64 / usual],
+            b"",
+        );
+        self.long_gaps = more(self.long_gaps);
+        self.doubtful = true;
         self
     }
 }

@@ -1,12 +1,13 @@
 // The commands of a session: a name, and numbers in hexadecimal.
-use check::same;
+use super::reply;
+use crate::lines::line_of;
+use crate::lines::place_of;
 use rig_lines::numbers::value;
 use text::after_word;
 use text::first_word;
 use usi::Usi;
 
 pub(crate) enum Command {
-    Nothing,
     Power(u8, u8),
     Read(u16),
     Write(u16, u8),
@@ -15,13 +16,11 @@ pub(crate) enum Command {
     Sample(u8),
     Tick,
     Lines,
-    Help,
-    Unknown,
-    // a known name with the wrong words after it
-    Malformed(usize),
+    // what is answered by words alone: one of reply.rt's places
+    Words(usize),
 }
 
-// What was expected, by its place in a list.
+// The commands by their place in the list of names; each is the place of its form in the replies too.
 const POWER: usize = 0;
 
 const READ: usize = 1;
@@ -39,6 +38,8 @@ const TICK: usize = 6;
 const LINES: usize = 7;
 
 const HELP: usize = 8;
+
+const REGISTERS: usize = 6;
 
 const BYTE: u64 = 0xff;
 
@@ -74,27 +75,49 @@ fn is_name(word: &[u8], name: &[u8]) -> bool {
     true
 }
 
+fn is_register(word: &[u8], place: usize) -> bool {
+    is_name(
+        word,
+        line_of(
+            b"USICTL0\nUSICTL1\nUSICKCTL\nUSICNT\nUSISRL\nUSISRH\n",
+            place,
+        ),
+    )
+}
+
+// A register by its place in the order of addresses; past the last where a word names none.
+fn register(word: &[u8]) -> usize {
+    let mut place: usize = 0;
+    while place < REGISTERS {
+        if is_register(word, place) {
+            return place;
+        }
+        place += 1;
+    }
+    place
+}
+
 // A register's address, by its name or as a number.
 fn address(word: &[u8]) -> u64 {
-    if is_name(word, b"USICTL0") {
-        return Usi::USICTL0 as u64;
-    }
-    if is_name(word, b"USICTL1") {
-        return Usi::USICTL1 as u64;
-    }
-    if is_name(word, b"USICKCTL") {
-        return Usi::USICKCTL as u64;
-    }
-    if is_name(word, b"USICNT") {
-        return Usi::USICNT as u64;
-    }
-    if is_name(word, b"USISRL") {
-        return Usi::USISRL as u64;
-    }
-    if is_name(word, b"USISRH") {
-        return Usi::USISRH as u64;
+    let place = register(word);
+    if place < REGISTERS {
+        return Usi::USICTL0 as u64 + place as u64;
     }
     number(word)
+}
+
+// Whether a word stands alone.
+fn is_last(words: &[u8]) -> bool {
+    first_word(after_word(words)).len() == 0
+}
+
+// The last of two words as a number, and one above every limit where more words follow.
+fn second(rest: &[u8]) -> u64 {
+    let more = after_word(rest);
+    if is_last(more) {
+        return number(first_word(more));
+    }
+    u64::MAX
 }
 
 fn power(rest: &[u8]) -> Command {
@@ -108,67 +131,37 @@ fn power(rest: &[u8]) -> Command {
             return Command::Power(low as u8, high as u8);
         }
     }
-    Command::Malformed(POWER)
+    Command::Words(POWER)
 }
 
-// Whether a word stands alone.
-fn is_last(words: &[u8]) -> bool {
-    first_word(after_word(words)).len() == 0
-}
-
-// The address that stands alone, and one above every limit where none does.
-fn lone_address(rest: &[u8]) -> u64 {
+fn read(rest: &[u8], name: usize) -> Command {
+    let at = address(first_word(rest));
     if is_last(rest) {
-        return address(first_word(rest));
+        if at <= WORD {
+            if name == READ {
+                return Command::Read(at as u16);
+            }
+            return Command::ReadWord(at as u16);
+        }
     }
-    u64::MAX
+    Command::Words(name)
 }
 
-fn read(rest: &[u8]) -> Command {
-    let at = lone_address(rest);
-    if at <= WORD {
-        return Command::Read(at as u16);
-    }
-    Command::Malformed(READ)
-}
-
-fn read_word(rest: &[u8]) -> Command {
-    let at = lone_address(rest);
-    if at <= WORD {
-        return Command::ReadWord(at as u16);
-    }
-    Command::Malformed(READ_WORD)
-}
-
-// The last of two words as a number, and one above every limit where more words follow.
-fn second(rest: &[u8]) -> u64 {
-    let more = after_word(rest);
-    if is_last(more) {
-        return number(first_word(more));
-    }
-    u64::MAX
-}
-
-fn write(rest: &[u8]) -> Command {
+fn write(rest: &[u8], name: usize) -> Command {
     let at = address(first_word(rest));
     let value = second(rest);
     if at <= WORD {
-        if value <= BYTE {
-            return Command::Write(at as u16, value as u8);
+        if name == WRITE {
+            if value <= BYTE {
+                return Command::Write(at as u16, value as u8);
+            }
+        } else {
+            if value <= WORD {
+                return Command::WriteWord(at as u16, value as u16);
+            }
         }
     }
-    Command::Malformed(WRITE)
-}
-
-fn write_word(rest: &[u8]) -> Command {
-    let at = address(first_word(rest));
-    let value = second(rest);
-    if at <= WORD {
-        if value <= WORD {
-            return Command::WriteWord(at as u16, value as u16);
-        }
-    }
-    Command::Malformed(WRITE_WORD)
+    Command::Words(name)
 }
 
 fn sample(rest: &[u8]) -> Command {
@@ -178,55 +171,38 @@ fn sample(rest: &[u8]) -> Command {
             return Command::Sample(level as u8);
         }
     }
-    Command::Malformed(SAMPLE)
-}
-
-// A command that stands alone.
-fn alone(rest: &[u8], command: Command, form: usize) -> Command {
-    if first_word(rest).len() > 0 {
-        return Command::Malformed(form);
-    }
-    command
+    Command::Words(SAMPLE)
 }
 
 // A command without numbers.
-fn parse_plain(name: &[u8], rest: &[u8]) -> Command {
-    if same(name, b"tick") {
-        return alone(rest, Command::Tick, TICK);
+fn alone(rest: &[u8], name: usize) -> Command {
+    if first_word(rest).len() > 0 {
+        return Command::Words(name);
     }
-    if same(name, b"lines") {
-        return alone(rest, Command::Lines, LINES);
+    match name {
+        TICK => Command::Tick,
+        LINES => Command::Lines,
+        _ => Command::Words(reply::HELP),
     }
-    if same(name, b"help") {
-        return alone(rest, Command::Help, HELP);
-    }
-    if name.len() == 0 {
-        return Command::Nothing;
-    }
-    Command::Unknown
 }
 
 // The command that a line says.
 pub(crate) fn parse(line: &[u8]) -> Command {
-    let name = first_word(line);
+    let word = first_word(line);
     let rest = after_word(line);
-    if same(name, b"power") {
-        return power(rest);
+    if word.len() == 0 {
+        return Command::Words(reply::NOTHING);
     }
-    if same(name, b"read") {
-        return read(rest);
+    let name = place_of(
+        b"power\nread\nwrite\nreadw\nwritew\nsample\ntick\nlines\nhelp\n",
+        word,
+    );
+    match name {
+        POWER => power(rest),
+        READ | READ_WORD => read(rest, name),
+        WRITE | WRITE_WORD => write(rest, name),
+        SAMPLE => sample(rest),
+        TICK | LINES | HELP => alone(rest, name),
+        _ => Command::Words(reply::UNKNOWN),
     }
-    if same(name, b"write") {
-        return write(rest);
-    }
-    if same(name, b"readw") {
-        return read_word(rest);
-    }
-    if same(name, b"writew") {
-        return write_word(rest);
-    }
-    if same(name, b"sample") {
-        return sample(rest);
-    }
-    parse_plain(name, rest)
 }

@@ -5,13 +5,13 @@ use Rattle.rig.proofs.arguments.parse.Statement.{statement}
 use Rattle.rig.proofs.arguments.parse.Tie as tie
 
 abbrev Inv-loop : tie.InvT-loop
-Inv-loop page₀ given₀ count i₀ page given i = Unit {0}
+Inv-loop given₀ count i₀ given i = Unit {0}
 
 abbrev μ-loop : tie.MeasureT-loop
-μ-loop page₀ given₀ count i₀ page given i = count - i
+μ-loop given₀ count i₀ given i = count - i
 
-none-requires : tie.Need-none-requires Inv-loop μ-loop
-none-requires c κs = search needs
+begun-requires : tie.Need-begun-requires Inv-loop μ-loop
+begun-requires c κs = search needs
 
 arg-count-requires : tie.Need-arg-count-requires Inv-loop μ-loop
 arg-count-requires c κs = search needs
@@ -46,7 +46,7 @@ parse-spec =
     (tie.spec
     Inv-loop
     μ-loop
-    none-requires
+    begun-requires
     arg-count-requires
     loop-holds
     returns

@@ -5,10 +5,10 @@ use Rattle.rig.proofs.encoding.show_all.Statement.{statement}
 use Rattle.rig.proofs.encoding.show_all.Tie as tie
 
 abbrev Inv-loop : tie.InvT-loop
-Inv-loop page₀ at stamps levels count next₀ i₀ page next i = Unit {0}
+Inv-loop page₀ stamps levels count next₀ i₀ page next i = Unit {0}
 
 abbrev μ-loop : tie.MeasureT-loop
-μ-loop page₀ at stamps levels count next₀ i₀ page next i = count - i
+μ-loop page₀ stamps levels count next₀ i₀ page next i = count - i
 
 loop-holds : tie.Need-loop-holds Inv-loop μ-loop
 loop-holds c = search needs
@@ -31,4 +31,12 @@ returns c = search needs
 pub show-all-spec : {M : Type 1} → statement M
 show-all-spec =
     tie.close
-    (tie.spec Inv-loop μ-loop loop-holds show-at-requires add-i loop-less loop-again returns)
+    (tie.spec
+    Inv-loop
+    μ-loop
+    loop-holds
+    show-at-requires
+    add-i
+    loop-less
+    loop-again
+    returns)

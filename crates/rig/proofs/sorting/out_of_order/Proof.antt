@@ -17,8 +17,8 @@ loop-holds c = search needs
 falls-requires : tie.Need-falls-requires Inv-loop μ-loop
 falls-requires c κs = search needs
 
-counted-requires : tie.Need-counted-requires Inv-loop μ-loop
-counted-requires c κs = search needs
+more-requires : tie.Need-more-requires Inv-loop μ-loop
+more-requires c κs = search needs
 
 add-i : tie.Need-add-i Inv-loop μ-loop
 add-i c = search needs
@@ -40,7 +40,7 @@ out-of-order-spec =
     μ-loop
     loop-holds
     falls-requires
-    counted-requires
+    more-requires
     add-i
     loop-less
     loop-again

@@ -6,10 +6,10 @@ use Rattle.rig.proofs.decoding.crossed.first_from.Statement.{statement}
 use Rattle.rig.proofs.decoding.crossed.first_from.Tie as tie
 
 abbrev Inv-loop : tie.InvT-loop
-Inv-loop stamps place stamp i₀ i = Unit {0}
+Inv-loop stamps place above stamp i₀ i = Unit {0}
 
 abbrev μ-loop : tie.MeasureT-loop
-μ-loop stamps place stamp i₀ i = length stamps - i
+μ-loop stamps place above stamp i₀ i = length stamps - i
 
 stamp-at-requires : tie.Need-stamp-at-requires Inv-loop μ-loop
 stamp-at-requires c κs = search needs
@@ -17,11 +17,11 @@ stamp-at-requires c κs = search needs
 loop-holds : tie.Need-loop-holds Inv-loop μ-loop
 loop-holds c = search needs
 
-mul-if1 : tie.Need-mul-if1 Inv-loop μ-loop
-mul-if1 c = search needs
+stamp-at-requires-2 : tie.Need-stamp-at-requires-2 Inv-loop μ-loop
+stamp-at-requires-2 c κs = search needs
 
-shared-slice-read-if1 : tie.Need-shared-slice-read-if1 Inv-loop μ-loop
-shared-slice-read-if1 c = search needs
+meets-requires : tie.Need-meets-requires Inv-loop μ-loop
+meets-requires c κs = search needs
 
 returns : tie.Need-returns Inv-loop μ-loop
 returns c = search needs
@@ -46,8 +46,8 @@ first-from-spec =
     μ-loop
     stamp-at-requires
     loop-holds
-    mul-if1
-    shared-slice-read-if1
+    stamp-at-requires-2
+    meets-requires
     returns
     add-i
     loop-less

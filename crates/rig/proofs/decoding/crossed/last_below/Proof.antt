@@ -17,8 +17,11 @@ loop-holds c = search needs
 add-next : tie.Need-add-next Inv-loop μ-loop
 add-next c = search needs
 
-ends-requires : tie.Need-ends-requires Inv-loop μ-loop
-ends-requires c κs = search needs
+stamp-at-requires : tie.Need-stamp-at-requires Inv-loop μ-loop
+stamp-at-requires c κs = search needs
+
+falls-requires : tie.Need-falls-requires Inv-loop μ-loop
+falls-requires c κs = search needs
 
 returns : tie.Need-returns Inv-loop μ-loop
 returns c = search needs
@@ -40,7 +43,8 @@ last-below-spec =
     μ-loop
     loop-holds
     add-next
-    ends-requires
+    stamp-at-requires
+    falls-requires
     returns
     loop-less
     loop-again

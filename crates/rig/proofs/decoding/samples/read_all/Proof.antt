@@ -4,10 +4,10 @@ use Rattle.rig.proofs.decoding.samples.read_all.Statement.{statement}
 use Rattle.rig.proofs.decoding.samples.read_all.Tie as tie
 
 abbrev Inv-loop : tie.InvT-loop
-Inv-loop page₀ piece₀ line₀ stamps₀ levels₀ lines₀ reading₀ turns₀ page piece line stamps levels lines reading turns = Unit {0}
+Inv-loop piece₀ line₀ stamps₀ levels₀ lines₀ reading₀ turns₀ piece line stamps levels lines reading turns = Unit {0}
 
 abbrev μ-loop : tie.MeasureT-loop
-μ-loop page₀ piece₀ line₀ stamps₀ levels₀ lines₀ reading₀ turns₀ page piece line stamps levels lines reading turns = turns
+μ-loop piece₀ line₀ stamps₀ levels₀ lines₀ reading₀ turns₀ piece line stamps levels lines reading turns = turns
 
 loop-holds : tie.Need-loop-holds Inv-loop μ-loop
 loop-holds c = search needs

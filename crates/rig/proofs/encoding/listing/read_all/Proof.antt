@@ -4,13 +4,10 @@ use Rattle.rig.proofs.encoding.listing.read_all.Statement.{statement}
 use Rattle.rig.proofs.encoding.listing.read_all.Tie as tie
 
 abbrev Inv-loop : tie.InvT-loop
-Inv-loop page₀ at piece₀ line₀ events₀ listing₀ turns₀ page piece line events listing turns = Unit {0}
+Inv-loop piece₀ line₀ events₀ listing₀ turns₀ piece line events listing turns = Unit {0}
 
 abbrev μ-loop : tie.MeasureT-loop
-μ-loop page₀ at piece₀ line₀ events₀ listing₀ turns₀ page piece line events listing turns = turns
-
-new-requires : tie.Need-new-requires Inv-loop μ-loop
-new-requires c κs = search needs
+μ-loop piece₀ line₀ events₀ listing₀ turns₀ piece line events listing turns = turns
 
 loop-holds : tie.Need-loop-holds Inv-loop μ-loop
 loop-holds c = search needs
@@ -39,7 +36,6 @@ read-all-spec =
     (tie.spec
     Inv-loop
     μ-loop
-    new-requires
     loop-holds
     sub-turns
     returns

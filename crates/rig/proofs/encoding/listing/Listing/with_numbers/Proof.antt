@@ -4,10 +4,10 @@ use Rattle.rig.proofs.encoding.listing.Listing.with_numbers.Statement.{
 use Rattle.rig.proofs.encoding.listing.Listing.with_numbers.Tie as tie
 
 abbrev Inv-loop : tie.InvT-loop
-Inv-loop page₀ events₀ line words listing₀ rest₀ left₀ page events listing rest left = Unit {0}
+Inv-loop events₀ words listing₀ rest₀ left₀ events listing rest left = Unit {0}
 
 abbrev μ-loop : tie.MeasureT-loop
-μ-loop page₀ events₀ line words listing₀ rest₀ left₀ page events listing rest left = left
+μ-loop events₀ words listing₀ rest₀ left₀ events listing rest left = left
 
 loop-holds : tie.Need-loop-holds Inv-loop μ-loop
 loop-holds c = search needs
@@ -20,9 +20,6 @@ first-word-requires c κs = search needs
 
 returns : tie.Need-returns Inv-loop μ-loop
 returns c = search needs
-
-first-word-requires-2 : tie.Need-first-word-requires-2 Inv-loop μ-loop
-first-word-requires-2 c κs = search needs
 
 with-number-requires : tie.Need-with-number-requires Inv-loop μ-loop
 with-number-requires c κs = search needs
@@ -49,7 +46,6 @@ with-numbers-spec =
     sub-left
     first-word-requires
     returns
-    first-word-requires-2
     with-number-requires
     after-word-requires
     loop-less

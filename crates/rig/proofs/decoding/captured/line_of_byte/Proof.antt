@@ -1,9 +1,9 @@
--- `rig::decoding::captured::line_of` is safe and ends: fewer bytes are left.
+-- `rig::decoding::captured::line_of_byte` is safe and ends: fewer bytes are left.
 use Prim.Native.Nat.{_-_, _≤_}
 use lib.ListN.{length}
 use borrow.Author.Needs.{needs}
-use Rattle.rig.proofs.decoding.captured.line_of.Statement.{statement}
-use Rattle.rig.proofs.decoding.captured.line_of.Tie as tie
+use Rattle.rig.proofs.decoding.captured.line_of_byte.Statement.{statement}
+use Rattle.rig.proofs.decoding.captured.line_of_byte.Tie as tie
 
 abbrev Inv-loop : tie.InvT-loop
 Inv-loop text place line₀ i₀ line i = i ≤ length text
@@ -35,8 +35,8 @@ loop-again c = search needs
 returns-2 : tie.Need-returns-2 Inv-loop μ-loop
 returns-2 c = search needs
 
-pub line-of-spec : {M : Type 1} → statement M
-line-of-spec =
+pub line-of-byte-spec : {M : Type 1} → statement M
+line-of-byte-spec =
     tie.close
     (tie.spec
     Inv-loop

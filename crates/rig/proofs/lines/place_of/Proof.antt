@@ -1,0 +1,50 @@
+-- `rig::lines::place_of` is safe and ends.
+use Prim.Native.Nat.{_-_}
+use borrow.Author.Needs.{needs}
+use Rattle.rig.proofs.lines.place_of.Statement.{statement}
+use Rattle.rig.proofs.lines.place_of.Tie as tie
+
+abbrev Inv-loop : tie.InvT-loop
+Inv-loop list word place₀ place = Unit {0}
+
+abbrev μ-loop : tie.MeasureT-loop
+μ-loop list word place₀ place = 16 - place
+
+loop-holds : tie.Need-loop-holds Inv-loop μ-loop
+loop-holds c = search needs
+
+line-of-requires : tie.Need-line-of-requires Inv-loop μ-loop
+line-of-requires c κs = search needs
+
+same-requires : tie.Need-same-requires Inv-loop μ-loop
+same-requires c κs = search needs
+
+returns : tie.Need-returns Inv-loop μ-loop
+returns c = search needs
+
+add-place : tie.Need-add-place Inv-loop μ-loop
+add-place c = search needs
+
+loop-less : tie.Need-loop-less Inv-loop μ-loop
+loop-less c = search needs
+
+loop-again : tie.Need-loop-again Inv-loop μ-loop
+loop-again c = search needs
+
+returns-2 : tie.Need-returns-2 Inv-loop μ-loop
+returns-2 c = search needs
+
+pub place-of-spec : {M : Type 1} → statement M
+place-of-spec =
+    tie.close
+    (tie.spec
+    Inv-loop
+    μ-loop
+    loop-holds
+    line-of-requires
+    same-requires
+    returns
+    add-place
+    loop-less
+    loop-again
+    returns-2)

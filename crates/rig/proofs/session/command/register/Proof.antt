@@ -1,0 +1,46 @@
+-- `rig::session::command::register` is safe and ends.
+use Prim.Native.Nat.{_-_}
+use borrow.Author.Needs.{needs}
+use Rattle.rig.proofs.session.command.register.Statement.{statement}
+use Rattle.rig.proofs.session.command.register.Tie as tie
+
+abbrev Inv-loop : tie.InvT-loop
+Inv-loop word place₀ place = Unit {0}
+
+abbrev μ-loop : tie.MeasureT-loop
+μ-loop word place₀ place = 6 - place
+
+loop-holds : tie.Need-loop-holds Inv-loop μ-loop
+loop-holds c = search needs
+
+is-register-requires : tie.Need-is-register-requires Inv-loop μ-loop
+is-register-requires c κs = search needs
+
+returns : tie.Need-returns Inv-loop μ-loop
+returns c = search needs
+
+add-place : tie.Need-add-place Inv-loop μ-loop
+add-place c = search needs
+
+loop-less : tie.Need-loop-less Inv-loop μ-loop
+loop-less c = search needs
+
+loop-again : tie.Need-loop-again Inv-loop μ-loop
+loop-again c = search needs
+
+returns-2 : tie.Need-returns-2 Inv-loop μ-loop
+returns-2 c = search needs
+
+pub register-spec : {M : Type 1} → statement M
+register-spec =
+    tie.close
+    (tie.spec
+    Inv-loop
+    μ-loop
+    loop-holds
+    is-register-requires
+    returns
+    add-place
+    loop-less
+    loop-again
+    returns-2)
