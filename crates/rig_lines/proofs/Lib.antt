@@ -1,4 +1,5 @@
 pub mod Words
+pub mod Places
 pub mod Forms
 pub mod Storing
 pub mod Taking
