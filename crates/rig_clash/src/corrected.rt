@@ -6,9 +6,8 @@ use crate::kept::MESSAGES_AT;
 use crate::kept::ROOM;
 use crate::kept::TONIGHT_AT;
 use crate::list;
-use crate::list::Style;
 use crate::load::Load;
-use crate::phrase;
+use crate::phrase::put_front;
 use crate::phrase::put_numbers;
 use crate::slots;
 use crate::state::State;
@@ -64,18 +63,12 @@ fn meet(kept: &mut [u8; ROOM], count: usize) {
     }
 }
 
-fn put_unknown(page: &mut [u8; PAGE], at: usize, board: &[u8], line: u64) -> usize {
-    let quoted = put_quoted(page, at, board);
-    put_numbers(page, quoted, b" on line #\n", [line, 0, 0, 0])
-}
-
 // There is no such board: it costs the load.
 fn unknown(page: &mut [u8; PAGE], kept: &[u8], state: State, correction: usize) -> State {
-    let numbers = [slots::line(kept, correction), 0, 0, 0];
     let form = b"! corrections line #: load *: no board ";
-    let place = phrase::put_line(page, state.at, kept, form, 0, numbers);
-    let board = slots::board(kept, correction);
-    let end = put_unknown(page, place, board, state.file.boards_line);
+    let place = put_front(page, state.at, kept, form, &[slots::line(kept, correction)]);
+    let quoted = put_quoted(page, place, slots::board(kept, correction));
+    let end = put_numbers(page, quoted, b" on line #\n", &[state.file.boards_line]);
     state.moved(end).blamed()
 }
 
@@ -287,19 +280,21 @@ fn is_first(kept: &[u8], correction: usize) -> bool {
     slots::load_line(kept, before) != slots::load_line(kept, correction)
 }
 
-fn put_without_load(page: &mut [u8; PAGE], at: usize, kept: &[u8], correction: usize) -> usize {
-    let numbers = [slots::load_line(kept, correction), 0, 0, 0];
-    let place = phrase::put_line(page, at, kept, b"! corrections line #: load ", 0, numbers);
-    let name = put_bytes(page, place, slots::load(kept, correction));
-    put_bytes(page, name, b" is in none of the files\n")
-}
-
 // The fault that a load was in none of the files.
 fn without_load(page: &mut [u8; PAGE], kept: &[u8], state: State, correction: usize) -> State {
     if slots::is_met(kept, correction) | !is_first(kept, correction) {
         return state;
     }
-    let end = put_without_load(page, state.at, kept, correction);
+    let form = b"! corrections line #: load ";
+    let place = put_front(
+        page,
+        state.at,
+        kept,
+        form,
+        &[slots::load_line(kept, correction)],
+    );
+    let name = put_bytes(page, place, slots::load(kept, correction));
+    let end = put_bytes(page, name, b" is in none of the files\n");
     state.moved(end).faulted()
 }
 
@@ -319,12 +314,8 @@ pub(crate) fn put(page: &mut [u8; PAGE], at: usize, kept: &[u8], load: Load) -> 
     if !load.corrected {
         return at;
     }
-    let from = phrase::put_line(page, at, kept, b"  corrected ", 0, [0; 4]);
+    let from = put_front(page, at, kept, b"  corrected ", &[]);
     let standing = load.standing;
-    let style = Style {
-        form: list::BOTH,
-        spaced: true,
-    };
-    let end = list::put_all(page, from, kept, standing, style);
+    let end = list::put_all(page, from, kept, list::BOTH, standing);
     put_byte(page, end, b'\n')
 }

@@ -6,7 +6,9 @@ use crate::kept::NAME_AT;
 use crate::kept::ROOM;
 use crate::kept::SLOTS;
 use crate::load;
-use crate::phrase::put_numbers;
+use crate::phrase::line_of;
+use crate::phrase::put_front;
+use crate::phrase::put_line;
 use crate::reading;
 use crate::slots;
 use crate::sources;
@@ -20,8 +22,6 @@ use load_text::LOAD_NAME;
 use load_text::is_board_name;
 use load_text::is_load_name;
 use rig_lines::console::PAGE;
-use rig_lines::console::begin;
-use rig_lines::files;
 use rig_lines::files::Opened;
 use rig_lines::input;
 use rig_lines::input::Line;
@@ -34,29 +34,20 @@ use text::put_bytes;
 
 const BYTES: u64 = MAX_LENGTH as u64;
 
-// The fault that ends the reading, of which all but the last words stand on the page.
-fn failed(page: &mut [u8; PAGE], state: State, at: usize) -> State {
-    let end = put_bytes(page, at, b"; nothing is rehearsed\n");
-    state.moved(end).faulted().done()
-}
-
-// The line that is wrong; line 0: none in particular.
-fn put_place(page: &mut [u8; PAGE], at: usize, line: u64) -> usize {
-    let start = begin(page, at);
-    if line == 0 {
-        return put_bytes(page, start, b"! corrections: ");
-    }
-    put_numbers(page, start, b"! corrections line #: ", [line, 0, 0, 0])
-}
-
-// Says what is wrong with the line that was followed, where something is.
+// Says what is wrong with the line that was followed, where something is; line 0: none in particular.
 fn said(page: &mut [u8; PAGE], state: State) -> State {
     if state.problem.is_none() {
         return state;
     }
-    let place = put_place(page, state.at, state.problem.line);
-    let words = state.problem.put(page, place);
-    failed(page, state.without_problem(), words)
+    let line = state.problem.line;
+    let words = line_of(
+        b"! corrections line #: \n! corrections: ",
+        (line == 0) as usize,
+    );
+    let place = put_front(page, state.at, b"", words, &[line]);
+    let wrong = state.problem.put(page, place);
+    let end = put_bytes(page, wrong, b"; nothing is rehearsed\n");
+    state.moved(end).without_problem().faulted().done()
 }
 
 // The line that is read is wrong.
@@ -322,9 +313,18 @@ fn ended(kept: &[u8], state: State) -> State {
 
 // `cannot open` or `cannot read`, and why.
 fn unread(page: &mut [u8; PAGE], state: State, reads: bool, argument: usize, errno: u64) -> State {
-    let named = ending::put_failed(page, state.at, reads, argument);
-    let reason = files::put_reason(page, named, errno);
-    failed(page, state, reason)
+    let words =
+        b"! cannot open +: `; nothing is rehearsed\n! cannot read +: `; nothing is rehearsed";
+    let numbers = [argument as u64, errno];
+    let end = put_line(
+        page,
+        state.at,
+        b"",
+        true,
+        line_of(words, reads as usize),
+        &numbers,
+    );
+    state.moved(end).faulted().done()
 }
 
 // Follows what taking a line found.

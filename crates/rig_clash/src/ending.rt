@@ -3,18 +3,14 @@ use crate::complaints::fault;
 use crate::finish;
 use crate::forms;
 use crate::kept::ROOM;
-use crate::phrase;
-use crate::phrase::either;
-use crate::sources;
+use crate::phrase::line_of;
+use crate::phrase::put_line;
 use crate::state::State;
 use rig_lines::console::PAGE;
-use rig_lines::files;
 use rig_lines::numbers::is_number;
 use rig_lines::numbers::value;
 use text::after_word;
 use text::first_word;
-use text::put_byte;
-use text::put_bytes;
 
 // The number of loads that `end` says, against those that there are.
 fn counted(state: State, said: u64) -> State {
@@ -63,7 +59,7 @@ pub(crate) fn with_end(
 // A file that was read to its end, or to what stands after `end`, has a load.
 pub(crate) fn with_any(page: &mut [u8; PAGE], state: State) -> State {
     if state.file.loads == 0 {
-        return fault(page, state, forms::NO_LOAD).done();
+        return fault(page, state, forms::NO_LOAD, b"").done();
     }
     state.done()
 }
@@ -77,8 +73,8 @@ pub(crate) fn after_end(state: State) -> State {
 
 // The last load of a file without `end` may be cut short.
 fn cut_short(page: &mut [u8; PAGE], kept: &[u8], state: State) -> State {
-    let words = b"! load *: the file ends without an end line; this load may be cut short\n";
-    let end = phrase::put_line(page, state.at, kept, words, 0, [0; 4]);
+    let words = b"! load *: the file ends without an end line; this load may be cut short";
+    let end = put_line(page, state.at, kept, true, words, &[]);
     state.moved(end).blamed()
 }
 
@@ -89,7 +85,7 @@ fn without_end(page: &mut [u8; PAGE], kept: &mut [u8; ROOM], state: State) -> St
         return finish::finish(page, kept, cut);
     }
     let finished = finish::finish(page, kept, state);
-    fault(page, finished, forms::NO_END)
+    fault(page, finished, forms::NO_END, b"")
 }
 
 // The last load of a file is finished.
@@ -111,16 +107,9 @@ pub(crate) fn failed(
     argument: usize,
     errno: u64,
 ) -> State {
-    let named = put_failed(page, state.at, reads, argument);
-    let reason = files::put_reason(page, named, errno);
-    state.moved(put_byte(page, reason, b'\n')).faulted().done()
-}
-
-// The same up to the reason.
-pub(crate) fn put_failed(page: &mut [u8; PAGE], at: usize, reads: bool, argument: usize) -> usize {
-    let place = either(reads, sources::READ, sources::OPEN);
-    let name = sources::put_line(page, at, place, argument);
-    put_bytes(page, name, b": ")
+    let words = line_of(b"! cannot open +: `\n! cannot read +: `", reads as usize);
+    let end = put_line(page, state.at, b"", true, words, &[argument as u64, errno]);
+    state.moved(end).faulted().done()
 }
 
 // The input cannot be read: the load that is being read is in error.

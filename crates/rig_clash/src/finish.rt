@@ -9,7 +9,8 @@ use crate::outcome::LEVELS;
 use crate::outcome::Outcome;
 use crate::outcome::is_refusal;
 use crate::outcome::is_seen;
-use crate::phrase;
+use crate::phrase::put_line;
+use crate::phrase::put_note;
 use crate::recording;
 use crate::rounds;
 use crate::state::Options;
@@ -19,8 +20,6 @@ use crate::table;
 use crate::tally::Tally;
 use arbitration_rules::MAX_LENGTH;
 use rig_lines::console::PAGE;
-use rig_lines::console::begin;
-use rig_lines::console::note;
 use verdict::Verdict;
 
 // A line on standard error after so many loads.
@@ -31,9 +30,9 @@ fn missing_board(page: &mut [u8; PAGE], kept: &[u8], state: State, board: usize)
     if state.load.line_of(board) > 0 {
         return state;
     }
-    let form = b"! line #: load *: no line for board $ (boards: line #)\n";
-    let numbers = [state.load.line, state.file.boards_line, 0, 0];
-    let end = phrase::put_line(page, state.at, kept, form, board, numbers);
+    let form = b"! line #: load *: no line for board $ (boards: line #)";
+    let numbers = [state.load.line, board as u64, state.file.boards_line];
+    let end = put_line(page, state.at, kept, true, form, &numbers);
     state.moved(end).blamed()
 }
 
@@ -74,7 +73,14 @@ fn put_broken(page: &mut [u8; PAGE], at: usize, kept: &[u8], table: bool) -> usi
     if table {
         return table::put_broken(page, at, kept);
     }
-    block::put_broken(page, at, kept)
+    put_line(
+        page,
+        at,
+        kept,
+        true,
+        b"load *[\n  ERROR: not rehearsed",
+        &[],
+    )
 }
 
 // The tally with a load that was rehearsed.
@@ -146,20 +152,12 @@ fn rehearsed_night(page: &mut [u8; PAGE], kept: &mut [u8; ROOM], state: State) -
     tallied(kept, state.moved(at), verdict, expected)
 }
 
-// A note of how many loads there were; answers where the page goes on.
-fn put_progress(page: &mut [u8; PAGE], at: usize, loads: u64) -> usize {
-    let start = begin(page, at);
-    let end = phrase::put_numbers(page, start, b"rig: # load~\n", [loads, 0, 0, 0]);
-    note(page, start, end)
-}
-
-// Where no trace is asked for.
+// A note of how many loads there were, where no trace is asked for.
 fn progress(page: &mut [u8; PAGE], state: State) -> State {
     if (state.options.trace > 0) | (state.tally.loads % PROGRESS != 0) {
         return state;
     }
-    let at = put_progress(page, state.at, state.tally.loads);
-    state.moved(at)
+    state.moved(put_note(page, state.at, b"rig: # load~\n", &[state.tally.loads]))
 }
 
 // What is done with a load: where a trace or a drawing is asked for, other loads are only read.

@@ -146,9 +146,9 @@ pub(crate) fn keep_board_name(kept: &mut [u8; ROOM], board: usize, name: &[u8]) 
     keep(kept, cell_of(board), BOARD_NAME, name);
 }
 
-// A board's message of so many bytes.
-pub(crate) fn message(kept: &[u8], board: usize, length: u32) -> &[u8] {
-    part(part(kept, row_of(board), MAX_LENGTH), 0, length as usize)
+// So many bytes of a row that begins at a place, from one on.
+pub(crate) fn row(kept: &[u8], at: usize, from: usize, count: usize) -> &[u8] {
+    part(part(kept, at, MAX_LENGTH), from, count)
 }
 
 // A row of bytes, put where it begins.
@@ -156,11 +156,7 @@ pub(crate) fn put_row(kept: &mut [u8; ROOM], at: usize, row: &[u8; MAX_LENGTH]) 
     put_bytes(kept, at, row);
 }
 
-// Where a message's parts begin.
-pub(crate) fn parts_of(kept: &[u8], board: usize, length: u32) -> &[u8] {
-    part(
-        part(kept, parts_row_of(board), MAX_LENGTH),
-        0,
-        length as usize,
-    )
+// No board has a name.
+pub(crate) fn clear_board_names(kept: &mut [u8; ROOM]) {
+    put_bytes(kept, BOARDS_AT, &[0; MAX_MASTERS * BOARD_NAME]);
 }

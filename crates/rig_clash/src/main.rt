@@ -45,6 +45,7 @@ mod words; // words.rt: the bytes and the acknowledges of a line
 use arguments::Arguments;
 use arguments::next_file;
 use kept::ROOM;
+use phrase::put_line;
 use rig_lines::console::PAGE;
 use rig_lines::console::flush;
 use rig_lines::files::Opened;
@@ -53,16 +54,7 @@ use state::State;
 use text::put_byte;
 use text::put_bytes;
 
-// `file FILE`, where there are several.
-fn with_name(page: &mut [u8; PAGE], state: State, argument: usize, several: bool) -> State {
-    if !several | (state.options.trace > 0) {
-        return state;
-    }
-    let name = sources::put_line(page, state.at, sources::FILE, argument);
-    state.moved(put_byte(page, name, b'\n'))
-}
-
-// The names of loads are each file's own.
+// `file FILE`, where there are several and no trace is asked for. The names of loads and boards are each file's own.
 fn with_file(
     page: &mut [u8; PAGE],
     kept: &mut [u8; ROOM],
@@ -71,7 +63,9 @@ fn with_file(
     several: bool,
 ) -> State {
     names::clear(kept);
-    let next = with_name(page, state, argument, several);
+    kept::clear_board_names(kept);
+    let named = several & (state.options.trace == 0);
+    let next = state.moved(put_line(page, state.at, kept, named, b"file +", &[argument as u64]));
     match sources::open(argument) {
         Opened::Source(source) => reading::run_source(page, kept, next, source, false),
         Opened::Failed(errno) => ending::failed(page, next, false, argument, errno),
@@ -106,7 +100,8 @@ fn after(argument: usize) -> usize {
 // In a table the header stands first.
 fn headed(page: &mut [u8; PAGE], state: State) -> State {
     if state.options.table {
-        return state.moved(table::put_header(page, state.at));
+        let words = b"  load       title          winner    bytes verdict\n";
+        return state.moved(put_bytes(page, state.at, words));
     }
     state
 }
@@ -133,7 +128,7 @@ fn met(page: &mut [u8; PAGE], state: State) -> State {
     }
     let mut space = io::buffer();
     let n = os::arg(state.options.trace, &mut space);
-    complaints::fault_about(page, state, forms::UNKNOWN_LOAD, &space[..n])
+    complaints::fault(page, state, forms::UNKNOWN_LOAD, &space[..n])
 }
 
 // All files, or the one that has the load that is drawn: the word after it is no file.

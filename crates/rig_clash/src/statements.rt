@@ -7,15 +7,12 @@ use crate::kept::ROOM;
 use crate::lines;
 use crate::opening;
 use crate::phrase::place_of;
-use crate::sources;
+use crate::phrase::put_note;
 use crate::state::File;
 use crate::state::State;
 use rig_lines::console::PAGE;
-use rig_lines::console::begin;
-use rig_lines::console::note;
 use text::after_word;
 use text::first_word;
-use text::put_bytes;
 
 pub(crate) enum Statement {
     Boards,
@@ -40,16 +37,7 @@ pub(crate) fn named(word: &[u8]) -> Statement {
     }
 }
 
-// A note that a file is in the old form; answers where the page goes on.
-fn put_numbered(page: &mut [u8; PAGE], at: usize, argument: usize) -> usize {
-    let start = begin(page, at);
-    let name = sources::put_line(page, start, sources::NOTE, argument);
-    let words = b": no boards line, so boards are numbered by their rows\n";
-    let said = put_bytes(page, name, words);
-    note(page, start, said)
-}
-
-// The first `load` of a file in the old form.
+// The first `load` of a file in the old form, of which a note says so.
 fn with_first_load(
     page: &mut [u8; PAGE],
     kept: &mut [u8; ROOM],
@@ -57,7 +45,8 @@ fn with_first_load(
     rest: &[u8],
 ) -> State {
     state.file.numbered = true;
-    let at = put_numbered(page, state.at, state.source.argument);
+    let words = b"rig: +: no boards line, so boards are numbered by their rows\n";
+    let at = put_note(page, state.at, words, &[state.source.argument as u64]);
     opening::with_load(kept, state.moved(at), rest)
 }
 
