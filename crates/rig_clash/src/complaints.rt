@@ -8,9 +8,10 @@ use rig_lines::console::PAGE;
 use text::put_byte;
 use text::put_bytes;
 
-// Says what is wrong with the line that was followed, where something is.
+// Says what is wrong with the line that was followed, where something is: it costs the load that is being read, and is
+// a fault where there is none.
 pub(crate) fn said(page: &mut [u8; PAGE], kept: &[u8], state: State) -> State {
-    if state.problem.is_none() {
+    if !state.is_wrong() {
         return state;
     }
     let words = line_of(b"! line #: \n! line #: load *: ", state.load.open as usize);
@@ -19,7 +20,7 @@ pub(crate) fn said(page: &mut [u8; PAGE], kept: &[u8], state: State) -> State {
     let unread = line_of(b"\n; the file is not read", state.problem.unread as usize);
     let last = put_bytes(page, wrong, unread);
     let end = put_byte(page, last, b'\n');
-    let next = state.moved(end).without_problem();
+    let next = state.moved(end).without_problem().blamed();
     if state.problem.last {
         return ending::with_any(page, next);
     }

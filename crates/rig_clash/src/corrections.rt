@@ -5,6 +5,7 @@ use crate::kept;
 use crate::kept::NAME_AT;
 use crate::kept::ROOM;
 use crate::kept::SLOTS;
+use crate::lines;
 use crate::load;
 use crate::phrase::line_of;
 use crate::phrase::put_front;
@@ -27,7 +28,6 @@ use rig_lines::input;
 use rig_lines::input::Line;
 use rig_lines::numbers::least_number;
 use rig_lines::numbers::more;
-use rig_lines::numbers::value;
 use text::after_word;
 use text::first_word;
 use text::put_bytes;
@@ -36,7 +36,7 @@ const BYTES: u64 = MAX_LENGTH as u64;
 
 // Says what is wrong with the line that was followed, where something is; line 0: none in particular.
 fn said(page: &mut [u8; PAGE], state: State) -> State {
-    if state.problem.is_none() {
+    if !state.is_wrong() {
         return state;
     }
     let line = state.problem.line;
@@ -50,20 +50,6 @@ fn said(page: &mut [u8; PAGE], state: State) -> State {
     state.moved(end).without_problem().faulted().done()
 }
 
-// The line that is read is wrong.
-fn wrong(state: State, form: usize, word: &[u8], number: u64) -> State {
-    state.with_problem(state.source.line, form, word, number)
-}
-
-// The same without a word.
-fn wrong_by(state: State, form: usize, number: u64) -> State {
-    wrong(state, form, b"", number)
-}
-
-fn plainly_wrong(state: State, form: usize) -> State {
-    wrong_by(state, form, 0)
-}
-
 // The load that is read has no board line yet.
 fn lacks_board(kept: &[u8], state: State) -> bool {
     let count = state.corrections;
@@ -74,157 +60,102 @@ fn without_board(kept: &[u8], state: State) -> State {
     state.with_problem(state.load.line, forms::WITHOUT_BOARD, kept::name(kept), 0)
 }
 
-// A load is begun.
-fn opened(mut state: State) -> State {
-    let loads = more(state.file.loads);
-    let line = state.source.line;
-    state.file.loads = loads;
-    state.load = load::begun(line, false, 0, 0);
-    state
-}
-
-// A name that no load before it has.
-fn with_name(kept: &mut [u8; ROOM], state: State, name: &[u8]) -> State {
+// What is wrong with `load NAME`, where something is: no load before it has the name.
+fn judged_load(kept: &[u8], state: State, rest: &[u8]) -> State {
+    let name = first_word(rest);
+    let extra = first_word(after_word(rest));
     let first = slots::find_load(kept, state.corrections, name);
-    if first < state.corrections {
-        let taken = slots::load_line(kept, first);
-        return wrong(state, forms::TAKEN, name, taken);
+    if name.len() == 0 {
+        return state.wrong(forms::NO_NAME, b"", 0);
     }
-    kept::keep(kept, NAME_AT, LOAD_NAME, name);
-    opened(state)
+    if !is_load_name(name) {
+        return state.wrong(forms::LOAD_NAME, name, 0);
+    }
+    if extra.len() > 0 {
+        return state.wrong(forms::ONE_WORD, extra, 0);
+    }
+    if first < state.corrections {
+        return state.wrong(forms::TAKEN, name, slots::load_line(kept, first));
+    }
+    state
 }
 
 // `load NAME`
 fn with_load(kept: &mut [u8; ROOM], state: State, rest: &[u8]) -> State {
-    let name = first_word(rest);
-    let extra = first_word(after_word(rest));
-    if name.len() == 0 {
-        return plainly_wrong(state, forms::NO_NAME);
+    let mut next = judged_load(kept, state, rest);
+    if next.is_wrong() {
+        return next;
     }
-    if !is_load_name(name) {
-        return wrong(state, forms::LOAD_NAME, name, 0);
-    }
-    if extra.len() > 0 {
-        return wrong(state, forms::ONE_WORD, extra, 0);
-    }
-    with_name(kept, state, name)
+    kept::keep(kept, NAME_AT, LOAD_NAME, first_word(rest));
+    let loads = more(state.file.loads);
+    next.file.loads = loads;
+    next.load = load::begun(state.source.line, false, 0, 0);
+    next
 }
 
-// A correction of so many bytes is kept.
-fn corrected(
-    kept: &mut [u8; ROOM],
-    mut state: State,
-    name: &[u8],
-    bytes: &[u8],
-    count: u64,
-) -> State {
+// What is wrong with `board NAME HH HH ..` or `board NAME -`, where something is: the board has no line in this load
+// yet, and at most so many bytes.
+fn judged_board(kept: &[u8], state: State, name: &[u8], bytes: &[u8]) -> State {
+    let first = slots::find(kept, state.corrections, name);
+    let count = words::count(bytes);
+    if state.corrections >= SLOTS {
+        return state.wrong(forms::MANY_CORRECTIONS, b"", 0);
+    }
+    if name.len() == 0 {
+        return state.wrong(forms::NO_BOARD, b"", 0);
+    }
+    if !is_board_name(name) {
+        return state.wrong(forms::BOARD_NAME, name, 0);
+    }
+    if first < state.corrections {
+        return state.wrong(forms::SECOND_BOARD, name, slots::line(kept, first));
+    }
+    let next = lines::judged(state, bytes);
+    if next.is_wrong() {
+        return next;
+    }
+    if count == 0 {
+        return state.wrong(forms::NO_BOARD, b"", 0);
+    }
+    if count > BYTES {
+        return state.wrong(forms::LONG_MESSAGE, name, count);
+    }
+    state
+}
+
+// The bytes that a board sends: none, where `-` stands for them.
+fn sent(bytes: &[u8]) -> &[u8] {
+    if words::is_dash(first_word(bytes)) {
+        return after_word(bytes);
+    }
+    bytes
+}
+
+fn with_board(kept: &mut [u8; ROOM], state: State, name: &[u8], bytes: &[u8]) -> State {
+    let mut next = judged_board(kept, state, name, bytes);
+    if next.is_wrong() {
+        return next;
+    }
     let mut row = [0u8; MAX_LENGTH];
     let mut parts = [0u8; MAX_LENGTH];
-    let source = state.source;
-    let load = state.load;
     let correction = state.corrections;
-    let length = least_number(count, BYTES) as u8;
-    words::put_values(&mut row, Kind::Byte, bytes);
-    words::put_parts(&mut parts, bytes);
+    let length = least_number(words::count(sent(bytes)), BYTES) as u8;
+    words::put_values(&mut row, Kind::Byte, sent(bytes));
+    words::put_parts(&mut parts, sent(bytes));
     slots::keep(
         kept,
         correction,
-        load.line,
+        state.load.line,
         name,
-        source.line,
+        state.source.line,
         &row,
         &parts,
         length,
     );
     if correction < SLOTS {
-        state.corrections = correction + 1;
+        next.corrections = correction + 1;
     }
-    state
-}
-
-// The bytes of a board.
-fn with_bytes(kept: &mut [u8; ROOM], state: State, name: &[u8], bytes: &[u8]) -> State {
-    let other = words::first_other(Kind::Byte, bytes);
-    let count = words::count(bytes);
-    if other.len() > 0 {
-        return wrong(state, words::form_of(other, forms::BYTES), other, 0);
-    }
-    if count == 0 {
-        return plainly_wrong(state, forms::NO_BOARD);
-    }
-    if count > BYTES {
-        return wrong(state, forms::LONG_MESSAGE, name, count);
-    }
-    corrected(kept, state, name, bytes, count)
-}
-
-// What a board sends, after its name.
-fn with_message(kept: &mut [u8; ROOM], state: State, name: &[u8], bytes: &[u8]) -> State {
-    if !words::is_dash(first_word(bytes)) {
-        return with_bytes(kept, state, name, bytes);
-    }
-    let extra = first_word(after_word(bytes));
-    if extra.len() > 0 {
-        return wrong(state, forms::AFTER_DASH, extra, 0);
-    }
-    corrected(kept, state, name, extra, 0)
-}
-
-// A board that has no line in this load yet.
-fn with_board_name(kept: &mut [u8; ROOM], state: State, rest: &[u8]) -> State {
-    let name = first_word(rest);
-    let first = slots::find(kept, state.corrections, name);
-    if first < state.corrections {
-        let form = forms::SECOND_BOARD;
-        return wrong(state, form, name, slots::line(kept, first));
-    }
-    with_message(kept, state, name, after_word(rest))
-}
-
-// `board NAME HH HH ..` or `board NAME -`
-fn with_board(kept: &mut [u8; ROOM], state: State, rest: &[u8]) -> State {
-    let name = first_word(rest);
-    if state.corrections >= SLOTS {
-        return plainly_wrong(state, forms::MANY_CORRECTIONS);
-    }
-    if name.len() == 0 {
-        return plainly_wrong(state, forms::NO_BOARD);
-    }
-    if !is_board_name(name) {
-        let form = forms::BOARD_NAME;
-        return wrong(state, form, name, 0);
-    }
-    with_board_name(kept, state, rest)
-}
-
-fn with_end_line(mut state: State) -> State {
-    let line = state.source.line;
-    state.file.end_line = line;
-    state
-}
-
-// The number of loads that `end` says, against those that there are.
-fn counted(state: State, said: u64) -> State {
-    if said == state.file.loads {
-        return with_end_line(state);
-    }
-    wrong_by(state, forms::CORRECTIONS_COUNTED, said)
-}
-
-// `end N`
-fn with_end(state: State, rest: &[u8]) -> State {
-    let other = ending::other(rest);
-    if first_word(rest).len() == 0 {
-        return plainly_wrong(state, forms::NO_COUNT);
-    }
-    if other.len() > 0 {
-        return wrong(state, forms::COUNT, other, 0);
-    }
-    counted(state, value(text::decimal(first_word(rest))))
-}
-
-fn after_end(state: State) -> State {
-    wrong_by(state, forms::AFTER_CORRECTIONS, state.file.end_line)
+    next
 }
 
 // What a line does: `load` and `end` end the load before them, which then has a board line.
@@ -283,21 +214,21 @@ fn with_text(kept: &mut [u8; ROOM], state: State, line: &[u8]) -> State {
     let deed = deed_of(kept, state, word);
     match deed {
         Deed::Nothing => state,
-        Deed::Ended => after_end(state),
+        Deed::Ended => ending::after_end(state, forms::AFTER_CORRECTIONS),
         Deed::Lacking => without_board(kept, state),
         Deed::Load => with_load(kept, state, rest),
-        Deed::End => with_end(state, rest),
-        Deed::Board => with_board(kept, state, rest),
-        Deed::Wrong(form) => wrong(state, form, word, 0),
+        Deed::End => ending::with_end(state, rest, forms::CORRECTIONS_COUNTED),
+        Deed::Board => with_board(kept, state, first_word(rest), after_word(rest)),
+        Deed::Wrong(form) => state.wrong(form, word, 0),
     }
 }
 
 // A line that is too long or no text.
 fn without_text(state: State, form: usize) -> State {
     if state.file.end_line > 0 {
-        return after_end(state);
+        return ending::after_end(state, forms::AFTER_CORRECTIONS);
     }
-    plainly_wrong(state, form)
+    state.wrong(form, b"", 0)
 }
 
 // The end of the input.

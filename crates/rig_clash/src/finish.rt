@@ -17,7 +17,6 @@ use crate::state::Options;
 use crate::state::State;
 use crate::svg;
 use crate::table;
-use crate::tally::Tally;
 use arbitration_rules::MAX_LENGTH;
 use rig_lines::console::PAGE;
 use verdict::Verdict;
@@ -83,17 +82,12 @@ fn put_broken(page: &mut [u8; PAGE], at: usize, kept: &[u8], table: bool) -> usi
     )
 }
 
-// The tally with a load that was rehearsed.
-fn counted(tally: Tally, load: Load, verdict: Verdict, expected: bool) -> Tally {
-    let unacked = (load.ack_line == 0) & !is_refusal(verdict);
-    let next = tally.with_verdict(verdict, expected);
-    next.with_unacked(unacked).with_corrected(load.corrected)
-}
-
 // What a load came to is counted, and its name kept where it is one to see.
 fn tallied(kept: &mut [u8; ROOM], state: State, verdict: Verdict, expected: bool) -> State {
-    let tally = counted(state.tally, state.load, verdict, expected);
-    noted(kept, state.with_tally(tally), is_seen(verdict, expected))
+    let unacked = (state.load.ack_line == 0) & !is_refusal(verdict);
+    let tally = state.tally.with_verdict(verdict, expected);
+    let counted = tally.with_notes(unacked, state.load.corrected);
+    noted(kept, state.with_tally(counted), is_seen(verdict, expected))
 }
 
 // What is asked for of a load: its drawing, its trace, its row of the table or its block.
@@ -169,33 +163,20 @@ enum Course {
     Read,
 }
 
+// A load in error has its block, unless it is to be a trace or an SVG document.
 fn course_of(kept: &[u8], state: State) -> Course {
-    if state.options.trace == 0 {
-        return untraced(state.load.broken, state.options.night);
-    }
+    let shown = (state.options.trace == 0) | state.options.draws;
     let asked = recording::is_asked(kept, state.options.trace);
+    if state.load.broken & asked & shown & !state.options.svg {
+        return Course::Unrehearsed;
+    }
     if state.load.broken {
-        return broken(asked & state.options.draws & !state.options.svg);
+        return Course::Counted;
     }
-    if asked {
-        return Course::Rehearsed;
+    if !asked {
+        return Course::Read;
     }
-    Course::Read
-}
-
-// A load in error has its block where it is to be drawn in text.
-fn broken(shown: bool) -> Course {
-    if shown {
-        return Course::Unrehearsed;
-    }
-    Course::Counted
-}
-
-fn untraced(broken: bool, night: bool) -> Course {
-    if broken {
-        return Course::Unrehearsed;
-    }
-    if night {
+    if state.options.night {
         return Course::Night;
     }
     Course::Rehearsed
@@ -212,19 +193,14 @@ fn finished(page: &mut [u8; PAGE], kept: &mut [u8; ROOM], state: State) -> State
     }
 }
 
-// The load that ends, with its corrections, and whatever is asked for of it.
-fn completed(page: &mut [u8; PAGE], kept: &mut [u8; ROOM], state: State) -> State {
-    let laid = corrected::laid(page, kept, state);
-    let mut done = finished(page, kept, laid);
-    done.load.open = false;
-    progress(page, done)
-}
-
-// Finishes the load that is being read, where there is one.
+// Finishes the load that is being read, where there is one: with its corrections, whatever is asked for of it.
 pub(crate) fn finish(page: &mut [u8; PAGE], kept: &mut [u8; ROOM], state: State) -> State {
     if !state.load.open {
         return state;
     }
     let checked = missing(page, kept, state);
-    completed(page, kept, checked)
+    let laid = corrected::laid(page, kept, checked);
+    let mut done = finished(page, kept, laid);
+    done.load.open = false;
+    progress(page, done)
 }

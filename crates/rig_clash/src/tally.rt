@@ -105,14 +105,9 @@ impl Tally {
         }
     }
 
-    // It may have had no ack line, where it was not refused.
-    pub(crate) fn with_unacked(mut self, unacked: bool) -> Tally {
+    // It may have had no ack line, where it was not refused, and corrections may have been laid over it.
+    pub(crate) fn with_notes(mut self, unacked: bool, corrected: bool) -> Tally {
         self.unacked = counted(self.unacked, unacked);
-        self
-    }
-
-    // Corrections may have been laid over it.
-    pub(crate) fn with_corrected(mut self, corrected: bool) -> Tally {
         self.corrected = counted(self.corrected, corrected);
         self
     }
