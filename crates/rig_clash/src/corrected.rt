@@ -3,6 +3,7 @@ use crate::boards;
 use crate::kept;
 use crate::kept::BYTES;
 use crate::kept::MESSAGES_AT;
+use crate::kept::PARTS_AT;
 use crate::kept::ROOM;
 use crate::kept::TONIGHT_AT;
 use crate::list;
@@ -48,17 +49,11 @@ fn cut_all(lengths: [u32; MAX_MASTERS]) -> [u32; MAX_MASTERS] {
     all
 }
 
-// A correction for the load that is being read marks that it was met.
-fn met_by(kept: &mut [u8; ROOM], correction: usize) {
-    if slots::is_current(kept, correction) {
-        slots::meet(kept, correction);
-    }
-}
-
+// The corrections for the load that is being read are marked as met.
 fn meet(kept: &mut [u8; ROOM], count: usize) {
     let mut correction: usize = 0;
     while correction < count {
-        met_by(kept, correction);
+        slots::meet(kept, correction);
         correction += 1;
     }
 }
@@ -79,8 +74,8 @@ fn keep_row(kept: &mut [u8; ROOM], board: usize, correction: usize) {
     let mut parts = [0u8; MAX_LENGTH];
     put_bytes(&mut row, 0, slots::message(kept, correction));
     put_bytes(&mut parts, 0, slots::parts(kept, correction));
-    kept::put_row(kept, kept::tonight_row_of(board), &row);
-    kept::put_row(kept, kept::parts_row_of(board), &parts);
+    kept::put_row(kept, kept::row_of(TONIGHT_AT, board), &row);
+    kept::put_row(kept, kept::row_of(PARTS_AT, board), &parts);
 }
 
 // The board of a correction among the first so many, else their number.
@@ -191,7 +186,7 @@ fn located(board: usize, tonight: List, standing: List) -> Located {
 fn keep_message(kept: &mut [u8; ROOM], board: usize, tonight: List, place: Located) {
     let bytes = tonight.bytes;
     let message = kept::part(&bytes, place.offset, place.length as usize);
-    put_bytes(kept, kept::row_of(board), message);
+    put_bytes(kept, kept::row_of(MESSAGES_AT, board), message);
 }
 
 // What it says of a board: a correction takes the place of what stands, and no bytes are silence.
@@ -245,20 +240,6 @@ fn overlaid(kept: &mut [u8; ROOM], load: Load) -> Load {
     with_boards(kept, load, load.boards, tonight, before)
 }
 
-// What the load comes to with its corrections, where it has some and none is wrong.
-fn over_load(kept: &mut [u8; ROOM], load: Load) -> Load {
-    if load.broken | !load.corrected {
-        return load;
-    }
-    overlaid(kept, load)
-}
-
-fn over_state(page: &mut [u8; PAGE], kept: &mut [u8; ROOM], state: State) -> State {
-    let next = with_corrections(page, kept, state, state.corrections);
-    let over = over_load(kept, next.load);
-    next.with_load(over)
-}
-
 // Lays the corrections over the load that ends, unless it is in error.
 pub(crate) fn laid(page: &mut [u8; PAGE], kept: &mut [u8; ROOM], state: State) -> State {
     if !state.load.named {
@@ -268,7 +249,12 @@ pub(crate) fn laid(page: &mut [u8; PAGE], kept: &mut [u8; ROOM], state: State) -
     if state.load.broken {
         return state;
     }
-    over_state(page, kept, state)
+    let next = with_corrections(page, kept, state, state.corrections);
+    if next.load.broken | !next.load.corrected {
+        return next;
+    }
+    let over = overlaid(kept, next.load);
+    next.with_load(over)
 }
 
 // A correction stands first among those of its load.

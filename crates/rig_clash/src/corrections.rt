@@ -7,6 +7,7 @@ use crate::kept::ROOM;
 use crate::kept::SLOTS;
 use crate::lines;
 use crate::load;
+use crate::phrase::either;
 use crate::phrase::line_of;
 use crate::phrase::put_front;
 use crate::phrase::put_line;
@@ -60,11 +61,14 @@ fn without_board(kept: &[u8], state: State) -> State {
     state.with_problem(state.load.line, forms::WITHOUT_BOARD, kept::name(kept), 0)
 }
 
-// What is wrong with `load NAME`, where something is: no load before it has the name.
+// What is wrong with `load NAME`, or with the load before it, where something is: no load before has the name.
 fn judged_load(kept: &[u8], state: State, rest: &[u8]) -> State {
     let name = first_word(rest);
     let extra = first_word(after_word(rest));
     let first = slots::find_load(kept, state.corrections, name);
+    if lacks_board(kept, state) {
+        return without_board(kept, state);
+    }
     if name.len() == 0 {
         return state.wrong(forms::NO_NAME, b"", 0);
     }
@@ -98,6 +102,9 @@ fn with_load(kept: &mut [u8; ROOM], state: State, rest: &[u8]) -> State {
 fn judged_board(kept: &[u8], state: State, name: &[u8], bytes: &[u8]) -> State {
     let first = slots::find(kept, state.corrections, name);
     let count = words::count(bytes);
+    if !state.load.open {
+        return state.wrong(forms::OUTSIDE, b"board", 0);
+    }
     if state.corrections >= SLOTS {
         return state.wrong(forms::MANY_CORRECTIONS, b"", 0);
     }
@@ -158,68 +165,34 @@ fn with_board(kept: &mut [u8; ROOM], state: State, name: &[u8], bytes: &[u8]) ->
     next
 }
 
-// What a line does: `load` and `end` end the load before them, which then has a board line.
-enum Deed {
-    Nothing,
-    Ended,
-    Lacking,
-    Load,
-    End,
-    Board,
-    // with these words
-    Wrong(usize),
-}
-
-// A statement in a load or before the first, where it is no `load` and no `end`.
-fn in_load(open: bool, statement: Statement) -> Deed {
-    if !open {
-        return Deed::Wrong(forms::OUTSIDE);
+// `end N`
+fn with_end(kept: &[u8], state: State, rest: &[u8]) -> State {
+    if lacks_board(kept, state) {
+        return without_board(kept, state);
     }
-    match statement {
-        Statement::Board => Deed::Board,
-        _ => Deed::Wrong(forms::IN_CORRECTIONS),
-    }
-}
-
-fn stated(open: bool, lacking: bool, word: &[u8]) -> Deed {
-    let statement = statements::named(word);
-    match statement {
-        Statement::Load => after_load(lacking, Deed::Load),
-        Statement::End => after_load(lacking, Deed::End),
-        _ => in_load(open, statement),
-    }
-}
-
-fn after_load(lacking: bool, deed: Deed) -> Deed {
-    if lacking {
-        return Deed::Lacking;
-    }
-    deed
-}
-
-fn deed_of(kept: &[u8], state: State, word: &[u8]) -> Deed {
-    if word.len() == 0 {
-        return Deed::Nothing;
-    }
-    if state.file.end_line > 0 {
-        return Deed::Ended;
-    }
-    stated(state.load.open, lacks_board(kept, state), word)
+    ending::with_end(state, rest, forms::CORRECTIONS_COUNTED)
 }
 
 // A line of text, without its comment.
 fn with_text(kept: &mut [u8; ROOM], state: State, line: &[u8]) -> State {
     let word = first_word(line);
     let rest = after_word(line);
-    let deed = deed_of(kept, state, word);
-    match deed {
-        Deed::Nothing => state,
-        Deed::Ended => ending::after_end(state, forms::AFTER_CORRECTIONS),
-        Deed::Lacking => without_board(kept, state),
-        Deed::Load => with_load(kept, state, rest),
-        Deed::End => ending::with_end(state, rest, forms::CORRECTIONS_COUNTED),
-        Deed::Board => with_board(kept, state, first_word(rest), after_word(rest)),
-        Deed::Wrong(form) => state.wrong(form, word, 0),
+    let statement = statements::named(word);
+    if word.len() == 0 {
+        return state;
+    }
+    if state.file.end_line > 0 {
+        return ending::after_end(state, forms::AFTER_CORRECTIONS);
+    }
+    match statement {
+        Statement::Load => with_load(kept, state, rest),
+        Statement::End => with_end(kept, state, rest),
+        Statement::Board => with_board(kept, state, first_word(rest), after_word(rest)),
+        _ => state.wrong(
+            either(state.load.open, forms::IN_CORRECTIONS, forms::OUTSIDE),
+            word,
+            0,
+        ),
     }
 }
 

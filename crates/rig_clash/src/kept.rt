@@ -1,5 +1,6 @@
 // What is kept of a file, of the load that is being read and of the corrections, in one lent slice of bytes: texts in
 // cells that are filled up with zeros, which no text has, and the messages, a row of bytes for each board.
+use crate::rows::shifted;
 use arbitration_rules::MAX_LENGTH;
 use arbitration_rules::MAX_MASTERS;
 use load_text::BOARD_NAME;
@@ -105,7 +106,7 @@ pub(crate) fn title(kept: &[u8]) -> &[u8] {
     text_in(kept, TITLE_AT, TITLE)
 }
 
-// Where a board's cell begins, and its row.
+// Where a board's cell begins.
 fn cell_of(board: usize) -> usize {
     if board < MAX_MASTERS {
         BOARDS_AT + board * BOARD_NAME
@@ -114,27 +115,12 @@ fn cell_of(board: usize) -> usize {
     }
 }
 
-pub(crate) fn row_of(board: usize) -> usize {
+// Where a board's row begins, among rows that begin at a place.
+pub(crate) fn row_of(rows: usize, board: usize) -> usize {
     if board < MAX_MASTERS {
-        MESSAGES_AT + board * MAX_LENGTH
+        shifted(rows, board * MAX_LENGTH)
     } else {
-        MESSAGES_AT
-    }
-}
-
-pub(crate) fn parts_row_of(board: usize) -> usize {
-    if board < MAX_MASTERS {
-        PARTS_AT + board * MAX_LENGTH
-    } else {
-        PARTS_AT
-    }
-}
-
-pub(crate) fn tonight_row_of(board: usize) -> usize {
-    if board < MAX_MASTERS {
-        TONIGHT_AT + board * MAX_LENGTH
-    } else {
-        TONIGHT_AT
+        rows
     }
 }
 

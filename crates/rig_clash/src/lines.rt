@@ -38,8 +38,8 @@ fn with_bytes(
     let mut parts = [0u8; MAX_LENGTH];
     words::put_values(&mut row, kind, bytes);
     words::put_parts(&mut parts, bytes);
-    kept::put_row(kept, kept::row_of(board), &row);
-    kept::put_row(kept, kept::parts_row_of(board), &parts);
+    kept::put_row(kept, kept::row_of(kept::MESSAGES_AT, board), &row);
+    kept::put_row(kept, kept::row_of(kept::PARTS_AT, board), &parts);
     state.with_load(state.load.with_message(board, few(words::count(bytes))))
 }
 

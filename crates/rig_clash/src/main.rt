@@ -97,28 +97,11 @@ fn after(argument: usize) -> usize {
     }
 }
 
-// In a table the header stands first.
-fn headed(page: &mut [u8; PAGE], state: State) -> State {
-    if state.options.table {
-        let words = b"  load       title          winner    bytes verdict\n";
-        return state.moved(put_bytes(page, state.at, words));
-    }
-    state
-}
-
-// The last two lines.
+// The last two lines; a trace has no line but its samples and the last one.
 fn summed(page: &mut [u8; PAGE], kept: &[u8; ROOM], state: State) {
-    let seen = put_seen(page, kept, state);
+    let seen = tally::put_seen(page, state.at, kept, state.tally, state.options.trace == 0);
     let last = tally::put_last(page, seen, state.tally);
     flush(page, last);
-}
-
-// A trace has no line but its samples and the last one.
-fn put_seen(page: &mut [u8; PAGE], kept: &[u8], state: State) -> usize {
-    if state.options.trace > 0 {
-        return state.at;
-    }
-    tally::put_seen(page, state.at, kept, state.tally)
 }
 
 // The load whose trace is asked for is there.
@@ -163,10 +146,13 @@ fn options_of(given: Arguments) -> Options {
     }
 }
 
+// In a table the header stands first.
 fn run(given: Arguments) {
     let mut page = [0u8; PAGE];
     let mut kept = [0u8; ROOM];
-    let begun = headed(&mut page, state::begun(options_of(given)));
+    let header = b"  load       title          winner    bytes verdict";
+    let at = put_line(&mut page, 0, b"", given.table, header, &[]);
+    let begun = state::begun(options_of(given)).moved(at);
     let read = corrections::read(&mut page, &mut kept, begun, given.corrections);
     let state = run_loads(&mut page, &mut kept, read);
     summed(&mut page, &kept, state);

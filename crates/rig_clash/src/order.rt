@@ -33,13 +33,18 @@ pub(crate) fn longest(load: Load) -> usize {
 }
 
 pub(crate) fn message(kept: &[u8], load: Load, board: usize) -> &[u8] {
-    kept::row(kept, kept::row_of(board), 0, load.length_of(board) as usize)
+    kept::row(
+        kept,
+        kept::row_of(kept::MESSAGES_AT, board),
+        0,
+        load.length_of(board) as usize,
+    )
 }
 
 pub(crate) fn parts(kept: &[u8], load: Load, board: usize) -> &[u8] {
     kept::row(
         kept,
-        kept::parts_row_of(board),
+        kept::row_of(kept::PARTS_AT, board),
         0,
         load.length_of(board) as usize,
     )

@@ -98,8 +98,18 @@ fn put_message(
     start: usize,
     end: usize,
 ) -> usize {
-    let message = kept::row(kept, kept::row_of(board), start, less(end, start));
-    let parts = kept::row(kept, kept::parts_row_of(board), start, less(end, start));
+    let message = kept::row(
+        kept,
+        kept::row_of(kept::MESSAGES_AT, board),
+        start,
+        less(end, start),
+    );
+    let parts = kept::row(
+        kept,
+        kept::row_of(kept::PARTS_AT, board),
+        start,
+        less(end, start),
+    );
     let mut next = at;
     let mut i = 0;
     while i < message.len() {

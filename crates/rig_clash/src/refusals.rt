@@ -22,7 +22,44 @@ pub(crate) enum Stage {
     Night,
 }
 
-// Words by their place in the list, and their numbers.
+// The places of the words in their list, by what they are about; where there are two, those of a block stand first,
+// and those of the table after them.
+const SILENT: usize = 0;
+
+const NO_BOARD: usize = 1;
+
+const MANY_BOARDS: usize = 2;
+
+const EMPTY: usize = 4;
+
+const LONG: usize = 6;
+
+const BEGUN_BY_READ: usize = 8;
+
+const RESTARTED_BY_READ: usize = 10;
+
+const ACK_COUNT: usize = 12;
+
+const ACK_VALUE: usize = 14;
+
+// The other message goes on, or ends.
+const ENDED: usize = 16;
+
+const RESTARTED: usize = 18;
+
+const BEGINS: usize = 20;
+
+const RESTARTS: usize = 21;
+
+const UNACKNOWLEDGED: usize = 22;
+
+const NOT_RISING: usize = 23;
+
+const NOT_FITTING: usize = 24;
+
+const LITTLE_ROOM: usize = 25;
+
+// Words by their place, and their numbers.
 struct Words {
     form: usize,
     numbers: [u64; 8],
@@ -38,14 +75,10 @@ fn by(form: usize, a: u64, b: u64, c: u64) -> Words {
 // 12: there is no master, or there are too many.
 fn masters(load: Load, brief: bool) -> Words {
     if load.named {
-        return by(0, 0, 0, 0);
+        return by(SILENT, 0, 0, 0);
     }
-    by(
-        either(load.rows == 0, 1, either(brief, 3, 2)),
-        load.rows,
-        0,
-        0,
-    )
+    let many = either(brief, MANY_BOARDS + 1, MANY_BOARDS);
+    by(either(load.rows == 0, NO_BOARD, many), load.rows, 0, 0)
 }
 
 // 13: a message of no bytes or too many. 14: one that begins, or restarts, with a read.
@@ -55,16 +88,12 @@ fn of_message(kept: &[u8], load: Load, number: u8, board: usize, brief: bool) ->
     let table = brief as usize;
     if number == 14 {
         let place = order::first_read(message, order::parts(kept, load, board));
-        let form = shifted(table, either(place == 0, 8, 10));
+        let form = shifted(table, either(place == 0, BEGUN_BY_READ, RESTARTED_BY_READ));
         return by(form, board as u64, line, byte_at(message, place) as u64);
     }
     let length = load.length_of(board) as u64;
-    by(
-        shifted(table, either(length == 0, 4, 6)),
-        board as u64,
-        line,
-        length,
-    )
+    let form = shifted(table, either(length == 0, EMPTY, LONG));
+    by(form, board as u64, line, length)
 }
 
 // 15: acknowledges that are not as many as the longest message has bytes, or one above 1.
@@ -73,13 +102,14 @@ fn acknowledges(kept: &[u8], load: Load, brief: bool) -> Words {
     if load.acks == load.longest() as usize {
         let place = order::first_above(acks, 1);
         let value = byte_at(acks, place) as u64;
-        return by(either(brief, 15, 14), place as u64, load.ack_line, value);
+        let form = shifted(ACK_VALUE, brief as usize);
+        return by(form, place as u64, load.ack_line, value);
     }
     let board = order::longest(load);
     let length = load.length_of(board) as u64;
     let line = load.line_of(board);
     Words {
-        form: either(brief, 13, 12),
+        form: shifted(ACK_COUNT, brief as usize),
         numbers: [
             load.acks as u64,
             load.ack_line,
@@ -96,9 +126,14 @@ fn acknowledges(kept: &[u8], load: Load, brief: bool) -> Words {
 // 16 in a row: the one that ends begins the other.
 fn pair(board: usize, other: usize, ends: bool, restarts: bool) -> Words {
     if ends {
-        return by(20, other as u64, board as u64, 0);
+        return by(BEGINS, other as u64, board as u64, 0);
     }
-    by(either(restarts, 21, 20), board as u64, other as u64, 0)
+    by(
+        either(restarts, RESTARTS, BEGINS),
+        board as u64,
+        other as u64,
+        0,
+    )
 }
 
 // 16: a message ends or restarts, acknowledged up to there, where another does not.
@@ -115,7 +150,7 @@ fn parting(kept: &[u8], load: Load, board: usize, other: usize, brief: bool) -> 
     let byte = byte_at(message, place) as u64;
     let from = board as u64;
     Words {
-        form: shifted(ends as usize, either(restarts, 18, 16)),
+        form: shifted(ends as usize, either(restarts, RESTARTED, ENDED)),
         numbers: [from, line, from, 0, place as u64, other as u64, whom, byte],
     }
 }
@@ -155,7 +190,7 @@ fn is_brief(stage: Stage) -> bool {
 // 43: in a night, an acknowledge that is 1.
 fn unacknowledged(kept: &[u8], load: Load) -> Words {
     let place = order::first_above(kept::part(kept, ACKS_AT, ACKS), 0);
-    by(22, place as u64, load.ack_line, 0)
+    by(UNACKNOWLEDGED, place as u64, load.ack_line, 0)
 }
 
 // What a refusal says; place: the master that it is about. 8: the buffers are too short.
@@ -167,10 +202,10 @@ fn words_of(kept: &[u8], load: Load, number: u8, place: usize, stage: Stage) -> 
         13 | 14 => of_message(kept, load, number, board_of(silent, place), brief),
         15 => acknowledges(kept, load, brief),
         16 => undecided(kept, load, stage),
-        40 => by(23, 0, 0, 0),
-        41 => by(24, 0, 0, 0),
+        40 => by(NOT_RISING, 0, 0, 0),
+        41 => by(NOT_FITTING, 0, 0, 0),
         43 => unacknowledged(kept, load),
-        _ => by(either(brief, 26, 25), 0, 0, 0),
+        _ => by(shifted(LITTLE_ROOM, brief as usize), 0, 0, 0),
     }
 }
 

@@ -198,9 +198,15 @@ pub(crate) fn put_last(page: &mut [u8; PAGE], at: usize, tally: Tally) -> usize 
 }
 
 // The line before it, where there are loads to see.
-pub(crate) fn put_seen(page: &mut [u8; PAGE], at: usize, kept: &[u8], tally: Tally) -> usize {
+pub(crate) fn put_seen(
+    page: &mut [u8; PAGE],
+    at: usize,
+    kept: &[u8],
+    tally: Tally,
+    shown: bool,
+) -> usize {
     let names = seen::names(kept);
-    if names.len() == 0 {
+    if (names.len() == 0) | !shown {
         return at;
     }
     let word = put_front(page, at, kept, b"see", &[]);

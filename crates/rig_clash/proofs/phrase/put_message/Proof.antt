@@ -20,8 +20,8 @@ less-requires c κs = search needs
 row-requires : tie.Need-row-requires Inv-loop μ-loop
 row-requires c κs = search needs
 
-parts-row-of-requires : tie.Need-parts-row-of-requires Inv-loop μ-loop
-parts-row-of-requires c κs = search needs
+row-of-requires-2 : tie.Need-row-of-requires-2 Inv-loop μ-loop
+row-of-requires-2 c κs = search needs
 
 less-requires-2 : tie.Need-less-requires-2 Inv-loop μ-loop
 less-requires-2 c κs = search needs
@@ -77,7 +77,7 @@ put-message-spec =
     row-of-requires
     less-requires
     row-requires
-    parts-row-of-requires
+    row-of-requires-2
     less-requires-2
     row-requires-2
     loop-holds
