@@ -1,9 +1,9 @@
 // The words of the command line: the command, clash, night or draw, is the first.
 use crate::forms;
-use crate::phrase::place_of;
 use crate::problem;
 use crate::problem::Problem;
 use crate::words::is_dash;
+use rig_lines::lists::place_of;
 use rig_lines::numbers::is_number;
 use rig_lines::numbers::value;
 use rig_lines::options::is_option;

@@ -2,11 +2,11 @@
 use crate::load::Load;
 use crate::outcome::Outcome;
 use crate::phrase::either;
-use crate::phrase::line_of;
 use crate::phrase::put_line;
 use crate::rows::before;
 use crate::rows::shifted;
 use rig_lines::console::PAGE;
+use rig_lines::lists::line_of;
 use verdict::Verdict;
 
 // The columns before a board's number, and those of a message.

@@ -1,7 +1,6 @@
 // A row of the drawing: its bytes and bits, and the two lines of the bus.
 use crate::order::byte_at;
 use crate::phrase::either;
-use crate::phrase::line_of;
 use crate::phrase::put_front;
 use crate::phrase::put_line;
 use crate::phrase::put_numbers;
@@ -12,6 +11,7 @@ use crate::svg::NAMES;
 use crate::svg::x_of;
 use crate::wave::is_high_at;
 use rig_lines::console::PAGE;
+use rig_lines::lists::line_of;
 use rig_lines::numbers::least;
 use text::put_bytes;
 

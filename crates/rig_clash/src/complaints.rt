@@ -1,10 +1,10 @@
 // Lines about what is wrong in a file.
 use crate::ending;
 use crate::forms;
-use crate::phrase::line_of;
 use crate::phrase::put_front;
 use crate::state::State;
 use rig_lines::console::PAGE;
+use rig_lines::lists::line_of;
 use text::put_byte;
 use text::put_bytes;
 

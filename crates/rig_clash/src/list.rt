@@ -1,9 +1,9 @@
 // Boards in a list.
-use crate::phrase::line_of;
 use crate::phrase::put;
 use crate::rows::shifted;
 use arbitration_rules::MAX_MASTERS;
 use rig_lines::console::PAGE;
+use rig_lines::lists::line_of;
 
 // How a list looks, by the place of its words: boards by their numbers, by their names or by both, with a space after
 // each comma, or without.

@@ -1,19 +1,17 @@
-// Words with marks that stand for numbers, names, messages and files, and words by their place in a list.
+// Words with marks that stand for numbers, names, messages and files.
 use crate::columns::pad;
 use crate::kept;
 use crate::order::byte_at;
 use crate::rows::before;
 use crate::rows::less;
 use crate::rows::shifted;
-use check::same;
 use rig_lines::console::PAGE;
 use rig_lines::console::begin;
 use rig_lines::console::note;
 use rig_lines::console::put_form;
 use rig_lines::files::put_name;
 use rig_lines::files::put_reason;
-use text::after_line;
-use text::first_line;
+use rig_lines::lists::line_of;
 use text::put_byte;
 use text::put_bytes;
 use text::put_decimal;
@@ -48,9 +46,6 @@ const REASON: u8 = b'`';
 const COLUMN: u8 = b'_';
 
 const PASSED: u8 = b'?';
-
-// No list has more words.
-const MANY: usize = 16;
 
 fn number_at(numbers: &[u64], place: usize) -> u64 {
     if place < numbers.len() {
@@ -229,28 +224,4 @@ pub(crate) fn put_numbers(
 // One place or another.
 pub(crate) fn either(first: bool, one: usize, other: usize) -> usize {
     if first { one } else { other }
-}
-
-// The words at a place of a list, in which each stand in a line.
-pub(crate) fn line_of(list: &[u8], place: usize) -> &[u8] {
-    let mut rest = list;
-    let mut left = place;
-    while left > 0 {
-        let next = after_line(rest);
-        rest = next;
-        left -= 1;
-    }
-    first_line(rest)
-}
-
-// The place of a word in a list, which is past its end where it has no such word.
-pub(crate) fn place_of(list: &[u8], word: &[u8]) -> usize {
-    let mut place: usize = 0;
-    while place < MANY {
-        if same(line_of(list, place), word) {
-            return place;
-        }
-        place += 1;
-    }
-    place
 }

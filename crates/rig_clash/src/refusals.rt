@@ -6,13 +6,13 @@ use crate::load::Load;
 use crate::order;
 use crate::order::byte_at;
 use crate::phrase::either;
-use crate::phrase::line_of;
 use crate::phrase::put;
 use crate::phrase::put_front;
 use crate::rows::shifted;
 use arbitration_rules::MAX_LENGTH;
 use load_text::board_of;
 use rig_lines::console::PAGE;
+use rig_lines::lists::line_of;
 use text::put_byte;
 
 // Where a refusal is said: in a block, in the table, or in the block of a night.

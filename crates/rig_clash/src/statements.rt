@@ -6,11 +6,11 @@ use crate::forms;
 use crate::kept::ROOM;
 use crate::lines;
 use crate::opening;
-use crate::phrase::place_of;
 use crate::phrase::put_note;
 use crate::state::File;
 use crate::state::State;
 use rig_lines::console::PAGE;
+use rig_lines::lists::place_of;
 use text::after_word;
 use text::first_word;
 

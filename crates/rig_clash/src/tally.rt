@@ -1,10 +1,10 @@
 // How the loads went, counted over all files, and the last two lines.
 use crate::kept::ROOM;
-use crate::phrase::line_of;
 use crate::phrase::put_front;
 use crate::phrase::put_numbers;
 use crate::seen;
 use rig_lines::console::PAGE;
+use rig_lines::lists::line_of;
 use rig_lines::numbers::least_number;
 use rig_lines::numbers::more;
 use text::put_byte;

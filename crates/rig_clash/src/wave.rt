@@ -9,7 +9,6 @@ use crate::order::byte_at;
 use crate::outcome::Outcome;
 use crate::phrase::either;
 use crate::phrase::gap_of;
-use crate::phrase::line_of;
 use crate::phrase::put_front;
 use crate::phrase::put_in;
 use crate::phrase::put_line;
@@ -18,6 +17,7 @@ use crate::rows;
 use crate::rows::shifted;
 use rig_lines::console::PAGE;
 use rig_lines::console::begin;
+use rig_lines::lists::line_of;
 use rig_lines::numbers::least;
 use text::put_byte;
 

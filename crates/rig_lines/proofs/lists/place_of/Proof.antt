@@ -66,14 +66,14 @@ pub place-of-spec : {M : Type 1} → statement M
 place-of-spec =
     tie.close
     (tie.spec
-      Inv-loop
-      μ-loop
-      loop-holds
-      first-line-requires
-      same-requires
-      returns
-      after-line-requires
-      add-place
-      loop-less
-      loop-again
-      returns-2)
+    Inv-loop
+    μ-loop
+    loop-holds
+    first-line-requires
+    same-requires
+    returns
+    after-line-requires
+    add-place
+    loop-less
+    loop-again
+    returns-2)
