@@ -1,10 +1,10 @@
 // The words of the command line: a command by its name, and what follows it.
-use crate::lines::line_of;
-use crate::lines::place_of;
 use crate::lines::say;
 use check::same;
 use phases::Mode;
 use rig_lines::console::PAGE;
+use rig_lines::lists::line_of;
+use rig_lines::lists::place_of;
 use rig_lines::numbers::is_number;
 use rig_lines::numbers::value;
 use rig_lines::options::is_option;

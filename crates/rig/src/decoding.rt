@@ -6,11 +6,11 @@ mod shown; // shown.rt: the events one a line
 
 use crate::arguments::Arguments;
 use crate::lines::end;
-use crate::lines::line_of;
 use crate::lines::put;
 use crate::lines::say;
 use decode::Decoded;
 use rig_lines::console::PAGE;
+use rig_lines::lists::line_of;
 use rig_lines::parts;
 use rig_lines::refusals::put_refusal;
 use rig_lines::refusals::put_sample_refusal;

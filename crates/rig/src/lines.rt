@@ -1,12 +1,9 @@
-// Lines of output in words with marks, and words by their place in a list.
-use check::same;
+// Lines of output in words with marks.
 use rig_lines::console::PAGE;
 use rig_lines::console::begin;
 use rig_lines::console::put_quoted;
 use rig_lines::files::put_name;
 use rig_lines::store::line_at;
-use text::after_line;
-use text::first_line;
 use text::put_byte;
 use text::put_bytes;
 use text::put_decimal;
@@ -24,7 +21,7 @@ const WORD: u8 = b'$';
 
 const COMMAND: u8 = b'*';
 
-// No line has more numbers, and no list in which a word is looked for has more.
+// No line has more numbers.
 const MANY: usize = 16;
 
 // The place of the next number after a byte of the words.
@@ -102,30 +99,6 @@ pub(crate) fn say(
 pub(crate) fn end(page: &mut [u8; PAGE], at: usize, words: &[u8]) -> usize {
     let next = put_bytes(page, at, words);
     put_byte(page, next, b'\n')
-}
-
-// The words at a place of a list, in which each stand in a line; none where it is past the end.
-pub(crate) fn line_of(list: &[u8], place: usize) -> &[u8] {
-    let mut rest = list;
-    let mut left = place;
-    while left > 0 {
-        let next = after_line(rest);
-        rest = next;
-        left -= 1;
-    }
-    first_line(rest)
-}
-
-// The place of a word in a list, which is past its end where it has no such word.
-pub(crate) fn place_of(list: &[u8], word: &[u8]) -> usize {
-    let mut place: usize = 0;
-    while place < MANY {
-        if same(line_of(list, place), word) {
-            return place;
-        }
-        place += 1;
-    }
-    place
 }
 
 // So many bytes at the end of a line.

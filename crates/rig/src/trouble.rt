@@ -1,11 +1,11 @@
 // Last lines about what was not understood or could not be read.
 use crate::hints;
-use crate::lines::line_of;
 use crate::lines::put;
 use rig_lines::console::PAGE;
 use rig_lines::files::put_name;
 use rig_lines::files::put_reason;
 use rig_lines::input::Source;
+use rig_lines::lists::line_of;
 use text::put_byte;
 use text::put_bytes;
 

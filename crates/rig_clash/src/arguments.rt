@@ -1,9 +1,9 @@
 // The words of the command line: the command, clash, night or draw, is the first.
 use crate::forms;
-use crate::phrase::place_of;
 use crate::problem;
 use crate::problem::Problem;
 use crate::words::is_dash;
+use rig_lines::lists::place_of;
 use rig_lines::numbers::is_number;
 use rig_lines::numbers::value;
 use rig_lines::options::is_option;
@@ -83,19 +83,15 @@ impl Arguments {
         !self.problem.is_none()
     }
 
-    fn trouble_with(mut self, form: usize, word: &[u8]) -> Arguments {
+    fn trouble(mut self, form: usize, word: &[u8]) -> Arguments {
         self.problem = problem::of(0, form, word, 0, 0, 0);
         self
-    }
-
-    fn trouble(self, form: usize) -> Arguments {
-        self.trouble_with(form, b"")
     }
 
     fn with_room(mut self, word: &[u8]) -> Arguments {
         let number = text::decimal(word);
         if !is_number(number) {
-            return self.trouble_with(forms::NUMBER, word);
+            return self.trouble(forms::NUMBER, word);
         }
         self.room = value(number) as usize;
         self.wants_room = false;
@@ -110,7 +106,7 @@ impl Arguments {
     // Standard input is read once.
     fn with_input(mut self) -> Arguments {
         if self.input {
-            return self.trouble(forms::INPUT_TWICE);
+            return self.trouble(forms::INPUT_TWICE, b"");
         }
         self.input = true;
         self
@@ -136,7 +132,7 @@ impl Arguments {
     fn with_option(self, word: &[u8]) -> Arguments {
         let option = option_of(word);
         if !takes(self.command, option) {
-            return self.trouble_with(unknown_form(self.command), word);
+            return self.trouble(unknown_form(self.command), word);
         }
         self.with_known(option)
     }
@@ -191,7 +187,7 @@ impl Arguments {
     // The load that is drawn.
     fn with_load(self, argument: usize, word: &[u8]) -> Arguments {
         if self.trace > 0 {
-            return self.trouble_with(forms::AFTER_LOAD, word);
+            return self.trouble(forms::AFTER_LOAD, word);
         }
         self.with_trace(argument)
     }
@@ -221,41 +217,37 @@ impl Arguments {
         let mut space = io::buffer();
         let n = os::arg(argument, &mut space);
         if os::errno() != 0 {
-            return self.trouble(forms::LONG_ARGUMENT);
+            return self.trouble(forms::LONG_ARGUMENT, b"");
         }
         self.with_word(argument, &space[..n])
     }
 
-    // What is found once all words are read: an option lacks its word, or there is no file.
+    // What is found once all words are read: an option lacks its word, there is no file, or a table or a trace is not
+    // shown alone.
     fn finished(self) -> Arguments {
         if self.is_broken() {
             return self;
         }
         if self.wants_room {
-            return self.trouble(forms::NO_NUMBER);
+            return self.trouble(forms::NO_NUMBER, b"");
         }
         if self.wants_corrections {
-            return self.trouble(forms::NO_CORRECTIONS);
+            return self.trouble(forms::NO_CORRECTIONS, b"");
         }
         if self.wants_trace {
-            return self.trouble(forms::NO_TRACE);
+            return self.trouble(forms::NO_TRACE, b"");
         }
         if !self.file {
-            return self.trouble(forms::NO_FILE);
+            return self.trouble(forms::NO_FILE, b"");
         }
         if self.draws() & (self.trace == 0) {
-            return self.trouble(forms::NO_DRAWN);
+            return self.trouble(forms::NO_DRAWN, b"");
         }
-        self.alone()
-    }
-
-    // A table and a trace are shown alone.
-    fn alone(self) -> Arguments {
         if self.table & (self.registers | self.wave) {
-            return self.trouble(forms::TABLE);
+            return self.trouble(forms::TABLE, b"");
         }
         if (self.trace > 0) & (self.table | self.registers | self.wave) {
-            return self.trouble(forms::TRACE);
+            return self.trouble(forms::TRACE, b"");
         }
         self
     }

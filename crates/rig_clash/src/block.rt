@@ -1,43 +1,30 @@
 // The block of a load: who won, who lost where, and what else is asked for.
 use crate::board;
 use crate::board::Group;
-use crate::board::before;
-use crate::board::is_undecided;
 use crate::corrected;
-use crate::kept;
 use crate::list;
-use crate::list::Style;
 use crate::load::Load;
 use crate::outcome::Outcome;
-use crate::phrase;
+use crate::phrase::either;
+use crate::phrase::put_front;
+use crate::phrase::put_line;
+use crate::phrase::put_numbers;
 use crate::refusals;
+use crate::refusals::Stage;
 use crate::registers;
+use crate::rows::before;
 use crate::state::Options;
-use crate::table::put_title;
 use crate::wave;
 use rig_lines::console::PAGE;
-use text::put_byte;
 use verdict::Verdict;
 
-// `load NAME TITLE`
-fn put_load(page: &mut [u8; PAGE], at: usize, kept: &[u8]) -> usize {
-    let name = phrase::put_line(page, at, kept, b"load *", 0, [0; 4]);
-    let end = put_title(page, name, kept::title(kept));
-    put_byte(page, end, b'\n')
-}
-
-// The same, and which boards are corrected.
+// `load NAME TITLE`, and which boards are corrected.
 pub(crate) fn put_header(page: &mut [u8; PAGE], at: usize, kept: &[u8], load: Load) -> usize {
-    let title = put_load(page, at, kept);
+    let title = put_line(page, at, kept, true, b"load *[", &[]);
     corrected::put(page, title, kept, load)
 }
 
-// A load in error.
-pub(crate) fn put_broken(page: &mut [u8; PAGE], at: usize, kept: &[u8]) -> usize {
-    let header = put_load(page, at, kept);
-    phrase::put_line(page, header, kept, b"  ERROR: not rehearsed\n", 0, [0; 4])
-}
-
+// Who would have had to differ by the byte that was not acknowledged.
 fn put_undecided(
     page: &mut [u8; PAGE],
     at: usize,
@@ -45,42 +32,18 @@ fn put_undecided(
     load: Load,
     outcome: Outcome,
 ) -> usize {
-    let verdict = outcome.verdict;
-    if !is_undecided(verdict) {
+    if !outcome.is_undecided() {
         return at;
     }
-    let word = phrase::put_line(page, at, kept, b"  UNDECIDED between ", 0, [0; 4]);
-    let style = Style {
-        form: list::NUMBER,
-        spaced: true,
-    };
-    let who = list::put_all(page, word, kept, outcome.others(load), style);
-    let numbers = [before(outcome.count), outcome.last as u64, 0, 0];
+    let word = put_front(page, at, kept, b"  UNDECIDED between ", &[]);
+    let who = list::put_all(page, word, kept, list::NUMBERS, outcome.others(load));
     let form = b": the bus stopped after byte # (%), before they differ; nothing was sent whole\n";
-    phrase::put_numbers(page, who, form, numbers)
-}
-
-fn put_unacked(page: &mut [u8; PAGE], at: usize, kept: &[u8], load: Load) -> usize {
-    if load.ack_line > 0 {
-        return at;
-    }
-    let words = b"  note: no ack line, rehearsed as all acknowledged\n";
-    phrase::put_line(page, at, kept, words, 0, [0; 4])
-}
-
-fn put_unexpected(
-    page: &mut [u8; PAGE],
-    at: usize,
-    kept: &[u8],
-    load: Load,
-    expected: bool,
-) -> usize {
-    if expected {
-        return at;
-    }
-    let numbers = [load.expect_line, load.carried, load.length, 0];
-    let form = b"  NOT AS EXPECTED: line # expects $ #/#\n";
-    phrase::put_line(page, at, kept, form, load.winner, numbers)
+    put_numbers(
+        page,
+        who,
+        form,
+        &[before(outcome.count) as u64, outcome.last as u64],
+    )
 }
 
 // The silent boards of a load that was not refused, and the notes about it.
@@ -92,8 +55,22 @@ pub(crate) fn put_notes(
     expected: bool,
 ) -> usize {
     let silent = board::put_silent(page, at, kept, load);
-    let unacked = put_unacked(page, silent, kept, load);
-    put_unexpected(page, unacked, kept, load, expected)
+    let note = b"  note: no ack line, rehearsed as all acknowledged";
+    let unacked = put_line(page, silent, kept, load.ack_line == 0, note, &[]);
+    let numbers = [
+        load.expect_line,
+        load.winner as u64,
+        load.carried,
+        load.length,
+    ];
+    put_line(
+        page,
+        unacked,
+        kept,
+        !expected,
+        b"  NOT AS EXPECTED: line # expects $ #/#",
+        &numbers,
+    )
 }
 
 // The boards of a load that was not refused, and the notes about it.
@@ -110,20 +87,6 @@ fn put_outcome(
     put_notes(page, lost, kept, load, outcome.expected)
 }
 
-fn put_registers(
-    page: &mut [u8; PAGE],
-    at: usize,
-    kept: &[u8],
-    load: Load,
-    outcome: Outcome,
-    wanted: bool,
-) -> usize {
-    if !wanted {
-        return at;
-    }
-    registers::put_all(page, at, kept, load, outcome)
-}
-
 // The block of a load that was rehearsed.
 pub(crate) fn put(
     page: &mut [u8; PAGE],
@@ -138,10 +101,19 @@ pub(crate) fn put(
     let header = put_header(page, at, kept, load);
     let verdict = outcome.verdict;
     if let Verdict::Refused(number) = verdict {
-        return refusals::put_line(page, header, kept, load, number, outcome.place);
+        return refusals::put_line(
+            page,
+            header,
+            kept,
+            load,
+            number,
+            outcome.place,
+            Stage::Block,
+        );
     }
     let shown = put_outcome(page, header, kept, load, outcome);
-    let next = put_registers(page, shown, kept, load, outcome, options.registers);
+    let boards = either(options.registers, load.boards, 0);
+    let next = registers::put_all(page, shown, kept, load, outcome, boards);
     if options.wave {
         return wave::put(page, next, kept, load, outcome, carried, levels);
     }

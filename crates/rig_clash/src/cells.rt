@@ -1,28 +1,30 @@
 // A row of the drawing: its bytes and bits, and the two lines of the bus.
 use crate::order::byte_at;
+use crate::phrase::either;
+use crate::phrase::put_front;
+use crate::phrase::put_line;
 use crate::phrase::put_numbers;
 use crate::rows;
-use crate::rows::Next;
 use crate::rows::shifted;
 use crate::svg::LEFT;
 use crate::svg::NAMES;
-use crate::svg::put_begin;
-use crate::svg::put_end;
-use crate::svg::put_line;
-use crate::svg::put_text;
 use crate::svg::x_of;
 use crate::wave::is_high_at;
 use rig_lines::console::PAGE;
+use rig_lines::lists::line_of;
 use rig_lines::numbers::least;
-use text::put_byte;
 use text::put_bytes;
 
-// Below the top of a row: the bits, and the names of the two lines.
+// The bits, below the top of a row.
 const BITS: usize = 30;
 
-const SCL: usize = 54;
-
-const SDA: usize = 88;
+// The symbol of a bit, from the first on, by its place: a byte's bits, then whether it was acknowledged.
+fn symbol_of(byte: u8, ack: u8, bit: usize) -> usize {
+    if bit >= rows::BITS - 1 {
+        return either(ack == 0, 2, 3);
+    }
+    ((byte >> (7 - bit)) % 2) as usize
+}
 
 // A bit of a byte at a column.
 fn put_bit(
@@ -35,9 +37,10 @@ fn put_bit(
     y: usize,
 ) -> usize {
     let x = x_of(shifted(column, 2 * least(bit, rows::BITS)));
-    let start = put_begin(page, at, x, shifted(y, BITS));
-    let symbol = put_byte(page, start, rows::bit_symbol(byte, ack, bit));
-    put_end(page, symbol)
+    let words = b"<text x=\"#\" y=\"#\">0</text>\n<text x=\"#\" y=\"#\">1</text>\n\
+        <text x=\"#\" y=\"#\">A</text>\n<text x=\"#\" y=\"#\">N</text>";
+    let symbol = line_of(words, symbol_of(byte, ack, bit));
+    put_line(page, at, b"", true, symbol, &[x, shifted(y, BITS) as u64])
 }
 
 fn put_bits(page: &mut [u8; PAGE], at: usize, byte: u8, ack: u8, column: usize, y: usize) -> usize {
@@ -48,17 +51,6 @@ fn put_bits(page: &mut [u8; PAGE], at: usize, byte: u8, ack: u8, column: usize, 
         bit += 1;
     }
     next
-}
-
-// What follows a byte, by its column.
-fn put_next(page: &mut [u8; PAGE], at: usize, next: Next, column: usize, y: usize) -> usize {
-    let x = x_of(shifted(column, rows::BYTE + 1));
-    let below = shifted(y, NAMES);
-    match next {
-        Next::Byte => at,
-        Next::Restart => put_text(page, at, x, below, b"Sr", 0),
-        Next::Stop => put_text(page, at, x, below, b"P", 0),
-    }
 }
 
 // A byte, its bits, and what follows it.
@@ -74,17 +66,23 @@ fn put_cell(
 ) -> usize {
     let column = rows::column_of(parts, first, byte);
     let value = byte_at(carried, byte);
-    let name = put_text(
-        page,
-        at,
-        x_of(column),
-        shifted(y, NAMES),
-        b"%",
-        value as usize,
-    );
-    let bits = put_bits(page, name, value, byte_at(acks, byte), column, y);
+    let top = shifted(y, NAMES) as u64;
+    let name = b"<text x=\"#\" y=\"#\">%</text>\n";
+    let named = put_front(page, at, b"", name, &[x_of(column), top, value as u64]);
+    let bits = put_bits(page, named, value, byte_at(acks, byte), column, y);
     let next = rows::next_of(parts, byte, carried.len());
-    put_next(page, bits, next, column, y)
+    let words = line_of(
+        b"\n<text x=\"#\" y=\"#\">Sr</text>\n<text x=\"#\" y=\"#\">P</text>",
+        next,
+    );
+    put_line(
+        page,
+        bits,
+        b"",
+        next > 0,
+        words,
+        &[x_of(shifted(column, rows::BYTE + 1)), top],
+    )
 }
 
 pub(crate) fn put_cells(
@@ -97,7 +95,7 @@ pub(crate) fn put_cells(
     y: usize,
 ) -> usize {
     let end = rows::end_of(first, carried.len());
-    let mut next = put_front(page, at, first, y);
+    let mut next = put_first(page, at, first, y);
     let mut byte = first;
     while byte < end {
         next = put_cell(page, next, carried, acks, parts, first, byte, y);
@@ -107,13 +105,18 @@ pub(crate) fn put_cells(
 }
 
 // The first byte's index, and START in the first row.
-fn put_front(page: &mut [u8; PAGE], at: usize, first: usize, y: usize) -> usize {
-    let below = shifted(y, NAMES);
-    let index = put_text(page, at, 8, below, b"byte #", first);
-    if first > 0 {
-        return index;
-    }
-    put_text(page, index, x_of(1), below, b"S", 0)
+fn put_first(page: &mut [u8; PAGE], at: usize, first: usize, y: usize) -> usize {
+    let top = shifted(y, NAMES) as u64;
+    let index = b"<text x=\"8\" y=\"#\">byte #</text>\n";
+    let named = put_front(page, at, b"", index, &[top, first as u64]);
+    put_line(
+        page,
+        named,
+        b"",
+        first == 0,
+        b"<text x=\"#\" y=\"#\">S</text>",
+        &[x_of(1), top],
+    )
 }
 
 // A line's height at a level.
@@ -135,11 +138,14 @@ fn put_step(
     y: usize,
 ) -> usize {
     let height = y_at(levels, i, sda, y);
-    let x = x_of(shifted(rows::less(i, from), 1)) as u64;
-    if (i <= from) | (y_at(levels, rows::before(i), sda, y) == height) {
-        return put_numbers(page, at, b" H#", [x, 0, 0, 0]);
-    }
-    put_numbers(page, at, b" V# H#", [height as u64, x, 0, 0])
+    let same = (i <= from) | (y_at(levels, rows::before(i), sda, y) == height);
+    let x = x_of(shifted(rows::less(i, from), 1));
+    put_numbers(
+        page,
+        at,
+        line_of(b" V# H#\n? H#", same as usize),
+        &[height as u64, x],
+    )
 }
 
 fn put_steps(
@@ -160,18 +166,23 @@ fn put_steps(
     next
 }
 
-// A line of the bus in a row, high at a height.
+// A line of the bus in a row, high at a height; words: its name, and where it begins.
 fn put_path(
     page: &mut [u8; PAGE],
     at: usize,
+    words: &[u8],
     levels: &[u8],
     from: usize,
     end: usize,
     sda: bool,
     y: usize,
 ) -> usize {
-    let height = y_at(levels, from, sda, y) as u64;
-    let start = put_line(page, at, b"<path d=\"M# #", [LEFT as u64, height, 0, 0]);
+    let numbers = [
+        shifted(y, 14) as u64,
+        LEFT as u64,
+        y_at(levels, from, sda, y) as u64,
+    ];
+    let start = put_front(page, at, b"", words, &numbers);
     let steps = put_steps(page, start, levels, from, end, sda, y);
     put_bytes(
         page,
@@ -189,8 +200,8 @@ pub(crate) fn put_signals(
     end: usize,
     y: usize,
 ) -> usize {
-    let scl = put_text(page, at, 8, shifted(y, SCL), b"SCL", 0);
-    let first = put_path(page, scl, levels, from, end, false, shifted(y, 40));
-    let sda = put_text(page, first, 8, shifted(y, SDA), b"SDA", 0);
-    put_path(page, sda, levels, from, end, true, shifted(y, 74))
+    let scl = b"<text x=\"8\" y=\"#\">SCL</text>\n<path d=\"M# #";
+    let sda = b"<text x=\"8\" y=\"#\">SDA</text>\n<path d=\"M# #";
+    let first = put_path(page, at, scl, levels, from, end, false, shifted(y, 40));
+    put_path(page, first, sda, levels, from, end, true, shifted(y, 74))
 }

@@ -1,37 +1,26 @@
 // Lines about what is wrong in a file.
 use crate::ending;
 use crate::forms;
-use crate::phrase;
-use crate::phrase::line_of;
+use crate::phrase::put_front;
 use crate::state::State;
 use rig_lines::console::PAGE;
-use rig_lines::console::begin;
+use rig_lines::lists::line_of;
 use text::put_byte;
 use text::put_bytes;
 
-// The line of the file, and the load that is being read.
-fn put_place(page: &mut [u8; PAGE], kept: &[u8], state: State) -> usize {
-    let numbers = [state.problem.line, 0, 0, 0];
-    let words = line_of(b"! line #: \n! line #: load *: ", state.load.open as usize);
-    phrase::put_line(page, state.at, kept, words, 0, numbers)
-}
-
-// Says what is wrong with the line that was followed, where something is.
+// Says what is wrong with the line that was followed, where something is: it costs the load that is being read, and is
+// a fault where there is none.
 pub(crate) fn said(page: &mut [u8; PAGE], kept: &[u8], state: State) -> State {
-    if state.problem.is_none() {
+    if !state.is_wrong() {
         return state;
     }
-    let place = put_place(page, kept, state);
-    let words = state.problem.put(page, place);
+    let words = line_of(b"! line #: \n! line #: load *: ", state.load.open as usize);
+    let place = put_front(page, state.at, kept, words, &[state.problem.line]);
+    let wrong = state.problem.put(page, place);
     let unread = line_of(b"\n; the file is not read", state.problem.unread as usize);
-    let last = put_bytes(page, words, unread);
+    let last = put_bytes(page, wrong, unread);
     let end = put_byte(page, last, b'\n');
-    after_last(page, state.moved(end))
-}
-
-// No more is read after the last line.
-fn after_last(page: &mut [u8; PAGE], state: State) -> State {
-    let next = state.without_problem();
+    let next = state.moved(end).without_problem().blamed();
     if state.problem.last {
         return ending::with_any(page, next);
     }
@@ -39,19 +28,9 @@ fn after_last(page: &mut [u8; PAGE], state: State) -> State {
 }
 
 // A fault that no line is to blame for.
-pub(crate) fn fault(page: &mut [u8; PAGE], state: State, form: usize) -> State {
-    fault_about(page, state, form, b"")
-}
-
-// The same about a word.
-pub(crate) fn fault_about(page: &mut [u8; PAGE], state: State, form: usize, word: &[u8]) -> State {
-    let end = put_fault(page, state.at, form, word);
-    state.moved(end).faulted()
-}
-
-fn put_fault(page: &mut [u8; PAGE], at: usize, form: usize, word: &[u8]) -> usize {
-    let start = begin(page, at);
-    let mark = put_bytes(page, start, b"! ");
+pub(crate) fn fault(page: &mut [u8; PAGE], state: State, form: usize, word: &[u8]) -> State {
+    let mark = put_front(page, state.at, b"", b"! ", &[]);
     let words = forms::put(page, mark, form, word, 0, 0, 0);
-    put_byte(page, words, b'\n')
+    let end = put_byte(page, words, b'\n');
+    state.moved(end).faulted()
 }

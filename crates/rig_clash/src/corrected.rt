@@ -3,12 +3,12 @@ use crate::boards;
 use crate::kept;
 use crate::kept::BYTES;
 use crate::kept::MESSAGES_AT;
+use crate::kept::PARTS_AT;
 use crate::kept::ROOM;
 use crate::kept::TONIGHT_AT;
 use crate::list;
-use crate::list::Style;
 use crate::load::Load;
-use crate::phrase;
+use crate::phrase::put_front;
 use crate::phrase::put_numbers;
 use crate::slots;
 use crate::state::State;
@@ -49,33 +49,21 @@ fn cut_all(lengths: [u32; MAX_MASTERS]) -> [u32; MAX_MASTERS] {
     all
 }
 
-// A correction for the load that is being read marks that it was met.
-fn met_by(kept: &mut [u8; ROOM], correction: usize) {
-    if slots::is_current(kept, correction) {
-        slots::meet(kept, correction);
-    }
-}
-
+// The corrections for the load that is being read are marked as met.
 fn meet(kept: &mut [u8; ROOM], count: usize) {
     let mut correction: usize = 0;
     while correction < count {
-        met_by(kept, correction);
+        slots::meet(kept, correction);
         correction += 1;
     }
 }
 
-fn put_unknown(page: &mut [u8; PAGE], at: usize, board: &[u8], line: u64) -> usize {
-    let quoted = put_quoted(page, at, board);
-    put_numbers(page, quoted, b" on line #\n", [line, 0, 0, 0])
-}
-
 // There is no such board: it costs the load.
 fn unknown(page: &mut [u8; PAGE], kept: &[u8], state: State, correction: usize) -> State {
-    let numbers = [slots::line(kept, correction), 0, 0, 0];
     let form = b"! corrections line #: load *: no board ";
-    let place = phrase::put_line(page, state.at, kept, form, 0, numbers);
-    let board = slots::board(kept, correction);
-    let end = put_unknown(page, place, board, state.file.boards_line);
+    let place = put_front(page, state.at, kept, form, &[slots::line(kept, correction)]);
+    let quoted = put_quoted(page, place, slots::board(kept, correction));
+    let end = put_numbers(page, quoted, b" on line #\n", &[state.file.boards_line]);
     state.moved(end).blamed()
 }
 
@@ -86,8 +74,8 @@ fn keep_row(kept: &mut [u8; ROOM], board: usize, correction: usize) {
     let mut parts = [0u8; MAX_LENGTH];
     put_bytes(&mut row, 0, slots::message(kept, correction));
     put_bytes(&mut parts, 0, slots::parts(kept, correction));
-    kept::put_row(kept, kept::tonight_row_of(board), &row);
-    kept::put_row(kept, kept::parts_row_of(board), &parts);
+    kept::put_row(kept, kept::row_of(TONIGHT_AT, board), &row);
+    kept::put_row(kept, kept::row_of(PARTS_AT, board), &parts);
 }
 
 // The board of a correction among the first so many, else their number.
@@ -198,7 +186,7 @@ fn located(board: usize, tonight: List, standing: List) -> Located {
 fn keep_message(kept: &mut [u8; ROOM], board: usize, tonight: List, place: Located) {
     let bytes = tonight.bytes;
     let message = kept::part(&bytes, place.offset, place.length as usize);
-    put_bytes(kept, kept::row_of(board), message);
+    put_bytes(kept, kept::row_of(MESSAGES_AT, board), message);
 }
 
 // What it says of a board: a correction takes the place of what stands, and no bytes are silence.
@@ -252,20 +240,6 @@ fn overlaid(kept: &mut [u8; ROOM], load: Load) -> Load {
     with_boards(kept, load, load.boards, tonight, before)
 }
 
-// What the load comes to with its corrections, where it has some and none is wrong.
-fn over_load(kept: &mut [u8; ROOM], load: Load) -> Load {
-    if load.broken | !load.corrected {
-        return load;
-    }
-    overlaid(kept, load)
-}
-
-fn over_state(page: &mut [u8; PAGE], kept: &mut [u8; ROOM], state: State) -> State {
-    let next = with_corrections(page, kept, state, state.corrections);
-    let over = over_load(kept, next.load);
-    next.with_load(over)
-}
-
 // Lays the corrections over the load that ends, unless it is in error.
 pub(crate) fn laid(page: &mut [u8; PAGE], kept: &mut [u8; ROOM], state: State) -> State {
     if !state.load.named {
@@ -275,7 +249,12 @@ pub(crate) fn laid(page: &mut [u8; PAGE], kept: &mut [u8; ROOM], state: State) -
     if state.load.broken {
         return state;
     }
-    over_state(page, kept, state)
+    let next = with_corrections(page, kept, state, state.corrections);
+    if next.load.broken | !next.load.corrected {
+        return next;
+    }
+    let over = overlaid(kept, next.load);
+    next.with_load(over)
 }
 
 // A correction stands first among those of its load.
@@ -287,19 +266,21 @@ fn is_first(kept: &[u8], correction: usize) -> bool {
     slots::load_line(kept, before) != slots::load_line(kept, correction)
 }
 
-fn put_without_load(page: &mut [u8; PAGE], at: usize, kept: &[u8], correction: usize) -> usize {
-    let numbers = [slots::load_line(kept, correction), 0, 0, 0];
-    let place = phrase::put_line(page, at, kept, b"! corrections line #: load ", 0, numbers);
-    let name = put_bytes(page, place, slots::load(kept, correction));
-    put_bytes(page, name, b" is in none of the files\n")
-}
-
 // The fault that a load was in none of the files.
 fn without_load(page: &mut [u8; PAGE], kept: &[u8], state: State, correction: usize) -> State {
     if slots::is_met(kept, correction) | !is_first(kept, correction) {
         return state;
     }
-    let end = put_without_load(page, state.at, kept, correction);
+    let form = b"! corrections line #: load ";
+    let place = put_front(
+        page,
+        state.at,
+        kept,
+        form,
+        &[slots::load_line(kept, correction)],
+    );
+    let name = put_bytes(page, place, slots::load(kept, correction));
+    let end = put_bytes(page, name, b" is in none of the files\n");
     state.moved(end).faulted()
 }
 
@@ -319,12 +300,8 @@ pub(crate) fn put(page: &mut [u8; PAGE], at: usize, kept: &[u8], load: Load) -> 
     if !load.corrected {
         return at;
     }
-    let from = phrase::put_line(page, at, kept, b"  corrected ", 0, [0; 4]);
+    let from = put_front(page, at, kept, b"  corrected ", &[]);
     let standing = load.standing;
-    let style = Style {
-        form: list::BOTH,
-        spaced: true,
-    };
-    let end = list::put_all(page, from, kept, standing, style);
+    let end = list::put_all(page, from, kept, list::BOTH, standing);
     put_byte(page, end, b'\n')
 }

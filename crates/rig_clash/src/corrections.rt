@@ -5,8 +5,11 @@ use crate::kept;
 use crate::kept::NAME_AT;
 use crate::kept::ROOM;
 use crate::kept::SLOTS;
+use crate::lines;
 use crate::load;
-use crate::phrase::put_numbers;
+use crate::phrase::either;
+use crate::phrase::put_front;
+use crate::phrase::put_line;
 use crate::reading;
 use crate::slots;
 use crate::sources;
@@ -20,57 +23,32 @@ use load_text::LOAD_NAME;
 use load_text::is_board_name;
 use load_text::is_load_name;
 use rig_lines::console::PAGE;
-use rig_lines::console::begin;
-use rig_lines::files;
 use rig_lines::files::Opened;
 use rig_lines::input;
 use rig_lines::input::Line;
+use rig_lines::lists::line_of;
 use rig_lines::numbers::least_number;
 use rig_lines::numbers::more;
-use rig_lines::numbers::value;
 use text::after_word;
 use text::first_word;
 use text::put_bytes;
 
 const BYTES: u64 = MAX_LENGTH as u64;
 
-// The fault that ends the reading, of which all but the last words stand on the page.
-fn failed(page: &mut [u8; PAGE], state: State, at: usize) -> State {
-    let end = put_bytes(page, at, b"; nothing is rehearsed\n");
-    state.moved(end).faulted().done()
-}
-
-// The line that is wrong; line 0: none in particular.
-fn put_place(page: &mut [u8; PAGE], at: usize, line: u64) -> usize {
-    let start = begin(page, at);
-    if line == 0 {
-        return put_bytes(page, start, b"! corrections: ");
-    }
-    put_numbers(page, start, b"! corrections line #: ", [line, 0, 0, 0])
-}
-
-// Says what is wrong with the line that was followed, where something is.
+// Says what is wrong with the line that was followed, where something is; line 0: none in particular.
 fn said(page: &mut [u8; PAGE], state: State) -> State {
-    if state.problem.is_none() {
+    if !state.is_wrong() {
         return state;
     }
-    let place = put_place(page, state.at, state.problem.line);
-    let words = state.problem.put(page, place);
-    failed(page, state.without_problem(), words)
-}
-
-// The line that is read is wrong.
-fn wrong(state: State, form: usize, word: &[u8], number: u64) -> State {
-    state.with_problem(state.source.line, form, word, number)
-}
-
-// The same without a word.
-fn wrong_by(state: State, form: usize, number: u64) -> State {
-    wrong(state, form, b"", number)
-}
-
-fn plainly_wrong(state: State, form: usize) -> State {
-    wrong_by(state, form, 0)
+    let line = state.problem.line;
+    let words = line_of(
+        b"! corrections line #: \n! corrections: ",
+        (line == 0) as usize,
+    );
+    let place = put_front(page, state.at, b"", words, &[line]);
+    let wrong = state.problem.put(page, place);
+    let end = put_bytes(page, wrong, b"; nothing is rehearsed\n");
+    state.moved(end).without_problem().faulted().done()
 }
 
 // The load that is read has no board line yet.
@@ -83,230 +61,147 @@ fn without_board(kept: &[u8], state: State) -> State {
     state.with_problem(state.load.line, forms::WITHOUT_BOARD, kept::name(kept), 0)
 }
 
-// A load is begun.
-fn opened(mut state: State) -> State {
-    let loads = more(state.file.loads);
-    let line = state.source.line;
-    state.file.loads = loads;
-    state.load = load::begun(line, false, 0, 0);
-    state
-}
-
-// A name that no load before it has.
-fn with_name(kept: &mut [u8; ROOM], state: State, name: &[u8]) -> State {
+// What is wrong with `load NAME`, or with the load before it, where something is: no load before has the name.
+fn judged_load(kept: &[u8], state: State, rest: &[u8]) -> State {
+    let name = first_word(rest);
+    let extra = first_word(after_word(rest));
     let first = slots::find_load(kept, state.corrections, name);
-    if first < state.corrections {
-        let taken = slots::load_line(kept, first);
-        return wrong(state, forms::TAKEN, name, taken);
+    if lacks_board(kept, state) {
+        return without_board(kept, state);
     }
-    kept::keep(kept, NAME_AT, LOAD_NAME, name);
-    opened(state)
+    if name.len() == 0 {
+        return state.wrong(forms::NO_NAME, b"", 0);
+    }
+    if !is_load_name(name) {
+        return state.wrong(forms::LOAD_NAME, name, 0);
+    }
+    if extra.len() > 0 {
+        return state.wrong(forms::ONE_WORD, extra, 0);
+    }
+    if first < state.corrections {
+        return state.wrong(forms::TAKEN, name, slots::load_line(kept, first));
+    }
+    state
 }
 
 // `load NAME`
 fn with_load(kept: &mut [u8; ROOM], state: State, rest: &[u8]) -> State {
-    let name = first_word(rest);
-    let extra = first_word(after_word(rest));
-    if name.len() == 0 {
-        return plainly_wrong(state, forms::NO_NAME);
+    let mut next = judged_load(kept, state, rest);
+    if next.is_wrong() {
+        return next;
     }
-    if !is_load_name(name) {
-        return wrong(state, forms::LOAD_NAME, name, 0);
-    }
-    if extra.len() > 0 {
-        return wrong(state, forms::ONE_WORD, extra, 0);
-    }
-    with_name(kept, state, name)
+    kept::keep(kept, NAME_AT, LOAD_NAME, first_word(rest));
+    let loads = more(state.file.loads);
+    next.file.loads = loads;
+    next.load = load::begun(state.source.line, false, 0, 0);
+    next
 }
 
-// A correction of so many bytes is kept.
-fn corrected(
-    kept: &mut [u8; ROOM],
-    mut state: State,
-    name: &[u8],
-    bytes: &[u8],
-    count: u64,
-) -> State {
+// What is wrong with `board NAME HH HH ..` or `board NAME -`, where something is: the board has no line in this load
+// yet, and at most so many bytes.
+fn judged_board(kept: &[u8], state: State, name: &[u8], bytes: &[u8]) -> State {
+    let first = slots::find(kept, state.corrections, name);
+    let count = words::count(bytes);
+    if !state.load.open {
+        return state.wrong(forms::OUTSIDE, b"board", 0);
+    }
+    if state.corrections >= SLOTS {
+        return state.wrong(forms::MANY_CORRECTIONS, b"", 0);
+    }
+    if name.len() == 0 {
+        return state.wrong(forms::NO_BOARD, b"", 0);
+    }
+    if !is_board_name(name) {
+        return state.wrong(forms::BOARD_NAME, name, 0);
+    }
+    if first < state.corrections {
+        return state.wrong(forms::SECOND_BOARD, name, slots::line(kept, first));
+    }
+    let next = lines::judged(state, bytes);
+    if next.is_wrong() {
+        return next;
+    }
+    if count == 0 {
+        return state.wrong(forms::NO_BOARD, b"", 0);
+    }
+    if count > BYTES {
+        return state.wrong(forms::LONG_MESSAGE, name, count);
+    }
+    state
+}
+
+// The bytes that a board sends: none, where `-` stands for them.
+fn sent(bytes: &[u8]) -> &[u8] {
+    if words::is_dash(first_word(bytes)) {
+        return after_word(bytes);
+    }
+    bytes
+}
+
+fn with_board(kept: &mut [u8; ROOM], state: State, name: &[u8], bytes: &[u8]) -> State {
+    let mut next = judged_board(kept, state, name, bytes);
+    if next.is_wrong() {
+        return next;
+    }
     let mut row = [0u8; MAX_LENGTH];
     let mut parts = [0u8; MAX_LENGTH];
-    let source = state.source;
-    let load = state.load;
     let correction = state.corrections;
-    let length = least_number(count, BYTES) as u8;
-    words::put_values(&mut row, Kind::Byte, bytes);
-    words::put_parts(&mut parts, bytes);
+    let length = least_number(words::count(sent(bytes)), BYTES) as u8;
+    words::put_values(&mut row, Kind::Byte, sent(bytes));
+    words::put_parts(&mut parts, sent(bytes));
     slots::keep(
         kept,
         correction,
-        load.line,
+        state.load.line,
         name,
-        source.line,
+        state.source.line,
         &row,
         &parts,
         length,
     );
     if correction < SLOTS {
-        state.corrections = correction + 1;
+        next.corrections = correction + 1;
     }
-    state
-}
-
-// The bytes of a board.
-fn with_bytes(kept: &mut [u8; ROOM], state: State, name: &[u8], bytes: &[u8]) -> State {
-    let other = words::first_other(Kind::Byte, bytes);
-    let count = words::count(bytes);
-    if other.len() > 0 {
-        return wrong(state, words::form_of(other, forms::BYTES), other, 0);
-    }
-    if count == 0 {
-        return plainly_wrong(state, forms::NO_BOARD);
-    }
-    if count > BYTES {
-        return wrong(state, forms::LONG_MESSAGE, name, count);
-    }
-    corrected(kept, state, name, bytes, count)
-}
-
-// What a board sends, after its name.
-fn with_message(kept: &mut [u8; ROOM], state: State, name: &[u8], bytes: &[u8]) -> State {
-    if !words::is_dash(first_word(bytes)) {
-        return with_bytes(kept, state, name, bytes);
-    }
-    let extra = first_word(after_word(bytes));
-    if extra.len() > 0 {
-        return wrong(state, forms::AFTER_DASH, extra, 0);
-    }
-    corrected(kept, state, name, extra, 0)
-}
-
-// A board that has no line in this load yet.
-fn with_board_name(kept: &mut [u8; ROOM], state: State, rest: &[u8]) -> State {
-    let name = first_word(rest);
-    let first = slots::find(kept, state.corrections, name);
-    if first < state.corrections {
-        let form = forms::SECOND_BOARD;
-        return wrong(state, form, name, slots::line(kept, first));
-    }
-    with_message(kept, state, name, after_word(rest))
-}
-
-// `board NAME HH HH ..` or `board NAME -`
-fn with_board(kept: &mut [u8; ROOM], state: State, rest: &[u8]) -> State {
-    let name = first_word(rest);
-    if state.corrections >= SLOTS {
-        return plainly_wrong(state, forms::MANY_CORRECTIONS);
-    }
-    if name.len() == 0 {
-        return plainly_wrong(state, forms::NO_BOARD);
-    }
-    if !is_board_name(name) {
-        let form = forms::BOARD_NAME;
-        return wrong(state, form, name, 0);
-    }
-    with_board_name(kept, state, rest)
-}
-
-fn with_end_line(mut state: State) -> State {
-    let line = state.source.line;
-    state.file.end_line = line;
-    state
-}
-
-// The number of loads that `end` says, against those that there are.
-fn counted(state: State, said: u64) -> State {
-    if said == state.file.loads {
-        return with_end_line(state);
-    }
-    wrong_by(state, forms::CORRECTIONS_COUNTED, said)
+    next
 }
 
 // `end N`
-fn with_end(state: State, rest: &[u8]) -> State {
-    let other = ending::other(rest);
-    if first_word(rest).len() == 0 {
-        return plainly_wrong(state, forms::NO_COUNT);
+fn with_end(kept: &[u8], state: State, rest: &[u8]) -> State {
+    if lacks_board(kept, state) {
+        return without_board(kept, state);
     }
-    if other.len() > 0 {
-        return wrong(state, forms::COUNT, other, 0);
-    }
-    counted(state, value(text::decimal(first_word(rest))))
-}
-
-fn after_end(state: State) -> State {
-    wrong_by(state, forms::AFTER_CORRECTIONS, state.file.end_line)
-}
-
-// What a line does: `load` and `end` end the load before them, which then has a board line.
-enum Deed {
-    Nothing,
-    Ended,
-    Lacking,
-    Load,
-    End,
-    Board,
-    // with these words
-    Wrong(usize),
-}
-
-// A statement in a load or before the first, where it is no `load` and no `end`.
-fn in_load(open: bool, statement: Statement) -> Deed {
-    if !open {
-        return Deed::Wrong(forms::OUTSIDE);
-    }
-    match statement {
-        Statement::Board => Deed::Board,
-        _ => Deed::Wrong(forms::IN_CORRECTIONS),
-    }
-}
-
-fn stated(open: bool, lacking: bool, word: &[u8]) -> Deed {
-    let statement = statements::named(word);
-    match statement {
-        Statement::Load => after_load(lacking, Deed::Load),
-        Statement::End => after_load(lacking, Deed::End),
-        _ => in_load(open, statement),
-    }
-}
-
-fn after_load(lacking: bool, deed: Deed) -> Deed {
-    if lacking {
-        return Deed::Lacking;
-    }
-    deed
-}
-
-fn deed_of(kept: &[u8], state: State, word: &[u8]) -> Deed {
-    if word.len() == 0 {
-        return Deed::Nothing;
-    }
-    if state.file.end_line > 0 {
-        return Deed::Ended;
-    }
-    stated(state.load.open, lacks_board(kept, state), word)
+    ending::with_end(state, rest, forms::CORRECTIONS_COUNTED)
 }
 
 // A line of text, without its comment.
 fn with_text(kept: &mut [u8; ROOM], state: State, line: &[u8]) -> State {
     let word = first_word(line);
     let rest = after_word(line);
-    let deed = deed_of(kept, state, word);
-    match deed {
-        Deed::Nothing => state,
-        Deed::Ended => after_end(state),
-        Deed::Lacking => without_board(kept, state),
-        Deed::Load => with_load(kept, state, rest),
-        Deed::End => with_end(state, rest),
-        Deed::Board => with_board(kept, state, rest),
-        Deed::Wrong(form) => wrong(state, form, word, 0),
+    let statement = statements::named(word);
+    if word.len() == 0 {
+        return state;
+    }
+    if state.file.end_line > 0 {
+        return ending::after_end(state, forms::AFTER_CORRECTIONS);
+    }
+    match statement {
+        Statement::Load => with_load(kept, state, rest),
+        Statement::End => with_end(kept, state, rest),
+        Statement::Board => with_board(kept, state, first_word(rest), after_word(rest)),
+        _ => state.wrong(
+            either(state.load.open, forms::IN_CORRECTIONS, forms::OUTSIDE),
+            word,
+            0,
+        ),
     }
 }
 
 // A line that is too long or no text.
 fn without_text(state: State, form: usize) -> State {
     if state.file.end_line > 0 {
-        return after_end(state);
+        return ending::after_end(state, forms::AFTER_CORRECTIONS);
     }
-    plainly_wrong(state, form)
+    state.wrong(form, b"", 0)
 }
 
 // The end of the input.
@@ -322,9 +217,18 @@ fn ended(kept: &[u8], state: State) -> State {
 
 // `cannot open` or `cannot read`, and why.
 fn unread(page: &mut [u8; PAGE], state: State, reads: bool, argument: usize, errno: u64) -> State {
-    let named = ending::put_failed(page, state.at, reads, argument);
-    let reason = files::put_reason(page, named, errno);
-    failed(page, state, reason)
+    let words =
+        b"! cannot open +: `; nothing is rehearsed\n! cannot read +: `; nothing is rehearsed";
+    let numbers = [argument as u64, errno];
+    let end = put_line(
+        page,
+        state.at,
+        b"",
+        true,
+        line_of(words, reads as usize),
+        &numbers,
+    );
+    state.moved(end).faulted().done()
 }
 
 // Follows what taking a line found.

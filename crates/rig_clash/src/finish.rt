@@ -9,18 +9,16 @@ use crate::outcome::LEVELS;
 use crate::outcome::Outcome;
 use crate::outcome::is_refusal;
 use crate::outcome::is_seen;
-use crate::phrase;
+use crate::phrase::put_line;
+use crate::phrase::put_note;
 use crate::recording;
 use crate::rounds;
 use crate::state::Options;
 use crate::state::State;
 use crate::svg;
 use crate::table;
-use crate::tally::Tally;
 use arbitration_rules::MAX_LENGTH;
 use rig_lines::console::PAGE;
-use rig_lines::console::begin;
-use rig_lines::console::note;
 use verdict::Verdict;
 
 // A line on standard error after so many loads.
@@ -31,9 +29,9 @@ fn missing_board(page: &mut [u8; PAGE], kept: &[u8], state: State, board: usize)
     if state.load.line_of(board) > 0 {
         return state;
     }
-    let form = b"! line #: load *: no line for board $ (boards: line #)\n";
-    let numbers = [state.load.line, state.file.boards_line, 0, 0];
-    let end = phrase::put_line(page, state.at, kept, form, board, numbers);
+    let form = b"! line #: load *: no line for board $ (boards: line #)";
+    let numbers = [state.load.line, board as u64, state.file.boards_line];
+    let end = put_line(page, state.at, kept, true, form, &numbers);
     state.moved(end).blamed()
 }
 
@@ -74,20 +72,22 @@ fn put_broken(page: &mut [u8; PAGE], at: usize, kept: &[u8], table: bool) -> usi
     if table {
         return table::put_broken(page, at, kept);
     }
-    block::put_broken(page, at, kept)
-}
-
-// The tally with a load that was rehearsed.
-fn counted(tally: Tally, load: Load, verdict: Verdict, expected: bool) -> Tally {
-    let unacked = (load.ack_line == 0) & !is_refusal(verdict);
-    let next = tally.with_verdict(verdict, expected);
-    next.with_unacked(unacked).with_corrected(load.corrected)
+    put_line(
+        page,
+        at,
+        kept,
+        true,
+        b"load *[\n  ERROR: not rehearsed",
+        &[],
+    )
 }
 
 // What a load came to is counted, and its name kept where it is one to see.
 fn tallied(kept: &mut [u8; ROOM], state: State, verdict: Verdict, expected: bool) -> State {
-    let tally = counted(state.tally, state.load, verdict, expected);
-    noted(kept, state.with_tally(tally), is_seen(verdict, expected))
+    let unacked = (state.load.ack_line == 0) & !is_refusal(verdict);
+    let tally = state.tally.with_verdict(verdict, expected);
+    let counted = tally.with_notes(unacked, state.load.corrected);
+    noted(kept, state.with_tally(counted), is_seen(verdict, expected))
 }
 
 // What is asked for of a load: its drawing, its trace, its row of the table or its block.
@@ -146,20 +146,12 @@ fn rehearsed_night(page: &mut [u8; PAGE], kept: &mut [u8; ROOM], state: State) -
     tallied(kept, state.moved(at), verdict, expected)
 }
 
-// A note of how many loads there were; answers where the page goes on.
-fn put_progress(page: &mut [u8; PAGE], at: usize, loads: u64) -> usize {
-    let start = begin(page, at);
-    let end = phrase::put_numbers(page, start, b"rig: # load~\n", [loads, 0, 0, 0]);
-    note(page, start, end)
-}
-
-// Where no trace is asked for.
+// A note of how many loads there were, where no trace is asked for.
 fn progress(page: &mut [u8; PAGE], state: State) -> State {
     if (state.options.trace > 0) | (state.tally.loads % PROGRESS != 0) {
         return state;
     }
-    let at = put_progress(page, state.at, state.tally.loads);
-    state.moved(at)
+    state.moved(put_note(page, state.at, b"rig: # load~\n", &[state.tally.loads]))
 }
 
 // What is done with a load: where a trace or a drawing is asked for, other loads are only read.
@@ -171,33 +163,20 @@ enum Course {
     Read,
 }
 
+// A load in error has its block, unless it is to be a trace or an SVG document.
 fn course_of(kept: &[u8], state: State) -> Course {
-    if state.options.trace == 0 {
-        return untraced(state.load.broken, state.options.night);
-    }
+    let shown = (state.options.trace == 0) | state.options.draws;
     let asked = recording::is_asked(kept, state.options.trace);
+    if state.load.broken & asked & shown & !state.options.svg {
+        return Course::Unrehearsed;
+    }
     if state.load.broken {
-        return broken(asked & state.options.draws & !state.options.svg);
+        return Course::Counted;
     }
-    if asked {
-        return Course::Rehearsed;
+    if !asked {
+        return Course::Read;
     }
-    Course::Read
-}
-
-// A load in error has its block where it is to be drawn in text.
-fn broken(shown: bool) -> Course {
-    if shown {
-        return Course::Unrehearsed;
-    }
-    Course::Counted
-}
-
-fn untraced(broken: bool, night: bool) -> Course {
-    if broken {
-        return Course::Unrehearsed;
-    }
-    if night {
+    if state.options.night {
         return Course::Night;
     }
     Course::Rehearsed
@@ -214,19 +193,14 @@ fn finished(page: &mut [u8; PAGE], kept: &mut [u8; ROOM], state: State) -> State
     }
 }
 
-// The load that ends, with its corrections, and whatever is asked for of it.
-fn completed(page: &mut [u8; PAGE], kept: &mut [u8; ROOM], state: State) -> State {
-    let laid = corrected::laid(page, kept, state);
-    let mut done = finished(page, kept, laid);
-    done.load.open = false;
-    progress(page, done)
-}
-
-// Finishes the load that is being read, where there is one.
+// Finishes the load that is being read, where there is one: with its corrections, whatever is asked for of it.
 pub(crate) fn finish(page: &mut [u8; PAGE], kept: &mut [u8; ROOM], state: State) -> State {
     if !state.load.open {
         return state;
     }
     let checked = missing(page, kept, state);
-    completed(page, kept, checked)
+    let laid = corrected::laid(page, kept, checked);
+    let mut done = finished(page, kept, laid);
+    done.load.open = false;
+    progress(page, done)
 }

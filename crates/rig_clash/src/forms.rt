@@ -1,7 +1,7 @@
 // The words about what is wrong, with their marks, by number.
-use crate::phrase::line_of;
 use crate::problem::put_words;
 use rig_lines::console::PAGE;
+use rig_lines::lists::line_of;
 
 // Those about a line or a file, in their order.
 pub(crate) const FIRST: usize = 1;

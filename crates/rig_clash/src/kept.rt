@@ -1,5 +1,6 @@
 // What is kept of a file, of the load that is being read and of the corrections, in one lent slice of bytes: texts in
 // cells that are filled up with zeros, which no text has, and the messages, a row of bytes for each board.
+use crate::rows::shifted;
 use arbitration_rules::MAX_LENGTH;
 use arbitration_rules::MAX_MASTERS;
 use load_text::BOARD_NAME;
@@ -105,7 +106,7 @@ pub(crate) fn title(kept: &[u8]) -> &[u8] {
     text_in(kept, TITLE_AT, TITLE)
 }
 
-// Where a board's cell begins, and its row.
+// Where a board's cell begins.
 fn cell_of(board: usize) -> usize {
     if board < MAX_MASTERS {
         BOARDS_AT + board * BOARD_NAME
@@ -114,27 +115,12 @@ fn cell_of(board: usize) -> usize {
     }
 }
 
-pub(crate) fn row_of(board: usize) -> usize {
+// Where a board's row begins, among rows that begin at a place.
+pub(crate) fn row_of(rows: usize, board: usize) -> usize {
     if board < MAX_MASTERS {
-        MESSAGES_AT + board * MAX_LENGTH
+        shifted(rows, board * MAX_LENGTH)
     } else {
-        MESSAGES_AT
-    }
-}
-
-pub(crate) fn parts_row_of(board: usize) -> usize {
-    if board < MAX_MASTERS {
-        PARTS_AT + board * MAX_LENGTH
-    } else {
-        PARTS_AT
-    }
-}
-
-pub(crate) fn tonight_row_of(board: usize) -> usize {
-    if board < MAX_MASTERS {
-        TONIGHT_AT + board * MAX_LENGTH
-    } else {
-        TONIGHT_AT
+        rows
     }
 }
 
@@ -146,9 +132,9 @@ pub(crate) fn keep_board_name(kept: &mut [u8; ROOM], board: usize, name: &[u8]) 
     keep(kept, cell_of(board), BOARD_NAME, name);
 }
 
-// A board's message of so many bytes.
-pub(crate) fn message(kept: &[u8], board: usize, length: u32) -> &[u8] {
-    part(part(kept, row_of(board), MAX_LENGTH), 0, length as usize)
+// So many bytes of a row that begins at a place, from one on.
+pub(crate) fn row(kept: &[u8], at: usize, from: usize, count: usize) -> &[u8] {
+    part(part(kept, at, MAX_LENGTH), from, count)
 }
 
 // A row of bytes, put where it begins.
@@ -156,11 +142,7 @@ pub(crate) fn put_row(kept: &mut [u8; ROOM], at: usize, row: &[u8; MAX_LENGTH]) 
     put_bytes(kept, at, row);
 }
 
-// Where a message's parts begin.
-pub(crate) fn parts_of(kept: &[u8], board: usize, length: u32) -> &[u8] {
-    part(
-        part(kept, parts_row_of(board), MAX_LENGTH),
-        0,
-        length as usize,
-    )
+// No board has a name.
+pub(crate) fn clear_board_names(kept: &mut [u8; ROOM]) {
+    put_bytes(kept, BOARDS_AT, &[0; MAX_MASTERS * BOARD_NAME]);
 }

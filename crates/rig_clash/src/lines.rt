@@ -38,54 +38,50 @@ fn with_bytes(
     let mut parts = [0u8; MAX_LENGTH];
     words::put_values(&mut row, kind, bytes);
     words::put_parts(&mut parts, bytes);
-    kept::put_row(kept, kept::row_of(board), &row);
-    kept::put_row(kept, kept::parts_row_of(board), &parts);
+    kept::put_row(kept, kept::row_of(kept::MESSAGES_AT, board), &row);
+    kept::put_row(kept, kept::row_of(kept::PARTS_AT, board), &parts);
     state.with_load(state.load.with_message(board, few(words::count(bytes))))
 }
 
-// Nothing stands after `-`.
-fn with_silence(state: State, bytes: &[u8]) -> State {
+// What is wrong with what a board sends, or with what stands after `-`, where something is.
+pub(crate) fn judged(state: State, bytes: &[u8]) -> State {
     let extra = first_word(after_word(bytes));
-    if extra.len() > 0 {
-        return state.wrong(forms::AFTER_DASH, extra, 0);
-    }
-    state
-}
-
-// What a board sends, after its name.
-fn with_message(kept: &mut [u8; ROOM], state: State, board: usize, bytes: &[u8]) -> State {
-    if words::is_dash(first_word(bytes)) {
-        return with_silence(state, bytes);
-    }
     let other = words::first_other(Kind::Byte, bytes);
+    if words::is_dash(first_word(bytes)) {
+        if extra.len() > 0 {
+            return state.wrong(forms::AFTER_DASH, extra, 0);
+        }
+        return state;
+    }
     if other.len() > 0 {
         return state.wrong(words::form_of(other, forms::BYTES), other, 0);
     }
-    with_bytes(kept, state, board, Kind::Byte, bytes)
-}
-
-// A line for a board that is named.
-fn with_line(kept: &mut [u8; ROOM], state: State, board: usize, rest: &[u8]) -> State {
-    let before = state.load.line_of(board);
-    if before > 0 {
-        let form = forms::SECOND_BOARD;
-        return state.wrong(form, first_word(rest), before);
-    }
-    let next = state.with_load(state.load.with_line(board, state.source.line));
-    with_message(kept, next, board, after_word(rest))
+    state
 }
 
 // `board NAME HH HH ..` or `board NAME -`
 pub(crate) fn with_board(kept: &mut [u8; ROOM], state: State, rest: &[u8]) -> State {
     let name = first_word(rest);
-    if name.len() == 0 {
-        return state.plainly_wrong(forms::NO_BOARD);
-    }
+    let bytes = after_word(rest);
     let board = boards::find(kept, state.file.boards, name);
+    let before = state.load.line_of(board);
+    if name.len() == 0 {
+        return state.wrong(forms::NO_BOARD, b"", 0);
+    }
     if board >= state.file.boards {
         return state.unknown_board(name);
     }
-    with_line(kept, state, board, rest)
+    if before > 0 {
+        return state.wrong(forms::SECOND_BOARD, name, before);
+    }
+    let next = judged(
+        state.with_load(state.load.with_line(board, state.source.line)),
+        bytes,
+    );
+    if next.is_wrong() | words::is_dash(first_word(bytes)) {
+        return next;
+    }
+    with_bytes(kept, next, board, Kind::Byte, bytes)
 }
 
 // A row more, of which the first sixteen are kept.
@@ -115,41 +111,33 @@ pub(crate) fn with_numbered(kept: &mut [u8; ROOM], state: State, bytes: &[u8]) -
     next
 }
 
-fn keep_acks(kept: &mut [u8; ROOM], acks: &[u8]) {
-    let mut row = [0u8; ACKS];
-    words::put_values(&mut row, Kind::Ack, acks);
-    put_bytes(kept, ACKS_AT, &row);
-}
-
 // `all` and nothing else.
 fn is_all(words: &[u8]) -> bool {
     same(first_word(words), b"all") & (first_word(after_word(words)).len() == 0)
 }
 
-// The words of the first ack line.
-fn with_acks(kept: &mut [u8; ROOM], mut state: State, acks: &[u8]) -> State {
-    if is_all(acks) {
-        state.load.all_acked = true;
-        return state;
-    }
-    let other = words::first_other(Kind::Ack, acks);
-    if other.len() > 0 {
-        return state.wrong(forms::ACKS, other, 0);
-    }
-    keep_acks(kept, acks);
-    let count = few(words::count(acks)) as usize;
-    state.load.acks = count;
-    state
-}
-
 // `ack A A ..` or `ack all`
 pub(crate) fn with_ack(kept: &mut [u8; ROOM], mut state: State, acks: &[u8]) -> State {
     if state.load.ack_line > 0 {
-        return state.wrong_by(forms::SECOND_ACK, state.load.ack_line);
+        return state.wrong(forms::SECOND_ACK, b"", state.load.ack_line);
     }
+    let mut row = [0u8; ACKS];
     let line = state.source.line;
+    let all = is_all(acks);
+    let other = words::first_other(Kind::Ack, acks);
+    let count = few(words::count(acks)) as usize;
     state.load.ack_line = line;
-    with_acks(kept, state, acks)
+    state.load.all_acked = all;
+    if all {
+        return state;
+    }
+    if other.len() > 0 {
+        return state.wrong(forms::ACKS, other, 0);
+    }
+    words::put_values(&mut row, Kind::Ack, acks);
+    put_bytes(kept, ACKS_AT, &row);
+    state.load.acks = count;
+    state
 }
 
 // What is expected of a board: so many bytes carried, of how many.
@@ -167,28 +155,24 @@ fn with_parts(state: State, board: usize, rest: &[u8]) -> State {
     }
 }
 
-// The board of an `expect`, and its bytes.
-fn with_winner(kept: &[u8], state: State, rest: &[u8]) -> State {
+// `expect NAME N/M`
+pub(crate) fn with_expect(kept: &[u8], mut state: State, rest: &[u8]) -> State {
     let name = first_word(rest);
-    if name.len() == 0 {
-        return state.plainly_wrong(forms::NO_PARTS);
-    }
+    let parts = after_word(rest);
+    let line = state.source.line;
     let board = boards::find(kept, state.file.boards, name);
+    if state.load.expect_line > 0 {
+        return state.wrong(forms::SECOND_EXPECT, b"", state.load.expect_line);
+    }
+    state.load.expect_line = line;
+    if name.len() == 0 {
+        return state.wrong(forms::NO_PARTS, b"", 0);
+    }
     if board >= state.file.boards {
         return state.unknown_board(name);
     }
-    if first_word(after_word(rest)).len() == 0 {
-        return state.plainly_wrong(forms::NO_PARTS);
+    if first_word(parts).len() == 0 {
+        return state.wrong(forms::NO_PARTS, b"", 0);
     }
-    with_parts(state, board, after_word(rest))
-}
-
-// `expect NAME N/M`
-pub(crate) fn with_expect(kept: &[u8], mut state: State, rest: &[u8]) -> State {
-    if state.load.expect_line > 0 {
-        return state.wrong_by(forms::SECOND_EXPECT, state.load.expect_line);
-    }
-    let line = state.source.line;
-    state.load.expect_line = line;
-    with_winner(kept, state, rest)
+    with_parts(state, board, parts)
 }

@@ -45,6 +45,7 @@ mod words; // words.rt: the bytes and the acknowledges of a line
 use arguments::Arguments;
 use arguments::next_file;
 use kept::ROOM;
+use phrase::put_line;
 use rig_lines::console::PAGE;
 use rig_lines::console::flush;
 use rig_lines::files::Opened;
@@ -53,16 +54,7 @@ use state::State;
 use text::put_byte;
 use text::put_bytes;
 
-// `file FILE`, where there are several.
-fn with_name(page: &mut [u8; PAGE], state: State, argument: usize, several: bool) -> State {
-    if !several | (state.options.trace > 0) {
-        return state;
-    }
-    let name = sources::put_line(page, state.at, sources::FILE, argument);
-    state.moved(put_byte(page, name, b'\n'))
-}
-
-// The names of loads are each file's own.
+// `file FILE`, where there are several and no trace is asked for. The names of loads and boards are each file's own.
 fn with_file(
     page: &mut [u8; PAGE],
     kept: &mut [u8; ROOM],
@@ -71,7 +63,9 @@ fn with_file(
     several: bool,
 ) -> State {
     names::clear(kept);
-    let next = with_name(page, state, argument, several);
+    kept::clear_board_names(kept);
+    let named = several & (state.options.trace == 0);
+    let next = state.moved(put_line(page, state.at, kept, named, b"file +", &[argument as u64]));
     match sources::open(argument) {
         Opened::Source(source) => reading::run_source(page, kept, next, source, false),
         Opened::Failed(errno) => ending::failed(page, next, false, argument, errno),
@@ -103,27 +97,11 @@ fn after(argument: usize) -> usize {
     }
 }
 
-// In a table the header stands first.
-fn headed(page: &mut [u8; PAGE], state: State) -> State {
-    if state.options.table {
-        return state.moved(table::put_header(page, state.at));
-    }
-    state
-}
-
-// The last two lines.
+// The last two lines; a trace has no line but its samples and the last one.
 fn summed(page: &mut [u8; PAGE], kept: &[u8; ROOM], state: State) {
-    let seen = put_seen(page, kept, state);
+    let seen = tally::put_seen(page, state.at, kept, state.tally, state.options.trace == 0);
     let last = tally::put_last(page, seen, state.tally);
     flush(page, last);
-}
-
-// A trace has no line but its samples and the last one.
-fn put_seen(page: &mut [u8; PAGE], kept: &[u8], state: State) -> usize {
-    if state.options.trace > 0 {
-        return state.at;
-    }
-    tally::put_seen(page, state.at, kept, state.tally)
 }
 
 // The load whose trace is asked for is there.
@@ -133,7 +111,7 @@ fn met(page: &mut [u8; PAGE], state: State) -> State {
     }
     let mut space = io::buffer();
     let n = os::arg(state.options.trace, &mut space);
-    complaints::fault_about(page, state, forms::UNKNOWN_LOAD, &space[..n])
+    complaints::fault(page, state, forms::UNKNOWN_LOAD, &space[..n])
 }
 
 // All files, or the one that has the load that is drawn: the word after it is no file.
@@ -168,10 +146,13 @@ fn options_of(given: Arguments) -> Options {
     }
 }
 
+// In a table the header stands first.
 fn run(given: Arguments) {
     let mut page = [0u8; PAGE];
     let mut kept = [0u8; ROOM];
-    let begun = headed(&mut page, state::begun(options_of(given)));
+    let header = b"  load       title          winner    bytes verdict";
+    let at = put_line(&mut page, 0, b"", given.table, header, &[]);
+    let begun = state::begun(options_of(given)).moved(at);
     let read = corrections::read(&mut page, &mut kept, begun, given.corrections);
     let state = run_loads(&mut page, &mut kept, read);
     summed(&mut page, &kept, state);

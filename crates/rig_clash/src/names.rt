@@ -6,6 +6,7 @@ use crate::kept::ROOM;
 use crate::kept::keep;
 use crate::kept::number_in;
 use crate::kept::text_in;
+use crate::rows::shifted;
 use check::same;
 use load_text::LOAD_NAME;
 use text::put_byte;
@@ -45,11 +46,7 @@ fn cell_of(slot: usize) -> usize {
 }
 
 fn line_of(slot: usize) -> usize {
-    if slot < NAMES {
-        NAMES_AT + slot * NAMED + LOAD_NAME
-    } else {
-        NAMES_AT
-    }
+    shifted(cell_of(slot), LOAD_NAME)
 }
 
 fn is_free(kept: &[u8], slot: usize) -> bool {

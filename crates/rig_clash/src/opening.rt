@@ -67,41 +67,12 @@ fn opened(mut state: State) -> State {
     state.with_tally(state.tally.with_load())
 }
 
-// What is wrong with the name of a load.
-fn with_name(state: State, name: &[u8]) -> State {
-    if name.len() == 0 {
-        return state.plainly_wrong(forms::NO_NAME);
-    }
-    state.wrong(forms::LOAD_NAME, name, 0)
-}
-
-// What is wrong with a title that may be too long, and a name that may be taken on a line.
-fn judged(state: State, long: bool, taken: u64) -> State {
-    if long {
-        return state.plainly_wrong(forms::LONG_TITLE);
-    }
-    if taken > 0 {
-        return state.wrong_by(forms::TAKEN, taken);
-    }
-    state
-}
-
 // With boards the words after the name are its title; answers whether it is too long.
 fn with_title(kept: &mut [u8; ROOM], named: bool, words: &[u8]) -> bool {
     if named {
         return keep_title(kept, after_word(words));
     }
     false
-}
-
-// In the old form there is no word after the name.
-fn without_title(state: State, words: &[u8]) -> State {
-    let extra = first_word(after_word(words));
-    if extra.len() > 0 {
-        let form = forms::TITLE;
-        return state.wrong(form, extra, 0);
-    }
-    state
 }
 
 // Nothing is kept of the load before.
@@ -111,24 +82,37 @@ fn keep_first(kept: &mut [u8; ROOM], name: &[u8]) {
     kept::keep(kept, ACKS_AT, ACKS, b"");
 }
 
-// With boards the name is this load's alone.
+// With boards the name is this load's alone; in the old form there is no word after it.
 fn begun(kept: &mut [u8; ROOM], state: State, words: &[u8]) -> State {
     let name = first_word(words);
+    let extra = first_word(after_word(words));
     let long = with_title(kept, state.file.named, words);
+    if name.len() == 0 {
+        return state.wrong(forms::NO_NAME, b"", 0);
+    }
     if !is_load_name(name) {
-        return with_name(state, name);
+        return state.wrong(forms::LOAD_NAME, name, 0);
     }
     if !state.file.named {
-        return without_title(state, words);
+        if extra.len() > 0 {
+            return state.wrong(forms::TITLE, extra, 0);
+        }
+        return state;
     }
-    judged(state, long, names::take(kept, name, state.source.line))
+    let taken = names::take(kept, name, state.source.line);
+    if long {
+        return state.wrong(forms::LONG_TITLE, b"", 0);
+    }
+    if taken > 0 {
+        return state.wrong(forms::TAKEN, b"", taken);
+    }
+    state
 }
 
 // The next load of a file: `load NAME TITLE`.
 pub(crate) fn with_load(kept: &mut [u8; ROOM], state: State, words: &[u8]) -> State {
     if state.file.named & (state.file.loads >= names::LOADS) {
-        let many = forms::MANY_LOADS;
-        return state.plainly_wrong(many).done();
+        return state.wrong(forms::MANY_LOADS, b"", 0).done();
     }
     keep_first(kept, first_word(words));
     begun(kept, opened(state), words)

@@ -33,11 +33,21 @@ pub(crate) fn longest(load: Load) -> usize {
 }
 
 pub(crate) fn message(kept: &[u8], load: Load, board: usize) -> &[u8] {
-    kept::message(kept, board, load.length_of(board))
+    kept::row(
+        kept,
+        kept::row_of(kept::MESSAGES_AT, board),
+        0,
+        load.length_of(board) as usize,
+    )
 }
 
 pub(crate) fn parts(kept: &[u8], load: Load, board: usize) -> &[u8] {
-    kept::parts_of(kept, board, load.length_of(board))
+    kept::row(
+        kept,
+        kept::row_of(kept::PARTS_AT, board),
+        0,
+        load.length_of(board) as usize,
+    )
 }
 
 // The first byte of a part that is odd, a read.

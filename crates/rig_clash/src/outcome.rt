@@ -53,6 +53,15 @@ impl Outcome {
         is_refusal(verdict)
     }
 
+    pub(crate) fn is_undecided(self) -> bool {
+        let verdict = self.verdict;
+        if let Verdict::Undecided = verdict {
+            true
+        } else {
+            false
+        }
+    }
+
     // The load is one to see.
     pub(crate) fn is_marked(self) -> bool {
         let verdict = self.verdict;

@@ -101,7 +101,7 @@ fn put_last(page: &mut [u8; PAGE], at: usize, loads: u64, line: u64) -> usize {
     if loads == 0 {
         return at;
     }
-    put_numbers(page, at, b", the last from line #", [line, 0, 0, 0])
+    put_numbers(page, at, b", the last from line #", &[line])
 }
 
 fn put_mark(

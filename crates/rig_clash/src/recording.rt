@@ -3,19 +3,18 @@ use crate::kept;
 use crate::kept::part;
 use crate::outcome::LEVELS;
 use crate::outcome::Outcome;
-use crate::phrase::put_numbers;
+use crate::phrase::put_front;
 use check::same;
 use rig_lines::console::PAGE;
-use rig_lines::console::begin;
 
 // From one sample to the next.
 const GAP: u64 = 50;
 
-// The load that is being read has the name that an argument is.
+// The load that is being read has the name that an argument is; argument 0: any name.
 pub(crate) fn is_asked(kept: &[u8], argument: usize) -> bool {
     let mut space = io::buffer();
     let n = os::arg(argument, &mut space);
-    same(&space[..n], kept::name(kept))
+    (argument == 0) | same(&space[..n], kept::name(kept))
 }
 
 fn stamp(sample: usize) -> u64 {
@@ -27,8 +26,7 @@ fn stamp(sample: usize) -> u64 {
 }
 
 fn put_sample(page: &mut [u8; PAGE], at: usize, sample: usize, level: u8) -> usize {
-    let start = begin(page, at);
-    put_numbers(page, start, b"# #\n", [stamp(sample), level as u64, 0, 0])
+    put_front(page, at, b"", b"# #\n", &[stamp(sample), level as u64])
 }
 
 fn put_samples(page: &mut [u8; PAGE], at: usize, levels: &[u8]) -> usize {

@@ -1,239 +1,215 @@
 // Refusals of a load, in words: what each is about.
-use crate::board::put_message;
 use crate::kept;
 use crate::kept::ACKS;
 use crate::kept::ACKS_AT;
 use crate::load::Load;
 use crate::order;
-use crate::phrase;
+use crate::order::byte_at;
 use crate::phrase::either;
-use crate::phrase::line_of;
-use crate::phrase::put_numbers;
+use crate::phrase::put;
+use crate::phrase::put_front;
+use crate::rows::shifted;
+use arbitration_rules::MAX_LENGTH;
 use load_text::board_of;
 use rig_lines::console::PAGE;
-use text::put_bytes;
+use rig_lines::lists::line_of;
+use text::put_byte;
 
-// A board, by its name or as `board N`; with its line, unless it is for the table.
-fn put_board(
-    page: &mut [u8; PAGE],
-    at: usize,
-    kept: &[u8],
-    load: Load,
-    board: usize,
-    brief: bool,
-) -> usize {
-    let who = put_who(page, at, kept, load.named, board);
-    let words = line_of(b" (line #)", brief as usize);
-    put_numbers(page, who, words, [load.line_of(board), 0, 0, 0])
+// Where a refusal is said: in a block, in the table, or in the block of a night.
+pub(crate) enum Stage {
+    Block,
+    Table,
+    Night,
 }
 
-fn put_who(page: &mut [u8; PAGE], at: usize, kept: &[u8], named: bool, board: usize) -> usize {
-    let words = line_of(b"board #\n$", named as usize);
-    phrase::put(page, at, kept, words, board, [board as u64, 0, 0, 0])
+// The places of the words in their list, by what they are about; where there are two, those of a block stand first,
+// and those of the table after them.
+const SILENT: usize = 0;
+
+const NO_BOARD: usize = 1;
+
+const MANY_BOARDS: usize = 2;
+
+const EMPTY: usize = 4;
+
+const LONG: usize = 6;
+
+const BEGUN_BY_READ: usize = 8;
+
+const RESTARTED_BY_READ: usize = 10;
+
+const ACK_COUNT: usize = 12;
+
+const ACK_VALUE: usize = 14;
+
+// The other message goes on, or ends.
+const ENDED: usize = 16;
+
+const RESTARTED: usize = 18;
+
+const BEGINS: usize = 20;
+
+const RESTARTS: usize = 21;
+
+const UNACKNOWLEDGED: usize = 22;
+
+const NOT_RISING: usize = 23;
+
+const NOT_FITTING: usize = 24;
+
+const LITTLE_ROOM: usize = 25;
+
+// Words by their place, and their numbers.
+struct Words {
+    form: usize,
+    numbers: [u64; 8],
 }
 
-// 12: there is no master, or there are too many: which words say so.
-fn masters_form(load: Load, brief: bool) -> usize {
+fn by(form: usize, a: u64, b: u64, c: u64) -> Words {
+    Words {
+        form,
+        numbers: [a, b, c, 0, 0, 0, 0, 0],
+    }
+}
+
+// 12: there is no master, or there are too many.
+fn masters(load: Load, brief: bool) -> Words {
     if load.named {
-        return 0;
+        return by(SILENT, 0, 0, 0);
     }
-    if load.rows == 0 {
-        return 1;
-    }
-    either(brief, 3, 2)
+    let many = either(brief, MANY_BOARDS + 1, MANY_BOARDS);
+    by(either(load.rows == 0, NO_BOARD, many), load.rows, 0, 0)
 }
 
-fn put_masters(page: &mut [u8; PAGE], at: usize, load: Load, brief: bool) -> usize {
-    let words =
-        b"every board is silent\nno board\n# boards, and at most 16 may start together\n# boards";
-    let form = line_of(words, masters_form(load, brief));
-    put_numbers(page, at, form, [load.rows, 0, 0, 0])
-}
-
-// 13 and 14: a message of no bytes or too many, or one that begins, or restarts, with a read at a place.
-fn message_form(number: u8, length: u32, place: usize, brief: bool) -> usize {
-    if number == 14 {
-        return either(place == 0, either(brief, 4, 3), either(brief, 6, 5));
-    }
-    if length == 0 {
-        return 0;
-    }
-    either(brief, 2, 1)
-}
-
-fn message_number(number: u8, length: u32, read: u8) -> u64 {
-    if number == 14 {
-        read as u64
-    } else {
-        length as u64
-    }
-}
-
-fn put_message_of(
-    page: &mut [u8; PAGE],
-    at: usize,
-    kept: &[u8],
-    load: Load,
-    number: u8,
-    board: usize,
-    brief: bool,
-) -> usize {
-    let length = load.length_of(board);
+// 13: a message of no bytes or too many. 14: one that begins, or restarts, with a read.
+fn of_message(kept: &[u8], load: Load, number: u8, board: usize, brief: bool) -> Words {
     let message = order::message(kept, load, board);
-    let place = order::first_read(message, order::parts(kept, load, board));
-    let words = b" has no bytes\n has # bytes, and at most 64 may be sent\n has # bytes\n\
-        \x20begins with %, which is odd, a read\n begins with %\n\
-        \x20restarts with %, which is odd, a read\n restarts with %";
-    let who = put_board(page, at, kept, load, board, brief);
-    let form = line_of(words, message_form(number, length, place, brief));
-    let said = message_number(number, length, order::byte_at(message, place));
-    put_numbers(page, who, form, [said, 0, 0, 0])
+    let line = load.line_of(board);
+    let table = brief as usize;
+    if number == 14 {
+        let place = order::first_read(message, order::parts(kept, load, board));
+        let form = shifted(table, either(place == 0, BEGUN_BY_READ, RESTARTED_BY_READ));
+        return by(form, board as u64, line, byte_at(message, place) as u64);
+    }
+    let length = load.length_of(board) as u64;
+    let form = shifted(table, either(length == 0, EMPTY, LONG));
+    by(form, board as u64, line, length)
 }
 
-// 15: acknowledges that are not as many as the longest message has bytes.
-fn put_acks(page: &mut [u8; PAGE], at: usize, kept: &[u8], load: Load, brief: bool) -> usize {
+// 15: acknowledges that are not as many as the longest message has bytes, or one above 1.
+fn acknowledges(kept: &[u8], load: Load, brief: bool) -> Words {
+    let acks = kept::part(kept, ACKS_AT, ACKS);
+    if load.acks == load.longest() as usize {
+        let place = order::first_above(acks, 1);
+        let value = byte_at(acks, place) as u64;
+        let form = shifted(ACK_VALUE, brief as usize);
+        return by(form, place as u64, load.ack_line, value);
+    }
     let board = order::longest(load);
     let length = load.length_of(board) as u64;
-    let words = b"# acknowledge~ (line #) for the # byte~ of \n# acknowledge~ for #";
-    let numbers = [load.acks as u64, acks_line(load, length, brief), length, 0];
-    let of = put_numbers(page, at, line_of(words, brief as usize), numbers);
-    put_longest(page, of, kept, load, board, brief)
-}
-
-// The second number of the words: the table has no line.
-fn acks_line(load: Load, length: u64, brief: bool) -> u64 {
-    if brief {
-        return length;
+    let line = load.line_of(board);
+    Words {
+        form: shifted(ACK_COUNT, brief as usize),
+        numbers: [
+            load.acks as u64,
+            load.ack_line,
+            length,
+            board as u64,
+            line,
+            0,
+            0,
+            0,
+        ],
     }
-    load.ack_line
-}
-
-fn put_longest(
-    page: &mut [u8; PAGE],
-    at: usize,
-    kept: &[u8],
-    load: Load,
-    board: usize,
-    brief: bool,
-) -> usize {
-    if brief {
-        return at;
-    }
-    let who = put_board(page, at, kept, load, board, brief);
-    put_bytes(page, who, b", the longest")
-}
-
-// 15: an acknowledge above 1.
-fn put_ack(page: &mut [u8; PAGE], at: usize, kept: &[u8], load: Load, brief: bool) -> usize {
-    let acks = kept::part(kept, ACKS_AT, ACKS);
-    let place = order::first_above(acks, 1);
-    let value = order::byte_at(acks, place) as u64;
-    let words = b"acknowledge # (line #) is #, neither 0 nor 1\nacknowledge # is #";
-    let numbers = [place as u64, acks_line(load, value, brief), value, 0];
-    put_numbers(page, at, line_of(words, brief as usize), numbers)
-}
-
-fn put_acknowledges(
-    page: &mut [u8; PAGE],
-    at: usize,
-    kept: &[u8],
-    load: Load,
-    brief: bool,
-) -> usize {
-    if load.acks == load.longest() as usize {
-        return put_ack(page, at, kept, load, brief);
-    }
-    put_acks(page, at, kept, load, brief)
-}
-
-// A message ends or restarts, acknowledged up to there, where another does not.
-fn put_end(
-    page: &mut [u8; PAGE],
-    at: usize,
-    message: &[u8],
-    parts: &[u8],
-    restarts: bool,
-) -> usize {
-    let words = line_of(b" ends with \n restarts after ", restarts as usize);
-    let ends = put_bytes(page, at, words);
-    let bytes = put_message(page, ends, message, parts);
-    put_bytes(page, bytes, b", acknowledged, where ")
-}
-
-// 16 in a block: what the lesser message does at a place, and what the other does there.
-pub(crate) fn put_parting(
-    page: &mut [u8; PAGE],
-    at: usize,
-    kept: &[u8],
-    load: Load,
-    board: usize,
-    other: usize,
-    place: usize,
-) -> usize {
-    let message = order::message(kept, load, other);
-    let who = put_board(page, at, kept, load, board, false);
-    let bytes = kept::part(order::message(kept, load, board), 0, place);
-    let restarts = order::restarts(kept, load, board, place);
-    let ends = put_end(page, who, bytes, order::parts(kept, load, board), restarts);
-    let whom = put_board(page, ends, kept, load, other, false);
-    let words = line_of(b" goes on with %\n ends", (place >= message.len()) as usize);
-    put_numbers(
-        page,
-        whom,
-        words,
-        [order::byte_at(message, place) as u64, 0, 0, 0],
-    )
 }
 
 // 16 in a row: the one that ends begins the other.
-fn put_pair(
-    page: &mut [u8; PAGE],
-    at: usize,
-    kept: &[u8],
-    load: Load,
-    board: usize,
-    other: usize,
-    place: usize,
-) -> usize {
-    let ends = place >= order::message(kept, load, other).len();
-    let restarts = order::restarts(kept, load, board, place) & !ends;
-    let who = put_board(page, at, kept, load, either(ends, other, board), true);
-    let words = put_bytes(
-        page,
-        who,
-        line_of(b" begins \n restarts in ", restarts as usize),
-    );
-    put_board(page, words, kept, load, either(ends, board, other), true)
+fn pair(board: usize, other: usize, ends: bool, restarts: bool) -> Words {
+    if ends {
+        return by(BEGINS, other as u64, board as u64, 0);
+    }
+    by(
+        either(restarts, RESTARTS, BEGINS),
+        board as u64,
+        other as u64,
+        0,
+    )
 }
 
-// 16: the least message, and another that does not do the same after bytes that are acknowledged.
-fn put_undecided(page: &mut [u8; PAGE], at: usize, kept: &[u8], load: Load, brief: bool) -> usize {
+// 16: a message ends or restarts, acknowledged up to there, where another does not.
+fn parting(kept: &[u8], load: Load, board: usize, other: usize, brief: bool) -> Words {
+    let place = order::front(kept, load, board, other);
+    let message = order::message(kept, load, other);
+    let restarts = order::restarts(kept, load, board, place);
+    let ends = place >= message.len();
+    if brief {
+        return pair(board, other, ends, restarts);
+    }
+    let line = load.line_of(board);
+    let whom = load.line_of(other);
+    let byte = byte_at(message, place) as u64;
+    let from = board as u64;
+    Words {
+        form: shifted(ends as usize, either(restarts, RESTARTED, ENDED)),
+        numbers: [from, line, from, 0, place as u64, other as u64, whom, byte],
+    }
+}
+
+// 16: the least message, and another that does not do the same after bytes that are acknowledged; in a night, where
+// all are, the first that ends or restarts where another does not.
+fn undecided(kept: &[u8], load: Load, stage: Stage) -> Words {
+    if let Stage::Night = stage {
+        let first = order::first_ending(kept, load);
+        return parting(
+            kept,
+            load,
+            first,
+            order::parted_from(kept, load, first, MAX_LENGTH),
+            false,
+        );
+    }
     let acked = order::first_above(kept::part(kept, ACKS_AT, ACKS), 0);
     let board = order::least(kept, load);
-    let other = order::parted_from(kept, load, board, acked);
-    let place = order::front(kept, load, board, other);
-    if brief {
-        return put_pair(page, at, kept, load, board, other, place);
-    }
-    put_parting(page, at, kept, load, board, other, place)
+    parting(
+        kept,
+        load,
+        board,
+        order::parted_from(kept, load, board, acked),
+        is_brief(stage),
+    )
 }
 
-// 40, 41, and 8: the buffers are too short.
-fn other_form(number: u8, brief: bool) -> usize {
+fn is_brief(stage: Stage) -> bool {
+    if let Stage::Table = stage {
+        true
+    } else {
+        false
+    }
+}
+
+// 43: in a night, an acknowledge that is 1.
+fn unacknowledged(kept: &[u8], load: Load) -> Words {
+    let place = order::first_above(kept::part(kept, ACKS_AT, ACKS), 0);
+    by(UNACKNOWLEDGED, place as u64, load.ack_line, 0)
+}
+
+// What a refusal says; place: the master that it is about. 8: the buffers are too short.
+fn words_of(kept: &[u8], load: Load, number: u8, place: usize, stage: Stage) -> Words {
+    let silent = load.silent;
+    let brief = is_brief(stage);
     match number {
-        40 => 0,
-        41 => 1,
-        _ => either(brief, 3, 2),
+        12 => masters(load, brief),
+        13 | 14 => of_message(kept, load, number, board_of(silent, place), brief),
+        15 => acknowledges(kept, load, brief),
+        16 => undecided(kept, load, stage),
+        40 => by(NOT_RISING, 0, 0, 0),
+        41 => by(NOT_FITTING, 0, 0, 0),
+        43 => unacknowledged(kept, load),
+        _ => by(shifted(LITTLE_ROOM, brief as usize), 0, 0, 0),
     }
 }
 
-fn put_other(page: &mut [u8; PAGE], at: usize, number: u8, brief: bool) -> usize {
-    let words = b"the boards do not rise\nthe lengths do not fit\n\
-        the reply needs more room than was lent\ntoo little room";
-    put_bytes(page, at, line_of(words, other_form(number, brief)))
-}
-
-// What a refusal says; place: the master that it is about.
+// The number of a refusal and what it says, after a word.
 pub(crate) fn put_words(
     page: &mut [u8; PAGE],
     at: usize,
@@ -241,30 +217,26 @@ pub(crate) fn put_words(
     load: Load,
     number: u8,
     place: usize,
-    brief: bool,
+    stage: Stage,
 ) -> usize {
-    let silent = load.silent;
-    let board = board_of(silent, place);
-    match number {
-        12 => put_masters(page, at, load, brief),
-        13 => put_message_of(page, at, kept, load, number, board, brief),
-        14 => put_message_of(page, at, kept, load, number, board, brief),
-        15 => put_acknowledges(page, at, kept, load, brief),
-        16 => put_undecided(page, at, kept, load, brief),
-        _ => put_other(page, at, number, brief),
-    }
-}
-
-// `refused N: `
-pub(crate) fn put_number(page: &mut [u8; PAGE], at: usize, kept: &[u8], number: u8) -> usize {
-    phrase::put_line(
-        page,
-        at,
-        kept,
-        b"  refused #: ",
-        0,
-        [number as u64, 0, 0, 0],
-    )
+    let words = words_of(kept, load, number, place, stage);
+    let numbers = words.numbers;
+    let list =
+        b"every board is silent\nno board\n# boards, and at most 16 may start together\n# boards\n\
+        $ (line #) has no bytes\n$ has no bytes\n\
+        $ (line #) has # bytes, and at most 64 may be sent\n$? has # bytes\n\
+        $ (line #) begins with %, which is odd, a read\n$? begins with %\n\
+        $ (line #) restarts with %, which is odd, a read\n$? restarts with %\n\
+        # acknowledge~ (line #) for the # byte~ of $ (line #), the longest\n# acknowledge~? for #\n\
+        acknowledge # (line #) is #, neither 0 nor 1\nacknowledge #? is #\n\
+        $ (line #) ends with &, acknowledged, where $ (line #) goes on with %\n\
+        $ (line #) ends with &, acknowledged, where $ (line #) ends\n\
+        $ (line #) restarts after &, acknowledged, where $ (line #) goes on with %\n\
+        $ (line #) restarts after &, acknowledged, where $ (line #) ends\n\
+        $ begins $\n$ restarts in $\n\
+        acknowledge # (line #) is 1, and in a night every byte is acknowledged\n\
+        the boards do not rise\nthe lengths do not fit\nthe reply needs more room than was lent\ntoo little room";
+    put(page, at, kept, line_of(list, words.form), &numbers)
 }
 
 // The line of a refused load.
@@ -275,8 +247,9 @@ pub(crate) fn put_line(
     load: Load,
     number: u8,
     place: usize,
+    stage: Stage,
 ) -> usize {
-    let front = put_number(page, at, kept, number);
-    let words = put_words(page, front, kept, load, number, place, false);
-    put_bytes(page, words, b"\n")
+    let front = put_front(page, at, kept, b"  refused #: ", &[number as u64]);
+    let words = put_words(page, front, kept, load, number, place, stage);
+    put_byte(page, words, b'\n')
 }

@@ -1,11 +1,13 @@
 // The registers of a board at the end of a rehearsal, with the flags that are 1 by their names, and the flags that its
 // writes cleared.
-use crate::board::put_begin;
+use crate::board::message_column;
+use crate::board::number_column;
 use crate::load::Load;
 use crate::outcome::Outcome;
+use crate::phrase::put_front;
 use crate::phrase::put_numbers;
 use rig_lines::console::PAGE;
-use rig_lines::console::put_line;
+use rig_lines::lists::line_of;
 use text::put_byte;
 use text::put_bytes;
 use usi::Usi;
@@ -15,12 +17,12 @@ fn shifted(byte: u8) -> u8 {
     byte % 128 * 2
 }
 
-fn put_flag(page: &mut [u8; PAGE], at: usize, byte: u8, names: &[u8], place: usize) -> usize {
+fn put_flag(page: &mut [u8; PAGE], at: usize, byte: u8, name: &[u8]) -> usize {
     if byte < 128 {
         return at;
     }
     let space = put_byte(page, at, b' ');
-    put_line(page, space, names, place)
+    put_bytes(page, space, name)
 }
 
 // The names of the bits that are 1, from bit 7 down; each stands in a line of its own.
@@ -29,7 +31,7 @@ fn put_flags(page: &mut [u8; PAGE], at: usize, byte: u8, names: &[u8]) -> usize 
     let mut rest = byte;
     let mut place: usize = 0;
     while place < 8 {
-        next = put_flag(page, next, rest, names, place);
+        next = put_flag(page, next, rest, line_of(names, place));
         rest = shifted(rest);
         place += 1;
     }
@@ -41,7 +43,7 @@ fn put_register(
     page: &mut [u8; PAGE],
     at: usize,
     words: &[u8],
-    numbers: [u64; 4],
+    numbers: &[u64],
     bits: u8,
     names: &[u8],
 ) -> usize {
@@ -49,43 +51,35 @@ fn put_register(
     put_flags(page, word, bits, names)
 }
 
-fn put_control(page: &mut [u8; PAGE], at: usize, usi: Usi) -> usize {
+// All registers of a board, and the flags that its writes cleared.
+fn put_registers(page: &mut [u8; PAGE], at: usize, usi: Usi, cleared: u8) -> usize {
     let low = usi.usictl0;
     let high = usi.usictl1;
+    let clock = usi.usickctl;
+    let count = usi.usicnt;
+    let clocks = [clock as u64, (clock / 32) as u64, (clock / 4 % 8) as u64];
+    let counter = [count as u64];
+    let counts = [(count % 32) as u64, usi.usisrl as u64, usi.usisrh as u64];
+    let clock_flags = clock % 4 * 64;
+    let counter_flags = count / 32 * 32;
+    let cleared_flags = cleared % 16 * 16;
     let names = b"PE7\nPE6\nPE5\nLSB\nMST\nGE\nOE\nSWRST";
-    let first = put_register(page, at, b"USICTL0=%", [low as u64, 0, 0, 0], low, names);
-    let other = b"CKPH\nI2C\nSTTIE\nIIE\nAL\nSTP\nSTTIFG\nIFG";
+    let first = put_register(page, at, b"USICTL0=%", &[low as u64], low, names);
+    let others = b"CKPH\nI2C\nSTTIE\nIIE\nAL\nSTP\nSTTIFG\nIFG";
+    let second = put_register(page, first, b", USICTL1=%", &[high as u64], high, others);
+    let words = b", USICKCTL=% DIV=# SSEL=#";
+    let third = put_register(page, second, words, &clocks, clock_flags, b"CKPL\nSWCLK");
+    let flags = b"SCLREL\n16B\nIFGCC";
+    let fourth = put_register(page, third, b", USICNT=%", &counter, counter_flags, flags);
+    let rest = b" CNT=#, USISRL=%, USISRH=%, cleared";
     put_register(
         page,
-        first,
-        b", USICTL1=%",
-        [high as u64, 0, 0, 0],
-        high,
-        other,
+        fourth,
+        rest,
+        &counts,
+        cleared_flags,
+        b"AL\nSTP\nSTTIFG\nIFG",
     )
-}
-
-fn put_clock(page: &mut [u8; PAGE], at: usize, usi: Usi) -> usize {
-    let byte = usi.usickctl;
-    let numbers = [byte as u64, (byte / 32) as u64, (byte / 4 % 8) as u64, 0];
-    let words = b", USICKCTL=% DIV=# SSEL=#";
-    put_register(page, at, words, numbers, byte % 4 * 64, b"CKPL\nSWCLK")
-}
-
-// The rest of the registers, after the clock's.
-fn put_count(page: &mut [u8; PAGE], at: usize, usi: Usi) -> usize {
-    let byte = usi.usicnt;
-    let numbers = [byte as u64, 0, 0, 0];
-    let names = b"SCLREL\n16B\nIFGCC";
-    let flags = put_register(page, at, b", USICNT=%", numbers, byte / 32 * 32, names);
-    let rest = [(byte % 32) as u64, usi.usisrl as u64, usi.usisrh as u64, 0];
-    put_numbers(page, flags, b" CNT=#, USISRL=%, USISRH=%", rest)
-}
-
-fn put_cleared(page: &mut [u8; PAGE], at: usize, cleared: u8) -> usize {
-    let word = put_bytes(page, at, b", cleared");
-    let flags = put_flags(page, word, cleared % 16 * 16, b"AL\nSTP\nSTTIFG\nIFG");
-    put_byte(page, flags, b'\n')
 }
 
 fn put_board(
@@ -100,25 +94,28 @@ fn put_board(
         return at;
     }
     let seat = outcome.seat_of(load, board);
-    let start = put_begin(page, at, kept, load, b"  regs   ", board);
-    let usi = outcome.module_of(load, board);
-    let control = put_control(page, start, usi);
-    let clock = put_clock(page, control, usi);
-    let count = put_count(page, clock, usi);
-    put_cleared(page, count, seat.cleared)
+    let numbers = [
+        number_column(load, board),
+        board as u64,
+        message_column(load) as u64,
+    ];
+    let start = put_front(page, at, kept, b"  regs   _@_", &numbers);
+    let registers = put_registers(page, start, outcome.module_of(load, board), seat.cleared);
+    put_byte(page, registers, b'\n')
 }
 
-// A line for each board that is not silent.
+// A line for each of so many boards that is not silent.
 pub(crate) fn put_all(
     page: &mut [u8; PAGE],
     at: usize,
     kept: &[u8],
     load: Load,
     outcome: Outcome,
+    boards: usize,
 ) -> usize {
     let mut next = at;
     let mut board: usize = 0;
-    while board < load.boards {
+    while board < boards {
         next = put_board(page, next, kept, load, outcome, board);
         board += 1;
     }

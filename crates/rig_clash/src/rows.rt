@@ -77,22 +77,13 @@ pub(crate) fn first_of(row: usize) -> usize {
     least(row, MAX_LENGTH) * ROW
 }
 
-// What follows a byte: another byte, a repeated START, or STOP.
-pub(crate) enum Next {
-    Byte,
-    Restart,
-    Stop,
-}
-
-pub(crate) fn next_of(parts: &[u8], byte: usize, count: usize) -> Next {
+// What follows a byte: 0, another byte; 1, a repeated START; 2, STOP.
+pub(crate) fn next_of(parts: &[u8], byte: usize, count: usize) -> usize {
     let next = after(byte);
     if next >= count {
-        return Next::Stop;
+        return 2;
     }
-    if byte_at(parts, next) > 0 {
-        return Next::Restart;
-    }
-    Next::Byte
+    (byte_at(parts, next) > 0) as usize
 }
 
 // A board lost at a byte from one on, before another.
@@ -136,20 +127,4 @@ pub(crate) fn losers(load: Load, outcome: Outcome, first: usize, end: usize) -> 
         board += 1;
     }
     count
-}
-
-// The symbol of a bit, from the first on: a byte's bits, then whether it was acknowledged.
-pub(crate) fn bit_symbol(byte: u8, ack: u8, bit: usize) -> u8 {
-    if bit >= BITS - 1 {
-        return acknowledge_symbol(ack);
-    }
-    binary((byte >> (7 - bit)) % 2 == 1)
-}
-
-fn binary(one: bool) -> u8 {
-    if one { b'1' } else { b'0' }
-}
-
-fn acknowledge_symbol(ack: u8) -> u8 {
-    if ack == 0 { b'A' } else { b'N' }
 }

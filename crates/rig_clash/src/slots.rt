@@ -79,13 +79,16 @@ pub(crate) fn is_met(kept: &[u8], correction: usize) -> bool {
     byte_at(slot(kept, correction), 0) == MET
 }
 
-pub(crate) fn meet(kept: &mut [u8; ROOM], correction: usize) {
-    put_byte(kept, slot_of(correction), MET);
-}
-
 // It is for the load whose name is kept.
 pub(crate) fn is_current(kept: &[u8], correction: usize) -> bool {
     same(load(kept, correction), kept::name(kept))
+}
+
+// A correction for the load whose name is kept was met.
+pub(crate) fn meet(kept: &mut [u8; ROOM], correction: usize) {
+    if is_current(kept, correction) {
+        put_byte(kept, slot_of(correction), MET);
+    }
 }
 
 // The first of so many corrections that is for a load, else their number.
@@ -116,26 +119,6 @@ pub(crate) fn find(kept: &[u8], count: usize, board_name: &[u8]) -> usize {
     count
 }
 
-// A board's name and line, and its message, in a slot.
-fn put_board(
-    slot: &mut [u8; SLOT],
-    name: &[u8],
-    line: u64,
-    row: &[u8; MAX_LENGTH],
-    parts: &[u8; MAX_LENGTH],
-    length: u8,
-) {
-    put_bytes(slot, BOARD_AT, name);
-    put_decimal(slot, LINE_AT, line);
-    put_byte(slot, LENGTH_AT, length);
-    put_bytes(slot, BYTES_AT, row);
-    put_bytes(slot, PARTS_AT, parts);
-}
-
-fn put_slot(kept: &mut [u8; ROOM], correction: usize, slot: &[u8; SLOT]) {
-    put_bytes(kept, slot_of(correction), slot);
-}
-
 // Keeps the correction of a board of the load whose name is kept; row: its bytes, so many; parts: where they begin.
 pub(crate) fn keep(
     kept: &mut [u8; ROOM],
@@ -150,6 +133,10 @@ pub(crate) fn keep(
     let mut slot = [0u8; SLOT];
     put_bytes(&mut slot, LOAD_AT, kept::name(kept));
     put_decimal(&mut slot, LOAD_LINE_AT, load_line);
-    put_board(&mut slot, board_name, line, row, parts, length);
-    put_slot(kept, correction, &slot);
+    put_bytes(&mut slot, BOARD_AT, board_name);
+    put_decimal(&mut slot, LINE_AT, line);
+    put_byte(&mut slot, LENGTH_AT, length);
+    put_bytes(&mut slot, BYTES_AT, row);
+    put_bytes(&mut slot, PARTS_AT, parts);
+    put_bytes(kept, slot_of(correction), &slot);
 }

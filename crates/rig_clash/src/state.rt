@@ -130,7 +130,7 @@ impl State {
         if self.load.open {
             return self.broken();
         }
-        self.with_tally(self.tally.with_fault())
+        self.faulted()
     }
 
     // A fault, whether a load is being read or not.
@@ -157,20 +157,13 @@ impl State {
         self
     }
 
-    // The line that is read is wrong: it costs the load that is being read, and is a fault where there is none.
+    // The line that is read is wrong.
     pub(crate) fn wrong(self, form: usize, word: &[u8], number: u64) -> State {
         self.with_problem(self.source.line, form, word, number)
-            .blamed()
     }
 
-    // The same without a word.
-    pub(crate) fn wrong_by(self, form: usize, number: u64) -> State {
-        self.wrong(form, b"", number)
-    }
-
-    // The same without a word or a number.
-    pub(crate) fn plainly_wrong(self, form: usize) -> State {
-        self.wrong_by(form, 0)
+    pub(crate) fn is_wrong(self) -> bool {
+        !self.problem.is_none()
     }
 
     // No board of the file has that name.

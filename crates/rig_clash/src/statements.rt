@@ -6,16 +6,13 @@ use crate::forms;
 use crate::kept::ROOM;
 use crate::lines;
 use crate::opening;
-use crate::phrase::place_of;
-use crate::sources;
+use crate::phrase::put_note;
 use crate::state::File;
 use crate::state::State;
 use rig_lines::console::PAGE;
-use rig_lines::console::begin;
-use rig_lines::console::note;
+use rig_lines::lists::place_of;
 use text::after_word;
 use text::first_word;
-use text::put_bytes;
 
 pub(crate) enum Statement {
     Boards,
@@ -40,33 +37,6 @@ pub(crate) fn named(word: &[u8]) -> Statement {
     }
 }
 
-// A note that a file is in the old form; answers where the page goes on.
-fn put_numbered(page: &mut [u8; PAGE], at: usize, argument: usize) -> usize {
-    let start = begin(page, at);
-    let name = sources::put_line(page, start, sources::NOTE, argument);
-    let words = b": no boards line, so boards are numbered by their rows\n";
-    let said = put_bytes(page, name, words);
-    note(page, start, said)
-}
-
-// The first `load` of a file in the old form.
-fn with_first_load(
-    page: &mut [u8; PAGE],
-    kept: &mut [u8; ROOM],
-    mut state: State,
-    rest: &[u8],
-) -> State {
-    state.file.numbered = true;
-    let at = put_numbered(page, state.at, state.source.argument);
-    opening::with_load(kept, state.moved(at), rest)
-}
-
-// `load`: the load before it is finished first.
-fn with_load(page: &mut [u8; PAGE], kept: &mut [u8; ROOM], state: State, rest: &[u8]) -> State {
-    let before = finish::finish(page, kept, state);
-    opening::with_load(kept, before, rest)
-}
-
 // What a line of a file does. In the old form the first load and a board differ from those of a file with boards.
 enum Deed {
     Nothing,
@@ -80,7 +50,6 @@ enum Deed {
     Ack,
     Expect,
     SecondBoards,
-    LateBoards,
     First,
     // with these words
     Wrong(usize),
@@ -124,7 +93,7 @@ fn numbered(statement: Statement) -> Deed {
         Statement::Load => Deed::Load,
         Statement::Board => Deed::NumberedBoard,
         Statement::Ack => Deed::Ack,
-        Statement::Boards => Deed::LateBoards,
+        Statement::Boards => Deed::Wrong(forms::LATE_BOARDS),
         _ => Deed::Wrong(forms::NUMBERED),
     }
 }
@@ -154,27 +123,37 @@ fn deed_of(state: State, word: &[u8]) -> Deed {
     stated(state.file, state.load.open, word)
 }
 
-// A line that only says something of the file, or is wrong.
-fn told(state: State, deed: Deed, word: &[u8]) -> State {
-    match deed {
-        Deed::Ended => ending::after_end(state),
-        Deed::SecondBoards => state.wrong_by(forms::SECOND_BOARDS, state.file.boards_line),
-        Deed::LateBoards => state.plainly_wrong(forms::LATE_BOARDS),
-        Deed::First => state.unread(forms::FIRST, word),
-        Deed::Wrong(form) => state.wrong(form, word, 0),
-        _ => state,
-    }
-}
-
-// A line of which something is kept.
+// A line of which something is kept, or that is wrong.
 fn recorded(kept: &mut [u8; ROOM], state: State, deed: Deed, word: &[u8], rest: &[u8]) -> State {
     match deed {
+        Deed::Nothing => state,
         Deed::Boards => boards::with_boards(kept, state, rest),
+        Deed::Load | Deed::FirstLoad => opening::with_load(kept, state, rest),
         Deed::Board => lines::with_board(kept, state, rest),
         Deed::NumberedBoard => lines::with_numbered(kept, state, rest),
         Deed::Ack => lines::with_ack(kept, state, rest),
         Deed::Expect => lines::with_expect(kept, state, rest),
-        _ => told(state, deed, word),
+        Deed::End => ending::with_end(state, rest, forms::COUNTED),
+        Deed::Ended => ending::after_end(state, forms::AFTER_END),
+        Deed::SecondBoards => state.wrong(forms::SECOND_BOARDS, b"", state.file.boards_line),
+        Deed::First => state.unread(forms::FIRST, word),
+        Deed::Wrong(form) => state.wrong(form, word, 0),
+    }
+}
+
+// The first `load` of a file in the old form, of which a note says so.
+fn in_old_form(page: &mut [u8; PAGE], mut state: State) -> State {
+    let words = b"rig: +: no boards line, so boards are numbered by their rows\n";
+    state.file.numbered = true;
+    state.moved(put_note(page, state.at, words, &[state.source.argument as u64]))
+}
+
+// `load` and `end` finish the load before them.
+fn finished(page: &mut [u8; PAGE], kept: &mut [u8; ROOM], state: State, deed: Deed) -> State {
+    match deed {
+        Deed::Load | Deed::End => finish::finish(page, kept, state),
+        Deed::FirstLoad => in_old_form(page, state),
+        _ => state,
     }
 }
 
@@ -185,24 +164,18 @@ pub(crate) fn with_line(
     state: State,
     line: &[u8],
 ) -> State {
-    let word = first_word(line);
-    let rest = after_word(line);
-    let deed = deed_of(state, word);
-    match deed {
-        Deed::Load => with_load(page, kept, state, rest),
-        Deed::FirstLoad => with_first_load(page, kept, state, rest),
-        Deed::End => ending::with_end(page, kept, state, rest),
-        _ => recorded(kept, state, deed, word, rest),
-    }
+    let deed = deed_of(state, first_word(line));
+    let before = finished(page, kept, state, deed);
+    recorded(kept, before, deed, first_word(line), after_word(line))
 }
 
 // A line that is too long or no text.
 pub(crate) fn without_text(state: State, form: usize) -> State {
     if state.file.end_line > 0 {
-        return ending::after_end(state);
+        return ending::after_end(state, forms::AFTER_END);
     }
     if state.file.named | state.file.numbered {
-        return state.plainly_wrong(form);
+        return state.wrong(form, b"", 0);
     }
     state.unread(form, b"")
 }

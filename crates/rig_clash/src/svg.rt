@@ -8,13 +8,13 @@ use crate::load::Load;
 use crate::order;
 use crate::outcome::LEVELS;
 use crate::outcome::Outcome;
-use crate::phrase::line_of;
-use crate::phrase::put_numbers;
+use crate::phrase::put_front;
+use crate::phrase::put_line;
 use crate::rows;
 use crate::rows::shifted;
 use arbitration_rules::MAX_MASTERS;
 use rig_lines::console::PAGE;
-use rig_lines::console::begin;
+use rig_lines::lists::line_of;
 use rig_lines::numbers::least;
 use text::put_byte;
 use text::put_bytes;
@@ -41,8 +41,8 @@ pub(crate) const NAMES: usize = 12;
 
 const LOST: usize = 110;
 
-pub(crate) fn x_of(column: usize) -> usize {
-    LEFT + STEP * least(column, LEVELS)
+pub(crate) fn x_of(column: usize) -> u64 {
+    (LEFT + STEP * least(column, LEVELS)) as u64
 }
 
 // A byte of a text: what XML keeps for itself by its name, and nothing but ASCII.
@@ -71,65 +71,29 @@ fn put_escaped(page: &mut [u8; PAGE], at: usize, text: &[u8]) -> usize {
 
 // The name of the load, and its title.
 fn put_title(page: &mut [u8; PAGE], at: usize, kept: &[u8]) -> usize {
-    let name = put_escaped(page, at, kept::name(kept));
     let title = kept::title(kept);
-    if title.len() == 0 {
-        return name;
-    }
-    let space = put_byte(page, name, b' ');
+    let name = put_escaped(page, at, kept::name(kept));
+    let space = put_bytes(page, name, line_of(b" ", (title.len() == 0) as usize));
     put_escaped(page, space, title)
-}
-
-// A line with numbers in it.
-pub(crate) fn put_line(page: &mut [u8; PAGE], at: usize, words: &[u8], numbers: [u64; 4]) -> usize {
-    let start = begin(page, at);
-    put_numbers(page, start, words, numbers)
-}
-
-// A text begins at a place.
-pub(crate) fn put_begin(page: &mut [u8; PAGE], at: usize, x: usize, y: usize) -> usize {
-    put_line(
-        page,
-        at,
-        b"<text x=\"#\" y=\"#\">",
-        [x as u64, y as u64, 0, 0],
-    )
-}
-
-pub(crate) fn put_end(page: &mut [u8; PAGE], at: usize) -> usize {
-    put_bytes(page, at, b"</text>\n")
-}
-
-// A text, with a number in it.
-pub(crate) fn put_text(
-    page: &mut [u8; PAGE],
-    at: usize,
-    x: usize,
-    y: usize,
-    words: &[u8],
-    number: usize,
-) -> usize {
-    let start = put_begin(page, at, x, y);
-    let text = put_numbers(page, start, words, [number as u64, 0, 0, 0]);
-    put_end(page, text)
 }
 
 // The document begins: how wide and high it is, and what it shows.
 fn put_head(page: &mut [u8; PAGE], at: usize, kept: &[u8], width: usize, height: usize) -> usize {
     let numbers = [width as u64, height as u64, width as u64, height as u64];
-    let root = put_line(
+    let root = put_front(
         page,
         at,
+        b"",
         b"<svg xmlns=\"http://www.w3.org/2000/svg\" width=\"#\" height=\"#\" viewBox=\"0 0 # #\" \
         font-family=\"monospace\" font-size=\"12\">\n<title>",
-        numbers,
+        &numbers,
     );
     let title = put_title(page, root, kept);
     let words =
         b"</title>\n<rect width=\"100%\" height=\"100%\" fill=\"white\"/>\n<text x=\"8\" y=\"20\">";
     let text = put_bytes(page, title, words);
     let again = put_title(page, text, kept);
-    put_end(page, again)
+    put_bytes(page, again, b"</text>\n")
 }
 
 // The bit where a board lost at a byte of a row, shaded.
@@ -153,13 +117,9 @@ fn put_shade(
         return at;
     }
     let x = x_of(rows::lost_column(load, outcome, parts, board, first));
-    let numbers = [x as u64, shifted(y, 16) as u64, 0, 0];
-    let rect = put_line(page, at, b"<rect x=\"#\" y=\"#\" ", numbers);
-    put_bytes(
-        page,
-        rect,
-        b"width=\"24\" height=\"80\" fill=\"#f9e79f\"/>\n",
-    )
+    let words = b"<rect x=\"#\" y=\"#\" width=\"24\" height=\"80\" fill=\"";
+    let rect = put_front(page, at, b"", words, &[x, shifted(y, 16) as u64]);
+    put_bytes(page, rect, b"#f9e79f\"/>\n")
 }
 
 fn put_shades(
@@ -181,20 +141,6 @@ fn put_shades(
 }
 
 // A board that lost: its number, its name, and `lost`.
-fn put_who(page: &mut [u8; PAGE], at: usize, kept: &[u8], load: Load, board: usize) -> usize {
-    let words = line_of(b"#\n# ", load.named as usize);
-    let number = put_numbers(page, at, words, [board as u64, 0, 0, 0]);
-    let name = put_escaped(page, number, named(kept, load, board));
-    put_bytes(page, name, b" lost")
-}
-
-fn named(kept: &[u8], load: Load, board: usize) -> &[u8] {
-    if load.named {
-        return kept::board_name(kept, board);
-    }
-    &kept[..0]
-}
-
 fn put_loser(
     page: &mut [u8; PAGE],
     at: usize,
@@ -204,9 +150,19 @@ fn put_loser(
     column: usize,
     y: usize,
 ) -> usize {
-    let start = put_begin(page, at, x_of(column), y);
-    let who = put_who(page, start, kept, load, board);
-    put_end(page, who)
+    let words = line_of(
+        b"<text x=\"#\" y=\"#\">#\n<text x=\"#\" y=\"#\"># ",
+        load.named as usize,
+    );
+    let number = put_front(
+        page,
+        at,
+        b"",
+        words,
+        &[x_of(column), y as u64, board as u64],
+    );
+    let name = put_escaped(page, number, kept::board_name(kept, board));
+    put_bytes(page, name, b" lost</text>\n")
 }
 
 // The boards that lost in a row, one below the other.
@@ -310,5 +266,5 @@ pub(crate) fn put(
     let head = put_head(page, at, kept, width_of(outcome), height_of(load, outcome));
     let bytes = kept::part(carried, 0, outcome.count);
     let rows = put_rows(page, head, kept, load, outcome, bytes, levels);
-    put_line(page, rows, b"</svg>\n", [0; 4])
+    put_line(page, rows, b"", true, b"</svg>", &[])
 }

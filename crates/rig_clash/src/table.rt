@@ -1,86 +1,50 @@
 // The table: a row for each load.
-use crate::board::before;
 use crate::columns::cut;
 use crate::columns::fit;
-use crate::kept;
 use crate::list;
-use crate::list::Style;
 use crate::load::Load;
 use crate::outcome::Outcome;
-use crate::phrase;
 use crate::phrase::either;
-use crate::phrase::line_of;
+use crate::phrase::put;
 use crate::phrase::put_numbers;
 use crate::refusals;
+use crate::refusals::Stage;
+use crate::rows::before;
+use crate::rows::less;
+use crate::rows::shifted;
 use rig_lines::console::PAGE;
 use rig_lines::console::begin;
-use rig_lines::console::put_padded;
-use rig_lines::console::put_spaces;
+use rig_lines::lists::line_of;
 use text::put_byte;
 use text::put_bytes;
 use verdict::Verdict;
 
-// The columns: a load's name, its name and title, the winner, the verdict.
-const NAME: usize = 10;
+// The columns after a load's name, and after its title; those of the winner, and of the verdict.
+const NAME: u64 = 12;
 
-const LOAD: usize = 25;
+const LOAD: usize = 27;
 
 const WINNER: usize = 9;
 
 const VERDICT: usize = 36;
 
-pub(crate) fn put_header(page: &mut [u8; PAGE], at: usize) -> usize {
-    put_bytes(
-        page,
-        at,
-        b"  load       title          winner    bytes verdict\n",
-    )
-}
-
-// The load's name and title, after the mark of a load to see.
+// A load's name and title, after the mark of a load to see.
 fn put_load(page: &mut [u8; PAGE], at: usize, kept: &[u8], marked: bool) -> usize {
-    let start = put_mark(page, at, marked);
-    let name = put_padded(page, start, kept::name(kept), NAME);
-    let title = put_title(page, name, kept::title(kept));
+    let start = begin(page, at);
+    let title = put(
+        page,
+        start,
+        kept,
+        line_of(b"  *_[\n! *_[", marked as usize),
+        &[NAME],
+    );
     let fitted = fit(page, start, title, LOAD);
     put_byte(page, fitted, b' ')
 }
 
-fn put_mark(page: &mut [u8; PAGE], at: usize, marked: bool) -> usize {
-    put_bytes(page, at, line_of(b"  \n! ", marked as usize))
-}
-
-pub(crate) fn put_title(page: &mut [u8; PAGE], at: usize, title: &[u8]) -> usize {
-    if title.len() == 0 {
-        return at;
-    }
-    let space = put_byte(page, at, b' ');
-    put_bytes(page, space, title)
-}
-
-// No winner and no bytes.
-fn put_none(page: &mut [u8; PAGE], at: usize) -> usize {
-    put_bytes(page, at, b"-             - ")
-}
-
-// One number less another, and no less than 0.
-fn less(a: usize, b: usize) -> usize {
-    if a > b { a - b } else { 0 }
-}
-
-// The spaces before two numbers of one or two digits, which the column is wide enough for.
-fn indent(count: usize, length: usize) -> usize {
-    if (count > 9) & (length > 9) {
-        return 0;
-    }
-    either((count > 9) | (length > 9), 1, 2)
-}
-
-// The bytes carried, of how many, to the right.
-fn put_ratio(page: &mut [u8; PAGE], at: usize, outcome: Outcome) -> usize {
-    let start = put_spaces(page, at, indent(outcome.count, outcome.length));
-    let numbers = [outcome.count as u64, outcome.length as u64, 0, 0];
-    put_numbers(page, start, b"#/# ", numbers)
+// The column of two numbers of one or two digits, which stand at the right.
+fn ratio_column(count: usize, length: usize) -> usize {
+    shifted(either(count > 9, 1, 2), either(length > 9, 0, 1))
 }
 
 // Who is still in, and how much of the message was carried.
@@ -91,109 +55,30 @@ fn put_winner(
     load: Load,
     outcome: Outcome,
 ) -> usize {
-    let style = Style {
-        form: load.named as usize,
-        spaced: false,
-    };
-    let who = list::put_all(page, at, kept, outcome.others(load), style);
-    let fitted = fit(page, at, who, WINNER);
-    let space = put_byte(page, fitted, b' ');
-    put_ratio(page, space, outcome)
-}
-
-fn put_middle(
-    page: &mut [u8; PAGE],
-    at: usize,
-    kept: &[u8],
-    load: Load,
-    outcome: Outcome,
-) -> usize {
     let verdict = outcome.verdict;
     match verdict {
-        Verdict::Refused(_) => put_none(page, at),
-        Verdict::Undecided => put_none(page, at),
-        _ => put_winner(page, at, kept, load, outcome),
+        Verdict::Refused(_) | Verdict::Undecided => put_bytes(page, at, b"-             - "),
+        _ => {
+            let style = either(load.named, list::TIGHT_NAMES, list::TIGHT_NUMBERS);
+            let who = list::put_all(page, at, kept, style, outcome.others(load));
+            let fitted = fit(page, at, who, WINNER);
+            let column = ratio_column(outcome.count, outcome.length);
+            let numbers = [column as u64, outcome.count as u64, outcome.length as u64];
+            put_numbers(page, fitted, b" _#/# ", &numbers)
+        }
     }
 }
 
-fn put_sent(page: &mut [u8; PAGE], at: usize, load: Load) -> usize {
-    put_bytes(
-        page,
-        at,
-        line_of(b"sent, no ack line\nsent", (load.ack_line > 0) as usize),
-    )
-}
-
-fn put_cut(page: &mut [u8; PAGE], at: usize, outcome: Outcome) -> usize {
-    let rest = less(outcome.length, outcome.count) as u64;
-    let numbers = [before(outcome.count), outcome.last as u64, rest, 0];
-    let words = b"CUT at byte # (%), the last\nCUT at byte # (%), # not sent";
-    put_numbers(page, at, line_of(words, (rest > 0) as usize), numbers)
-}
-
-fn put_undecided(
-    page: &mut [u8; PAGE],
-    at: usize,
-    kept: &[u8],
-    load: Load,
-    outcome: Outcome,
-) -> usize {
-    let style = Style {
-        form: load.named as usize,
-        spaced: true,
-    };
-    let numbers = [before(outcome.count), 0, 0, 0];
-    let byte = put_numbers(page, at, b"UNDECIDED at byte #: ", numbers);
-    list::put_all(page, byte, kept, outcome.others(load), style)
-}
-
-fn put_refused(
-    page: &mut [u8; PAGE],
-    at: usize,
-    kept: &[u8],
-    load: Load,
-    number: u8,
-    place: usize,
-) -> usize {
-    let word = put_numbers(page, at, b"REFUSED #: ", [number as u64, 0, 0, 0]);
-    refusals::put_words(page, word, kept, load, number, place, true)
-}
-
-// The verdict of a load that went as expected.
-fn put_expected(
-    page: &mut [u8; PAGE],
-    at: usize,
-    kept: &[u8],
-    load: Load,
-    outcome: Outcome,
-) -> usize {
-    let verdict = outcome.verdict;
+// The words about a load that was not refused; unsent: a part of a message was not sent.
+fn form_of(verdict: Verdict, acked: bool, unsent: bool) -> usize {
     match verdict {
-        Verdict::Refused(number) => put_refused(page, at, kept, load, number, outcome.place),
-        Verdict::Undecided => put_undecided(page, at, kept, load, outcome),
-        Verdict::Cut(_) => put_cut(page, at, outcome),
-        Verdict::Sent(_) => put_sent(page, at, load),
+        Verdict::Sent(_) => acked as usize,
+        Verdict::Cut(_) => either(unsent, 3, 2),
+        _ => 4,
     }
 }
 
-// What was expected; where it was sent there is no more to say.
-fn put_unexpected(
-    page: &mut [u8; PAGE],
-    at: usize,
-    kept: &[u8],
-    load: Load,
-    outcome: Outcome,
-) -> usize {
-    let numbers = [load.carried, load.length, 0, 0];
-    let ratio = phrase::put(page, at, kept, b"EXPECTED $ #/#", load.winner, numbers);
-    let verdict = outcome.verdict;
-    if let Verdict::Sent(_) = verdict {
-        return ratio;
-    }
-    let next = put_bytes(page, ratio, b", ");
-    put_expected(page, next, kept, load, outcome)
-}
-
+// Where a message was sent and another was expected, there is no more to say.
 fn put_verdict(
     page: &mut [u8; PAGE],
     at: usize,
@@ -201,10 +86,37 @@ fn put_verdict(
     load: Load,
     outcome: Outcome,
 ) -> usize {
-    if outcome.expected | outcome.is_refused() {
-        return put_expected(page, at, kept, load, outcome);
+    let verdict = outcome.verdict;
+    if let Verdict::Refused(number) = verdict {
+        let word = put_numbers(page, at, b"REFUSED #: ", &[number as u64]);
+        return refusals::put_words(page, word, kept, load, number, outcome.place, Stage::Table);
     }
-    put_unexpected(page, at, kept, load, outcome)
+    let rest = less(outcome.length, outcome.count);
+    let form = form_of(verdict, load.ack_line > 0, rest > 0);
+    let words = b"sent, no ack line\nsent\n???CUT at byte # (%), the last\n\
+        ???CUT at byte # (%), # not sent\n???UNDECIDED at byte #: \nEXPECTED $ #/#\nEXPECTED $ #/#\n\
+        EXPECTED $ #/#, CUT at byte # (%), the last\nEXPECTED $ #/#, CUT at byte # (%), # not sent\n\
+        EXPECTED $ #/#, UNDECIDED at byte #: ";
+    let numbers = [
+        load.winner as u64,
+        load.carried,
+        load.length,
+        before(outcome.count) as u64,
+        outcome.last as u64,
+        rest as u64,
+    ];
+    let said = put(
+        page,
+        at,
+        kept,
+        line_of(words, shifted(form, either(outcome.expected, 0, 5))),
+        &numbers,
+    );
+    if outcome.is_undecided() {
+        let style = either(load.named, list::NAMES, list::NUMBERS);
+        return list::put_all(page, said, kept, style, outcome.others(load));
+    }
+    said
 }
 
 // The row of a load that was rehearsed.
@@ -215,9 +127,8 @@ pub(crate) fn put_row(
     load: Load,
     outcome: Outcome,
 ) -> usize {
-    let start = begin(page, at);
-    let front = put_load(page, start, kept, outcome.is_marked());
-    let middle = put_middle(page, front, kept, load, outcome);
+    let front = put_load(page, at, kept, outcome.is_marked());
+    let middle = put_winner(page, front, kept, load, outcome);
     let words = put_verdict(page, middle, kept, load, outcome);
     let end = cut(page, middle, words, VERDICT);
     put_byte(page, end, b'\n')
@@ -225,8 +136,6 @@ pub(crate) fn put_row(
 
 // The row of a load in error.
 pub(crate) fn put_broken(page: &mut [u8; PAGE], at: usize, kept: &[u8]) -> usize {
-    let start = begin(page, at);
-    let front = put_load(page, start, kept, true);
-    let middle = put_none(page, front);
-    put_bytes(page, middle, b"ERROR: not rehearsed\n")
+    let front = put_load(page, at, kept, true);
+    put_bytes(page, front, b"-             - ERROR: not rehearsed\n")
 }

@@ -1,10 +1,11 @@
 // How the loads went, counted over all files, and the last two lines.
 use crate::kept::ROOM;
-use crate::phrase::line_of;
+use crate::phrase::put_front;
 use crate::phrase::put_numbers;
 use crate::seen;
 use rig_lines::console::PAGE;
-use rig_lines::console::begin;
+use rig_lines::lists::line_of;
+use rig_lines::numbers::least_number;
 use rig_lines::numbers::more;
 use text::put_byte;
 use text::put_bytes;
@@ -104,14 +105,9 @@ impl Tally {
         }
     }
 
-    // It may have had no ack line, where it was not refused.
-    pub(crate) fn with_unacked(mut self, unacked: bool) -> Tally {
+    // It may have had no ack line, where it was not refused, and corrections may have been laid over it.
+    pub(crate) fn with_notes(mut self, unacked: bool, corrected: bool) -> Tally {
         self.unacked = counted(self.unacked, unacked);
-        self
-    }
-
-    // Corrections may have been laid over it.
-    pub(crate) fn with_corrected(mut self, corrected: bool) -> Tally {
         self.corrected = counted(self.corrected, corrected);
         self
     }
@@ -155,28 +151,13 @@ fn counted(count: u64, counts: bool) -> u64 {
     count
 }
 
-// The first word of the last line, and the loads.
-fn put_word(page: &mut [u8; PAGE], at: usize, tally: Tally) -> usize {
-    let words = line_of(b"ok \nlook \nrefused #: \nerror ", tally.word());
-    let word = put_numbers(page, at, words, [tally.number as u64, 0, 0, 0]);
-    put_numbers(page, word, b"# load~: ", [tally.loads, 0, 0, 0])
-}
-
-// What stands between the items of a list that begins at a position: nothing in front of the first.
-fn put_between(page: &mut [u8; PAGE], from: usize, at: usize) -> usize {
-    if at > from {
-        return put_bytes(page, at, b", ");
-    }
-    at
-}
-
-// An item of the list, where there is something to count.
+// An item of the list that begins at a position, where there is something to count.
 fn put_item(page: &mut [u8; PAGE], from: usize, at: usize, count: u64, words: &[u8]) -> usize {
     if count == 0 {
         return at;
     }
-    let next = put_between(page, from, at);
-    put_numbers(page, next, words, [count, 0, 0, 0])
+    let next = put_bytes(page, at, line_of(b"\n, ", (at > from) as usize));
+    put_numbers(page, next, words, &[count])
 }
 
 // The items of the list, each with its words, which stand in a line each.
@@ -190,8 +171,11 @@ fn put_items(page: &mut [u8; PAGE], from: usize, counts: [u64; ITEMS], words: &[
     next
 }
 
-// What was rehearsed, and what else there was.
-fn put_counts(page: &mut [u8; PAGE], from: usize, tally: Tally) -> usize {
+// The last line: a word, what was rehearsed, and what else there was.
+pub(crate) fn put_last(page: &mut [u8; PAGE], at: usize, tally: Tally) -> usize {
+    let words = b"ok ?# load~: \nlook ?# load~: \nrefused #: # load~: \nerror ?# load~: ";
+    let numbers = [tally.number as u64, tally.loads];
+    let from = put_front(page, at, b"", line_of(words, tally.word()), &numbers);
     let counts = [
         tally.sent,
         tally.cut,
@@ -203,38 +187,35 @@ fn put_counts(page: &mut [u8; PAGE], from: usize, tally: Tally) -> usize {
         tally.corrected,
         tally.faults,
     ];
-    put_items(
+    let end = put_items(
         page,
         from,
         counts,
         b"# sent\n# cut\n# undecided\n# not as expected\n# refused\n# in error\n\
         # without an ack line\n# corrected\n# fault~ outside the loads",
-    )
-}
-
-// The last line.
-pub(crate) fn put_last(page: &mut [u8; PAGE], at: usize, tally: Tally) -> usize {
-    let start = begin(page, at);
-    let from = put_word(page, start, tally);
-    let end = put_counts(page, from, tally);
+    );
     put_byte(page, end, b'\n')
 }
 
 // The line before it, where there are loads to see.
-pub(crate) fn put_seen(page: &mut [u8; PAGE], at: usize, kept: &[u8], tally: Tally) -> usize {
+pub(crate) fn put_seen(
+    page: &mut [u8; PAGE],
+    at: usize,
+    kept: &[u8],
+    tally: Tally,
+    shown: bool,
+) -> usize {
     let names = seen::names(kept);
-    if names.len() == 0 {
+    if (names.len() == 0) | !shown {
         return at;
     }
-    let start = begin(page, at);
-    let word = put_bytes(page, start, b"see");
+    let word = put_front(page, at, kept, b"see", &[]);
     let all = put_bytes(page, word, names);
-    put_more(page, all, tally.others)
-}
-
-fn put_more(page: &mut [u8; PAGE], at: usize, others: u64) -> usize {
-    if others == 0 {
-        return put_byte(page, at, b'\n');
-    }
-    put_numbers(page, at, b" and # more\n", [others, 0, 0, 0])
+    let more = put_numbers(
+        page,
+        all,
+        line_of(b"\n and # more", least_number(tally.others, 1) as usize),
+        &[tally.others],
+    );
+    put_byte(page, more, b'\n')
 }

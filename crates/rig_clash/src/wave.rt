@@ -1,6 +1,5 @@
 // The bytes carried with their acknowledges, and the lines of the bus as text, a character a sample, as logic
 // analysers print them, in rows with the bytes and bits above and the losers below.
-use crate::columns::pad;
 use crate::kept;
 use crate::kept::ACKS;
 use crate::kept::ACKS_AT;
@@ -8,32 +7,22 @@ use crate::load::Load;
 use crate::order;
 use crate::order::byte_at;
 use crate::outcome::Outcome;
-use crate::phrase;
 use crate::phrase::either;
-use crate::phrase::line_of;
+use crate::phrase::gap_of;
+use crate::phrase::put_front;
+use crate::phrase::put_in;
+use crate::phrase::put_line;
+use crate::phrase::put_numbers;
 use crate::rows;
-use crate::rows::Next;
 use crate::rows::shifted;
 use rig_lines::console::PAGE;
 use rig_lines::console::begin;
+use rig_lines::lists::line_of;
 use rig_lines::numbers::least;
 use text::put_byte;
-use text::put_bytes;
-use text::put_hex_byte;
 
 // The columns in front of a row.
 const FRONT: usize = 10;
-
-// The words about a byte with an acknowledge: all but the first have a comma, or a `/` where the bus restarted.
-fn form_of(ack: u8, part: u8, i: usize) -> usize {
-    if i == 0 {
-        return either(ack == 0, 1, 0);
-    }
-    if part > 0 {
-        return either(ack == 0, 5, 4);
-    }
-    either(ack == 0, 3, 2)
-}
 
 // A byte that was carried, and its acknowledge.
 fn put_byte_at(
@@ -44,11 +33,17 @@ fn put_byte_at(
     parts: &[u8],
     i: usize,
 ) -> usize {
-    let words = line_of(
-        b"% NACK\n% ACK\n, % NACK\n, % ACK\n / % NACK\n / % ACK",
-        form_of(byte_at(acks, i), byte_at(parts, i), i),
+    let words = b"% ACK\n, % ACK\n / % ACK\n% NACK\n, % NACK\n / % NACK";
+    let form = shifted(
+        gap_of(i, byte_at(parts, i)),
+        either(byte_at(acks, i) == 0, 0, 3),
     );
-    phrase::put_numbers(page, at, words, [byte_at(carried, i) as u64, 0, 0, 0])
+    put_numbers(
+        page,
+        at,
+        line_of(words, form),
+        &[byte_at(carried, i) as u64],
+    )
 }
 
 fn put_carried(
@@ -68,40 +63,26 @@ fn put_carried(
     next
 }
 
-// One of the two lines at a level.
-fn is_high(level: u8, sda: bool) -> bool {
+// A line of the bus at a recorded level; past them all it is low.
+pub(crate) fn is_high_at(levels: &[u8], at: usize, sda: bool) -> bool {
+    let level = byte_at(levels, at);
     if sda {
         return levels::sda(level);
     }
     levels::scl(level)
 }
 
-fn steady(high: bool) -> u8 {
-    if high { b'"' } else { b'.' }
-}
-
 // The character of a sample: a rise, a fall, or the level that stays.
-fn mark(before: bool, high: bool) -> u8 {
+fn mark_at(levels: &[u8], at: usize, sda: bool) -> u8 {
+    let high = is_high_at(levels, at, sda);
+    let before = is_high_at(levels, rows::before(at), sda);
     if high & !before {
         return b'/';
     }
     if before & !high {
         return b'\\';
     }
-    steady(high)
-}
-
-// A line at a recorded level; past them all it is low.
-pub(crate) fn is_high_at(levels: &[u8], at: usize, sda: bool) -> bool {
-    is_high(byte_at(levels, at), sda)
-}
-
-fn mark_at(levels: &[u8], at: usize, sda: bool) -> u8 {
-    let high = is_high_at(levels, at, sda);
-    if at == 0 {
-        return steady(high);
-    }
-    mark(is_high_at(levels, rows::before(at), sda), high)
+    if high { b'"' } else { b'.' }
 }
 
 // The marks from one recorded level to another.
@@ -122,44 +103,15 @@ fn put_marks(
     next
 }
 
-// A line begins: words in front of the first column.
-fn put_front(page: &mut [u8; PAGE], at: usize, words: &[u8], number: usize) -> usize {
-    let start = begin(page, at);
-    let word = phrase::put_numbers(page, start, words, [number as u64, 0, 0, 0]);
-    pad(page, start, word, FRONT)
-}
-
-// The text at a column of a line whose first column is at a position.
-fn put_at(page: &mut [u8; PAGE], origin: usize, at: usize, column: usize, text: &[u8]) -> usize {
-    let next = pad(page, origin, at, column);
-    put_bytes(page, next, text)
-}
-
-fn put_start(page: &mut [u8; PAGE], at: usize, first: usize) -> usize {
-    put_bytes(page, at, line_of(b" S", least(first, 1)))
-}
-
-// What follows a byte, by its column.
-fn put_next(
-    page: &mut [u8; PAGE],
-    origin: usize,
-    at: usize,
-    parts: &[u8],
-    byte: usize,
-    count: usize,
-    column: usize,
-) -> usize {
-    match rows::next_of(parts, byte, count) {
-        Next::Byte => at,
-        Next::Restart => put_at(page, origin, at, shifted(column, rows::BYTE + 1), b"Sr"),
-        Next::Stop => put_at(page, origin, at, shifted(column, rows::BYTE + 2), b"P"),
-    }
+// The column of a byte in a row that begins with a byte.
+fn column_of(parts: &[u8], first: usize, byte: usize) -> usize {
+    shifted(rows::column_of(parts, first, byte), FRONT)
 }
 
 // A byte above its columns, and what follows it.
 fn put_name(
     page: &mut [u8; PAGE],
-    origin: usize,
+    start: usize,
     at: usize,
     carried: &[u8],
     parts: &[u8],
@@ -167,10 +119,21 @@ fn put_name(
     byte: usize,
     count: usize,
 ) -> usize {
-    let column = rows::column_of(parts, first, byte);
-    let bar = put_at(page, origin, at, column, b"|");
-    let name = put_hex_byte(page, bar, byte_at(carried, byte));
-    put_next(page, origin, name, parts, byte, count, column)
+    let column = column_of(parts, first, byte);
+    let next = rows::next_of(parts, byte, count);
+    let numbers = [
+        column as u64,
+        byte_at(carried, byte) as u64,
+        shifted(shifted(column, rows::BYTE), next) as u64,
+    ];
+    put_in(
+        page,
+        start,
+        at,
+        b"",
+        line_of(b"_|%\n_|%_Sr\n_|%_P", next),
+        &numbers,
+    )
 }
 
 // The bytes of a row above their columns.
@@ -182,34 +145,43 @@ fn put_names(
     first: usize,
     count: usize,
 ) -> usize {
-    let origin = put_front(page, at, b"  byte #", first);
-    let mut next = put_start(page, origin, first);
+    let start = begin(page, at);
+    let words = line_of(b"  byte #_ S\n  byte #", least(first, 1));
+    let mut next = put_numbers(page, start, words, &[first as u64, FRONT as u64]);
     let end = rows::end_of(first, count);
     let mut byte = first;
     while byte < end {
-        next = put_name(page, origin, next, carried, parts, first, byte, count);
+        next = put_name(page, start, next, carried, parts, first, byte, count);
         byte += 1;
     }
     put_byte(page, next, b'\n')
 }
 
-// The bits of a byte, with a space between.
-fn put_bits_of(page: &mut [u8; PAGE], at: usize, byte: u8, ack: u8) -> usize {
-    let mut next = at;
-    let mut bit: usize = 0;
-    while bit < rows::BITS {
-        next = put_gap(page, next, bit);
-        next = put_byte(page, next, rows::bit_symbol(byte, ack, bit));
-        bit += 1;
-    }
-    next
-}
-
-fn put_gap(page: &mut [u8; PAGE], at: usize, bit: usize) -> usize {
-    if bit == 0 {
-        return at;
-    }
-    put_byte(page, at, b' ')
+// The bits of a byte and its acknowledge, with a space between.
+fn put_bits_of(
+    page: &mut [u8; PAGE],
+    start: usize,
+    at: usize,
+    column: usize,
+    byte: u8,
+    ack: u8,
+) -> usize {
+    let words = line_of(
+        b"_# # # # # # # # A\n_# # # # # # # # N",
+        (ack > 0) as usize,
+    );
+    let numbers = [
+        column as u64,
+        (byte / 128) as u64,
+        (byte / 64 % 2) as u64,
+        (byte / 32 % 2) as u64,
+        (byte / 16 % 2) as u64,
+        (byte / 8 % 2) as u64,
+        (byte / 4 % 2) as u64,
+        (byte / 2 % 2) as u64,
+        (byte % 2) as u64,
+    ];
+    put_in(page, start, at, b"", words, &numbers)
 }
 
 // The bits of the bytes of a row, by their columns.
@@ -222,13 +194,20 @@ fn put_bits(
     first: usize,
     count: usize,
 ) -> usize {
-    let origin = put_front(page, at, b"", 0);
-    let mut next = origin;
+    let start = begin(page, at);
+    let mut next = start;
     let end = rows::end_of(first, count);
     let mut byte = first;
     while byte < end {
-        let column = pad(page, origin, next, rows::column_of(parts, first, byte));
-        next = put_bits_of(page, column, byte_at(carried, byte), byte_at(acks, byte));
+        let column = column_of(parts, first, byte);
+        next = put_bits_of(
+            page,
+            start,
+            next,
+            column,
+            byte_at(carried, byte),
+            byte_at(acks, byte),
+        );
         byte += 1;
     }
     put_byte(page, next, b'\n')
@@ -238,21 +217,15 @@ fn put_bits(
 fn put_signal(
     page: &mut [u8; PAGE],
     at: usize,
-    name: &[u8],
+    words: &[u8],
     levels: &[u8],
     from: usize,
     end: usize,
     sda: bool,
 ) -> usize {
-    let word = put_front(page, at, name, 0);
+    let word = put_front(page, at, b"", words, &[FRONT as u64]);
     let marks = put_marks(page, word, levels, from, end, sda);
     put_byte(page, marks, b'\n')
-}
-
-// The board that lost, by its number and its name.
-fn put_board(page: &mut [u8; PAGE], at: usize, kept: &[u8], named: bool, board: usize) -> usize {
-    let words = line_of(b"#\n# $", named as usize);
-    phrase::put(page, at, kept, words, board, [board as u64, 0, 0, 0])
 }
 
 // A board that lost at a byte of a row, under the bit.
@@ -266,20 +239,22 @@ fn put_loser(
     first: usize,
     board: usize,
 ) -> usize {
-    if !rows::lost_in(
+    let lost = rows::lost_in(
         load,
         outcome,
         board,
         first,
         rows::end_of(first, outcome.count),
-    ) {
-        return at;
-    }
-    let origin = put_front(page, at, b"  lost", 0);
-    let column = rows::lost_column(load, outcome, parts, board, first);
-    let mark = put_at(page, origin, origin, column, b"^ ");
-    let who = put_board(page, mark, kept, load.named, board);
-    put_byte(page, who, b'\n')
+    );
+    let column = shifted(rows::lost_column(load, outcome, parts, board, first), FRONT);
+    put_line(
+        page,
+        at,
+        kept,
+        lost,
+        b"  lost_^ @",
+        &[column as u64, board as u64],
+    )
 }
 
 fn put_losers(
@@ -311,8 +286,8 @@ fn put_signals(
 ) -> usize {
     let from = rows::first_level(parts, first);
     let end = rows::end_level(parts, rows::end_of(first, outcome.count), outcome);
-    let scl = put_signal(page, at, b"  scl", levels, from, end, false);
-    put_signal(page, scl, b"  sda", levels, from, end, true)
+    let scl = put_signal(page, at, b"  scl_", levels, from, end, false);
+    put_signal(page, scl, b"  sda_", levels, from, end, true)
 }
 
 // All rows, by their first bytes.
@@ -353,7 +328,7 @@ pub(crate) fn put(
 ) -> usize {
     let acks = kept::part(kept, ACKS_AT, ACKS);
     let parts = order::parts(kept, load, outcome.winner);
-    let word = phrase::put_line(page, at, kept, b"  carried ", 0, [0; 4]);
+    let word = put_front(page, at, kept, b"  carried ", &[]);
     let said = put_carried(page, word, carried, acks, parts, outcome.count);
     let next = put_byte(page, said, b'\n');
     put_rows(page, next, kept, load, outcome, parts, carried, levels)

@@ -7,9 +7,8 @@ use native.Mathlib.Omega.{arith}
 use lib.ListN.{length, getD, drop, drop-of-length-le}
 use lib.Seq.{drop-cons, drop-drop, getD-drop}
 use Rattle.text.specs.Output.{Put}
-use Rattle.text.specs.Words.{afterLine}
 use Rattle.text.proofs.Putting.{Putting, putting-none, putting-more, putting-done}
-use Rattle.rig_lines.specs.Console.{spaces, shown, shownText, formByte, marks, formText, afterLines}
+use Rattle.rig_lines.specs.Console.{spaces, shown, shownText, formByte, marks, formText}
 
 module _ (page : List ℕ) (at : ℕ) where
   -- so many spaces are left to put
@@ -76,12 +75,3 @@ module _ (page : List ℕ) (at : ℕ) where
         → Put page at (formText words numbers) new next
     unfolding formText
     forming-done i number h p = putting-done (rw (drop-of-length-le words h)) (p .text)
-
--- one line less to pass
-pub lines-less : (left : ℕ) (text next : List ℕ) → 0 < left → next ≡ afterLine text
-    → afterLines left text ≡ afterLines (left - 1) next
-unfolding afterLines
-lines-less zero text next h e = absurd (omega arith)
-lines-less (suc left) text next h e =
-    let same : suc left - 1 ≡ left = omega arith in
-    rw (e, same)

@@ -1,4 +1,6 @@
 pub mod Words
+pub mod Places
+pub mod Worked
 pub mod Forms
 pub mod Storing
 pub mod Taking

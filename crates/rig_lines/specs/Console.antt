@@ -1,11 +1,10 @@
 -- What is put on the page of output, and where the next line begins.
 use mathlib.Core.Bool.{cond, _||_}
 use mathlib.Core.List.{List, [], _∷_, _++_}
-use Prim.Native.Nat.{ℕ, zero, suc, _-_, _%_}
+use Prim.Native.Nat.{ℕ, _-_, _%_}
 use lib.Dec.{eqb, ltb}
 use lib.ListN.{length, getD, take, drop, replicate}
 use Rattle.text.specs.Output.{decimalText, hexText}
-use Rattle.text.specs.Words.{firstLine, afterLine}
 use Rattle.rig_lines.specs.Bytes.{ascii, control}
 
 -- where the next line begins on a page of that size: at its start, once it is written out for want of room
@@ -52,12 +51,3 @@ marks b = cond (eqb b 35 || eqb b 37) 1 0
 unfoldable pub formText : List ℕ → List ℕ → List ℕ
 formText [] numbers = []
 formText (b ∷ words) numbers = formByte b (getD numbers 0 0) ++ formText words (drop (marks b) numbers)
-
--- a text past so many lines
-unfoldable pub afterLines : ℕ → List ℕ → List ℕ
-afterLines zero text = text
-afterLines (suc n) text = afterLines n (afterLine text)
-
--- the line of a text at a place, counted from 0
-abbrev pub lineAt : ℕ → List ℕ → List ℕ
-lineAt n text = firstLine (afterLines n text)

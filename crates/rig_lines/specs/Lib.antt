@@ -1,4 +1,5 @@
 pub mod Bytes
+pub mod Lists
 pub mod Console
 pub mod Numbers
 pub mod Store

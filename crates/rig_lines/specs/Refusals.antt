@@ -2,7 +2,8 @@
 use mathlib.Core.List.{List, [], _∷_, _++_}
 use Prim.Native.Nat.{ℕ}
 use Rattle.rig_lines.specs.Bytes.{ascii}
-use Rattle.rig_lines.specs.Console.{formText, lineAt}
+use Rattle.rig_lines.specs.Console.{formText}
+use Rattle.rig_lines.specs.Lists.{lineAt}
 
 -- what each refusal says, by its number: each in a line of its own, after the line of 0, which is none; those of 12
 -- to 16 are told with boards, lines and counts

@@ -7,14 +7,13 @@ ghost use Rattle.text.specs.Output.{Put};
 ghost use Rattle.rig_lines.specs.Bytes.{control};
 ghost use Rattle.rig_lines.specs.Console.{beginning, spaces, paddedText, countText, shown as shownByte};
 ghost use Rattle.rig_lines.specs.Console.{shownText, quotedText, formByte, marks, formText};
-ghost use Rattle.rig_lines.specs.Console.{afterLines, lineAt};
+ghost use Rattle.rig_lines.specs.Lists.{lineAt};
+use crate::lists::line_of;
 use crate::numbers::least;
 use crate::parts;
 use crate::store;
 use libc::STDERR_FILENO;
 use libc::STDOUT_FILENO;
-use text::after_line;
-use text::first_line;
 use text::put_byte;
 use text::put_bytes;
 use text::put_decimal;
@@ -181,23 +180,9 @@ pub fn put_form(page: &mut [u8], at: usize, words: &[u8], numbers: &[u64]) -> us
     next
 }
 
-// A text past so many lines.
-fn after_lines(text: &[u8], n: usize) -> &[u8]
-    ensures { λ r. ⌜ now r ≡ afterLines n (now (text .entry)) ⌝ }
-{
-    let mut rest = text;
-    let mut left = n;
-    while left > 0 {
-        let next = after_line(rest);
-        rest = next;
-        left -= 1;
-    }
-    rest
-}
-
 // The line of a text at a place, counted from 0.
 pub fn put_line(page: &mut [u8], at: usize, text: &[u8], place: usize) -> usize
     ensures { λ r. ⌜ Put (now (page .entry)) at (lineAt place (now (text .entry))) (now (page .exit)) r ⌝ }
 {
-    put_bytes(page, at, first_line(after_lines(text, place)))
+    put_bytes(page, at, line_of(text, place))
 }

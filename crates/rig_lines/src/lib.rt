@@ -2,6 +2,7 @@
 pub mod console; // console.rt: text on the page of output
 pub mod files; // files.rt: files by name
 pub mod input; // input.rt: lines of input
+pub mod lists; // lists.rt: words in a list
 pub mod numbers; // numbers.rt: numbers that a text says
 pub mod options; // options.rt: options on a command line
 pub mod parts; // parts.rt: how much of a slice to lend

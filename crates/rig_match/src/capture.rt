@@ -1,11 +1,11 @@
 // The lines of the capture, as rig decode prints them.
-use crate::lists::place_of;
 use crate::reading::CROWDED;
 use crate::reading::Reading;
 use crate::reading::STRANGE;
 use crate::words::before_colon;
 use crate::words::front;
 use check::same;
+use rig_lines::lists::place_of;
 use rig_lines::numbers::least_number;
 use rig_lines::numbers::value;
 use rig_lines::store;

@@ -1,5 +1,4 @@
 // What was not on the bus, and the last line.
-use crate::lists::line_of;
 use crate::matching::Matching;
 use crate::phrase;
 use crate::reading::REFUSED;
@@ -11,6 +10,7 @@ use frame_match::get;
 use frame_match::is_load;
 use frame_match::is_rehearsed;
 use rig_lines::console::PAGE;
+use rig_lines::lists::line_of;
 use rig_lines::numbers::more;
 use text::put_byte;
 

@@ -4,7 +4,6 @@ mod book; // book.rt: how much of the rehearsal is kept
 mod capture; // capture.rt: the lines of the capture
 mod differences; // differences.rt: where a frame differs from what was rehearsed
 mod ending; // ending.rt: what was not on the bus, and the last line
-mod lists; // lists.rt: words in a list
 mod matching; // matching.rt: each frame held against the loads
 mod phrase; // phrase.rt: words with marks for numbers, names and events
 mod reading; // reading.rt: the input, line by line, and what is wrong with it

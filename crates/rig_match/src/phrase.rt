@@ -1,8 +1,8 @@
 // Words with marks, which stand for numbers, names, events, and lists of boards or bytes.
-use crate::lists::line_of;
 use crate::shown;
 use rig_lines::console::PAGE;
 use rig_lines::console::begin;
+use rig_lines::lists::line_of;
 use rig_lines::store::line_at;
 use text::put_byte;
 use text::put_bytes;

@@ -2,7 +2,6 @@
 use crate::book::after;
 use crate::capture::DOUBTFUL;
 use crate::differences;
-use crate::lists::line_of;
 use crate::phrase;
 use crate::phrase::before;
 use frame_match::CUT;
@@ -17,6 +16,7 @@ use frame_match::load_about;
 use frame_match::sender;
 use frame_match::span;
 use rig_lines::console::PAGE;
+use rig_lines::lists::line_of;
 use rig_lines::numbers::more;
 use rig_lines::store::line_at;
 use trace::START;

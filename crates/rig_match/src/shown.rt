@@ -1,6 +1,5 @@
 // What the marks of a phrase stand for: names, events, the boards of a load, the bytes of a frame.
 use crate::book::text;
-use crate::lists::line_of;
 use crate::phrase::UNDECIDED;
 use crate::phrase::WINNERS;
 use frame_match::CUT;
@@ -21,6 +20,7 @@ use frame_match::span;
 use rig_lines::console::PAGE;
 use rig_lines::console::begin;
 use rig_lines::console::put_form;
+use rig_lines::lists::line_of;
 use text::put_bytes;
 use trace::NACK;
 use trace::PARTIAL;

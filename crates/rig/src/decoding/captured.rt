@@ -2,7 +2,6 @@
 use super::answer;
 use crate::arguments::Arguments;
 use crate::lines::end;
-use crate::lines::line_of;
 use crate::lines::put;
 use crate::lines::say;
 use crate::trouble;
@@ -10,6 +9,7 @@ use dump_reader::DumpRead;
 use dump_reader::LONGEST_TEXT;
 use rig_lines::console::PAGE;
 use rig_lines::input::Source;
+use rig_lines::lists::line_of;
 use rig_lines::numbers::least;
 use rig_lines::numbers::least_number;
 use rig_lines::numbers::more;

@@ -1,10 +1,10 @@
 // A stamp that does not rise: packets of samples that look exchanged on the way.
 use crate::lines::before;
 use crate::lines::end;
-use crate::lines::line_of;
 use crate::lines::put;
 use crate::lines::say;
 use rig_lines::console::PAGE;
+use rig_lines::lists::line_of;
 use rig_lines::store::line_at;
 
 // Whether a stamp is another, or, where those above count too, above it.

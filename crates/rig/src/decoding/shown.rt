@@ -1,11 +1,11 @@
 // The events of a trace one a line, each with the stamp of the sample that lists it, and notes of long gaps between.
 use crate::lines::end;
-use crate::lines::line_of;
 use crate::lines::put;
 use crate::lines::say;
 use decode::Decoder;
 use decode::Listed;
 use rig_lines::console::PAGE;
+use rig_lines::lists::line_of;
 use rig_lines::numbers::more;
 use rig_lines::store;
 use trace::PARTIAL;

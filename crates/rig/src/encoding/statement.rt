@@ -1,8 +1,8 @@
 // What a line of an event list says.
 use crate::hints::ends_in_colon;
-use crate::lines::place_of;
 use crate::trouble;
 use check::same;
+use rig_lines::lists::place_of;
 use rig_lines::numbers::is_number;
 use rig_lines::numbers::least_number;
 use rig_lines::numbers::value;

@@ -1,7 +1,7 @@
 // The commands of a session: a name, and numbers in hexadecimal.
 use super::reply;
-use crate::lines::line_of;
-use crate::lines::place_of;
+use rig_lines::lists::line_of;
+use rig_lines::lists::place_of;
 use rig_lines::numbers::value;
 use text::after_word;
 use text::first_word;

@@ -2,11 +2,11 @@
 use super::command;
 use super::command::Command;
 use crate::lines::end;
-use crate::lines::line_of;
 use crate::lines::put;
 use crate::lines::say;
 use crate::trouble;
 use rig_lines::console::PAGE;
+use rig_lines::lists::line_of;
 use rig_lines::refusals::put_refusal;
 use usi::Read;
 use usi::Step;

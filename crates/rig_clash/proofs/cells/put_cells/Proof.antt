@@ -13,8 +13,8 @@ abbrev μ-loop : tie.MeasureT-loop
 end-of-requires : tie.Need-end-of-requires Inv-loop μ-loop
 end-of-requires c κs = search needs
 
-put-front-requires : tie.Need-put-front-requires Inv-loop μ-loop
-put-front-requires c κs = search needs
+put-first-requires : tie.Need-put-first-requires Inv-loop μ-loop
+put-first-requires c κs = search needs
 
 loop-holds : tie.Need-loop-holds Inv-loop μ-loop
 loop-holds c = search needs
@@ -41,7 +41,7 @@ put-cells-spec =
     Inv-loop
     μ-loop
     end-of-requires
-    put-front-requires
+    put-first-requires
     loop-holds
     put-cell-requires
     add-byte

@@ -13,8 +13,8 @@ abbrev μ-loop : tie.MeasureT-loop
 loop-holds : tie.Need-loop-holds Inv-loop μ-loop
 loop-holds c = search needs
 
-met-by-requires : tie.Need-met-by-requires Inv-loop μ-loop
-met-by-requires c κs = search needs
+meet-requires : tie.Need-meet-requires Inv-loop μ-loop
+meet-requires c κs = search needs
 
 add-correction : tie.Need-add-correction Inv-loop μ-loop
 add-correction c = search needs
@@ -35,7 +35,7 @@ meet-spec =
     Inv-loop
     μ-loop
     loop-holds
-    met-by-requires
+    meet-requires
     add-correction
     loop-less
     loop-again

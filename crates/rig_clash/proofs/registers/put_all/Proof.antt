@@ -5,10 +5,10 @@ use Rattle.rig_clash.proofs.registers.put_all.Statement.{statement}
 use Rattle.rig_clash.proofs.registers.put_all.Tie as tie
 
 abbrev Inv-loop : tie.InvT-loop
-Inv-loop page₀ at kept load outcome next₀ board₀ page next board = Unit {0}
+Inv-loop page₀ at kept load outcome boards next₀ board₀ page next board = Unit {0}
 
 abbrev μ-loop : tie.MeasureT-loop
-μ-loop page₀ at kept load outcome next₀ board₀ page next board = load .boards - board
+μ-loop page₀ at kept load outcome boards next₀ board₀ page next board = boards - board
 
 loop-holds : tie.Need-loop-holds Inv-loop μ-loop
 loop-holds c = search needs

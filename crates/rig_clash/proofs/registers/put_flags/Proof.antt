@@ -1,10 +1,8 @@
 -- `rig_clash::registers::put_flags` is safe and ends.
-use Prim.Native.Nat.{_-_}
 use borrow.Author.Needs.{needs}
+use Prim.Native.Nat.{_-_}
 use Rattle.rig_clash.proofs.registers.put_flags.Statement.{statement}
 use Rattle.rig_clash.proofs.registers.put_flags.Tie as tie
-
--- `rig_clash::registers::put_flags` is safe and ends.
 
 abbrev Inv-loop : tie.InvT-loop
 Inv-loop page₀ at byte names next₀ rest₀ place₀ page next rest place = Unit {0}
@@ -14,6 +12,9 @@ abbrev μ-loop : tie.MeasureT-loop
 
 loop-holds : tie.Need-loop-holds Inv-loop μ-loop
 loop-holds c = search needs
+
+line-of-requires : tie.Need-line-of-requires Inv-loop μ-loop
+line-of-requires c κs = search needs
 
 put-flag-requires : tie.Need-put-flag-requires Inv-loop μ-loop
 put-flag-requires c κs = search needs
@@ -40,6 +41,7 @@ put-flags-spec =
     Inv-loop
     μ-loop
     loop-holds
+    line-of-requires
     put-flag-requires
     shifted-requires
     add-place

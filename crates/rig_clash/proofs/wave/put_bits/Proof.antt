@@ -1,20 +1,17 @@
 -- `rig_clash::wave::put_bits` is safe and ends.
-use Prim.Native.Nat.{_-_}
 use borrow.Author.Needs.{needs}
+use Prim.Native.Nat.{_-_}
 use Rattle.rig_clash.proofs.wave.put_bits.Statement.{statement}
 use Rattle.rig_clash.proofs.wave.put_bits.Tie as tie
 
 abbrev Inv-loop : tie.InvT-loop
-Inv-loop page₀ at carried acks parts first count origin next₀ end byte₀ page next byte = Unit {0}
+Inv-loop page₀ at carried acks parts first count start next₀ end byte₀ page next byte = Unit {0}
 
 abbrev μ-loop : tie.MeasureT-loop
-μ-loop page₀ at carried acks parts first count origin next₀ end byte₀ page next byte = end - byte
+μ-loop page₀ at carried acks parts first count start next₀ end byte₀ page next byte = end - byte
 
-slice-aggregate-put-front : tie.Need-slice-aggregate-put-front Inv-loop μ-loop
-slice-aggregate-put-front c = search needs
-
-put-front-requires : tie.Need-put-front-requires Inv-loop μ-loop
-put-front-requires c κs = search needs
+begin-requires : tie.Need-begin-requires Inv-loop μ-loop
+begin-requires c κs = search needs
 
 end-of-requires : tie.Need-end-of-requires Inv-loop μ-loop
 end-of-requires c κs = search needs
@@ -24,9 +21,6 @@ loop-holds c = search needs
 
 column-of-requires : tie.Need-column-of-requires Inv-loop μ-loop
 column-of-requires c κs = search needs
-
-pad-requires : tie.Need-pad-requires Inv-loop μ-loop
-pad-requires c κs = search needs
 
 byte-at-requires : tie.Need-byte-at-requires Inv-loop μ-loop
 byte-at-requires c κs = search needs
@@ -58,12 +52,10 @@ put-bits-spec =
     (tie.spec
     Inv-loop
     μ-loop
-    slice-aggregate-put-front
-    put-front-requires
+    begin-requires
     end-of-requires
     loop-holds
     column-of-requires
-    pad-requires
     byte-at-requires
     byte-at-requires-2
     put-bits-of-requires

@@ -1,23 +1,32 @@
 -- `rig_clash::wave::put_names` is safe and ends.
-use Prim.Native.Nat.{_-_}
 use borrow.Author.Needs.{needs}
+use Prim.Native.Nat.{_-_}
 use Rattle.rig_clash.proofs.wave.put_names.Statement.{statement}
 use Rattle.rig_clash.proofs.wave.put_names.Tie as tie
 
 abbrev Inv-loop : tie.InvT-loop
-Inv-loop page₀ at carried parts first count origin next₀ end byte₀ page next byte = Unit {0}
+Inv-loop page₀ at carried parts first count start next₀ end byte₀ page next byte = Unit {0}
 
 abbrev μ-loop : tie.MeasureT-loop
-μ-loop page₀ at carried parts first count origin next₀ end byte₀ page next byte = end - byte
+μ-loop page₀ at carried parts first count start next₀ end byte₀ page next byte = end - byte
 
-slice-aggregate-put-front : tie.Need-slice-aggregate-put-front Inv-loop μ-loop
-slice-aggregate-put-front c = search needs
+begin-requires : tie.Need-begin-requires Inv-loop μ-loop
+begin-requires c κs = search needs
 
-put-front-requires : tie.Need-put-front-requires Inv-loop μ-loop
-put-front-requires c κs = search needs
+slice-aggregate-line-of : tie.Need-slice-aggregate-line-of Inv-loop μ-loop
+slice-aggregate-line-of c = search needs
 
-put-start-requires : tie.Need-put-start-requires Inv-loop μ-loop
-put-start-requires c κs = search needs
+least-requires : tie.Need-least-requires Inv-loop μ-loop
+least-requires c κs = search needs
+
+line-of-requires : tie.Need-line-of-requires Inv-loop μ-loop
+line-of-requires c κs = search needs
+
+slice-aggregate-put-numbers : tie.Need-slice-aggregate-put-numbers Inv-loop μ-loop
+slice-aggregate-put-numbers c = search needs
+
+put-numbers-requires : tie.Need-put-numbers-requires Inv-loop μ-loop
+put-numbers-requires c κs = search needs
 
 end-of-requires : tie.Need-end-of-requires Inv-loop μ-loop
 end-of-requires c κs = search needs
@@ -49,9 +58,12 @@ put-names-spec =
     (tie.spec
     Inv-loop
     μ-loop
-    slice-aggregate-put-front
-    put-front-requires
-    put-start-requires
+    begin-requires
+    slice-aggregate-line-of
+    least-requires
+    line-of-requires
+    slice-aggregate-put-numbers
+    put-numbers-requires
     end-of-requires
     loop-holds
     put-name-requires

@@ -4,11 +4,8 @@ use borrow.Author.Needs.{needs}
 use Rattle.rig_lines.proofs.console.put_line.Statement.{statement}
 use Rattle.rig_lines.proofs.console.put_line.Tie as tie
 
-after-lines-requires : tie.Need-after-lines-requires
-after-lines-requires c κs = search needs
-
-first-line-requires : tie.Need-first-line-requires
-first-line-requires c κs = search needs
+line-of-requires : tie.Need-line-of-requires
+line-of-requires c κs = search needs
 
 put-bytes-requires : tie.Need-put-bytes-requires
 put-bytes-requires c κs = search needs
@@ -19,10 +16,7 @@ same-length c = search needs
 returns : tie.Need-returns
 returns c =
     let put = c .before .before in
-    put-as _ _ (rw (put .before .first-line .ensures, put .before .before .after-lines .ensures))
-    (put .put-bytes .ensures)
+    put-as _ _ (rw (put .before .line-of .ensures)) (put .put-bytes .ensures)
 
 pub put-line-spec : {M : Type 1} → statement M
-put-line-spec =
-    tie.close
-    (tie.spec after-lines-requires first-line-requires put-bytes-requires same-length returns)
+put-line-spec = tie.close (tie.spec line-of-requires put-bytes-requires same-length returns)

@@ -1,16 +1,16 @@
--- `rig_lines::console::after_lines` meets its contract. The invariant: what is left to pass leads to the same text.
-use Rattle.rig_lines.proofs.Forms.{lines-less}
+-- `rig_lines::lists::after_lines` meets its contract. The invariant: what is left to pass leads to the same text.
+use Rattle.rig_lines.proofs.Places.{lines-less}
 use mathlib.Core.Path.{_≡_, refl, _∙_, sym}
-use Rattle.rig_lines.specs.Console.{afterLines}
+use Rattle.rig_lines.specs.Lists.{afterLines}
 use borrow.Author.Needs.{needs}
-use Rattle.rig_lines.proofs.console.after_lines.Statement.{statement}
-use Rattle.rig_lines.proofs.console.after_lines.Tie as tie
+use Rattle.rig_lines.proofs.lists.after_lines.Statement.{statement}
+use Rattle.rig_lines.proofs.lists.after_lines.Tie as tie
 
 abbrev Inv-loop : tie.InvT-loop
-Inv-loop text n rest₀ left₀ rest left = afterLines n text ≡ afterLines left rest
+Inv-loop list n rest₀ left₀ rest left = afterLines n list ≡ afterLines left rest
 
 abbrev μ-loop : tie.MeasureT-loop
-μ-loop text n rest₀ left₀ rest left = left
+μ-loop list n rest₀ left₀ rest left = left
 
 loop-holds : tie.Need-loop-holds Inv-loop μ-loop
 loop-holds c = refl
