@@ -120,6 +120,29 @@ fn verdict_of(verdict: usize, done: Matching, absent: u64, gaps: u64) -> usize {
     !((done.frames > 0) & clean) as usize
 }
 
+// How many frames there were, and what they were found to be.
+fn put_frames(
+    page: &mut [u8; PAGE],
+    at: usize,
+    book: &[u32],
+    events: &[u16],
+    names: &[u8],
+    seen: &[u16],
+    done: Matching,
+) -> usize {
+    let counts = [
+        done.frames,
+        done.frames,
+        done.rehearsed,
+        done.waited,
+        done.different,
+        done.other,
+    ];
+    let words = b"# frame~[_: ][&# as rehearsed][&# waited][&# different][&# not rehearsed]";
+    phrase::put(page, at, book, events, names, seen, words, &counts)
+}
+
+// What was not on the bus, and the last line.
 pub(crate) fn put(
     page: &mut [u8; PAGE],
     book: &[u32],
@@ -137,16 +160,7 @@ pub(crate) fn put(
     let word = line_of(b"ok \nlook \nrefused #: \nerror ", verdict);
     let start = [reading.number];
     let begun = phrase::put(page, missing.at, book, events, names, seen, word, &start);
-    let counts = [
-        done.frames,
-        done.frames,
-        done.rehearsed,
-        done.waited,
-        done.different,
-        done.other,
-    ];
-    let words = b"# frame~[_: ][&# as rehearsed][&# waited][&# different][&# not rehearsed]";
-    let frames = phrase::put(page, begun, book, events, names, seen, words, &counts);
+    let frames = put_frames(page, begun, book, events, names, seen, done);
     let doubts = [
         absent | others,
         missing.loads,

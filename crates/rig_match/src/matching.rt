@@ -77,15 +77,8 @@ fn with_frame(
         load,
         found,
     );
-    settle(
-        book,
-        rows,
-        events,
-        span(seen, from, end),
-        load,
-        found,
-        number as usize,
-    );
+    let frame = span(seen, from, end);
+    settle(book, rows, events, frame, load, found, number as usize);
     matching.next = next_after(book, rows, found, load, matching.next);
     matching
 }
@@ -101,7 +94,7 @@ fn match_all(
     seen: &[u16],
     stamps: &[u64],
 ) -> Matching {
-    let mut matching = Matching {
+    let mut so_far = Matching {
         at,
         next: next_load(book, rows, 0),
         frames: 0,
@@ -115,22 +108,12 @@ fn match_all(
     while turns > 0 {
         turns -= 1;
         if from >= seen.len() {
-            return matching;
+            return so_far;
         }
-        matching = with_frame(
-            page,
-            book,
-            rows,
-            events,
-            names,
-            seen,
-            stamps,
-            from,
-            matching,
-        );
+        so_far = with_frame(page, book, rows, events, names, seen, stamps, from, so_far);
         from = end_of(seen, from);
     }
-    matching
+    so_far
 }
 
 // All frames, what was not on the bus, and the last line.

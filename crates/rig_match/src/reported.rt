@@ -155,14 +155,6 @@ not rehearsed: =[; the message of $ in $]";
     let form = line_of(words, said.words);
     let last = phrase::put(page, next, book, events, names, seen, form, &numbers);
     let doubt = [is_doubtful(stamps, from, end) as u64];
-    phrase::put(
-        page,
-        last,
-        book,
-        events,
-        names,
-        seen,
-        b"[; doubtful]\n",
-        &doubt,
-    )
+    let rest = b"[; doubtful]\n";
+    phrase::put(page, last, book, events, names, seen, rest, &doubt)
 }

@@ -4,10 +4,10 @@ use Rattle.rig_match.proofs.matching.match_all.Statement.{statement}
 use Rattle.rig_match.proofs.matching.match_all.Tie as tie
 
 abbrev Inv-loop : tie.InvT-loop
-Inv-loop page₀ at book₀ rows events names seen stamps matching₀ from₀ turns₀ page book matching from turns = Unit {0}
+Inv-loop page₀ at book₀ rows events names seen stamps so-far₀ from₀ turns₀ page book so-far from turns = Unit {0}
 
 abbrev μ-loop : tie.MeasureT-loop
-μ-loop page₀ at book₀ rows events names seen stamps matching₀ from₀ turns₀ page book matching from turns = turns
+μ-loop page₀ at book₀ rows events names seen stamps so-far₀ from₀ turns₀ page book so-far from turns = turns
 
 next-load-requires : tie.Need-next-load-requires Inv-loop μ-loop
 next-load-requires c κs = search needs
