@@ -52,7 +52,7 @@ pub fn arbitrate(
 }
 
 // A rehearsal: the reply, and the table of modules as it then stands.
-#[derive(Drop)]
+#[derive(Clone, Copy)]
 pub struct Rehearsed {
     pub reply: Arbitrated,
     pub modules: [Usi; MAX_MASTERS],

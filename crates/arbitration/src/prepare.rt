@@ -12,7 +12,7 @@ use arbitration_run::Sequencer;
 use laws::Refusal;
 
 // The refusal or none, how many masters run, and the sequencer before its first turn.
-#[derive(Drop)]
+#[derive(Clone, Copy)]
 pub(crate) struct Prepared {
     pub(crate) refusal: Refusal,
     pub(crate) count: usize,

@@ -19,7 +19,7 @@ pub use order::{Least, least_message};
 
 // The first refusal of 12 to 16 that applies; how many bytes the bus will carry and how many levels it will record,
 // both 0 at a refusal.
-#[derive(Drop)]
+#[derive(Clone, Copy)]
 pub struct Settled {
     pub refusal: Refusal,
     pub count: usize,

@@ -6,14 +6,14 @@ ghost use Rattle.arbitration_checks.specs.Order.{compared_of, LeastAt, least_of}
 use arbitration_messages::NO_RESTART;
 
 // Whether a message comes before another or is the same; and how many comparisons have been made, with this one.
-#[derive(Drop)]
+#[derive(Clone, Copy)]
 pub(crate) struct Compared {
     pub(crate) precedes: bool,
     pub(crate) comparisons: usize,
 }
 
 // Where a least message lies in what is sent, with its index and how many comparisons of two messages found it.
-#[derive(Drop)]
+#[derive(Clone, Copy)]
 pub(crate) struct Located {
     pub(crate) index: usize,
     pub(crate) from: usize,
@@ -22,7 +22,7 @@ pub(crate) struct Located {
 }
 
 // A least message: its index, and how many comparisons of two messages found it.
-#[derive(Drop)]
+#[derive(Clone, Copy)]
 pub struct Least {
     pub index: usize,
     pub comparisons: usize,

@@ -10,7 +10,7 @@ use arbitration_rules::{MAX_LENGTH, MAX_MASTERS, Seat};
 // (arbitration_rules/proofs/ClearedFlags.antt), so no write has to be watched.
 const CLEARED: u8 = 0x03;
 
-#[derive(Drop)]
+#[derive(Clone, Copy)]
 pub struct Members {
     // who is still contending; who lost in the byte now on the bus; where each lost
     pub contending: [bool; MAX_MASTERS],

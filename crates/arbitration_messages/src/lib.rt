@@ -19,7 +19,7 @@ pub const NO_RESTART: u16 = 256;
 
 // The first of 12 and 13 that applies, else the messages: what they send, one number a byte, as many as size says, and
 // past it 256; and the length of each, as many as count says, and past it 0. At a refusal there is no message.
-#[derive(Drop)]
+#[derive(Clone, Copy)]
 pub struct Messages {
     pub refusal: Refusal,
     pub sent: [u16; MAX_SENT],

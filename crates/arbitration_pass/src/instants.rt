@@ -5,7 +5,7 @@ ghost use Rattle.arbitration_pass.specs.Instants as rows;
 
 // What the modules do in a pass; registers are written by those still contending, at LetGo also by those that lost in
 // the byte, at Heed by all that lost.
-#[derive(Drop)]
+#[derive(Clone, Copy)]
 pub enum Operation {
     // powered up and set up
     Enter,
@@ -31,7 +31,7 @@ pub enum Operation {
 }
 
 // What then follows on the bus.
-#[derive(Drop)]
+#[derive(Clone, Copy)]
 pub enum Effect {
     Nothing,
     // a byte begins
@@ -47,7 +47,7 @@ pub enum Effect {
     Settle,
 }
 
-#[derive(Drop)]
+#[derive(Clone, Copy)]
 pub struct Instant {
     pub operation: Operation,
     // after it all modules tick
@@ -56,7 +56,7 @@ pub struct Instant {
 }
 
 // Set-up, step 1, a restart and a byte of step 2, step 4.
-#[derive(Drop)]
+#[derive(Clone, Copy)]
 pub enum Part {
     Entry,
     Opening,

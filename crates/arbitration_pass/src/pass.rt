@@ -7,7 +7,7 @@ use crate::instants::Operation;
 use arbitration_rules::MAX_MASTERS;
 use usi::Usi;
 
-#[derive(Drop)]
+#[derive(Clone, Copy)]
 pub struct Pass {
     pub operation: Operation,
     pub ticks: bool,
@@ -20,14 +20,14 @@ pub struct Pass {
 }
 
 // A pass that samples: the level of the wire, and whether a tick follows.
-#[derive(Drop)]
+#[derive(Clone, Copy)]
 pub struct Sampling {
     pub level: u8,
     pub ticks: bool,
 }
 
 // What the modules show after a pass: whether any pulls SCL, and SDA, and who has AL set.
-#[derive(Drop)]
+#[derive(Clone, Copy)]
 pub struct Seen {
     pub scl: bool,
     pub sda: bool,

@@ -10,7 +10,7 @@ pub const MAX_LENGTH: usize = 64;
 
 // What became of one master: it is still contending (01: still in), or it lost at a position, 9 · byte + bit (01: its
 // place), 0 for the others; and the flags of USICTL1 that its writes cleared (02: Ask 12).
-#[derive(Drop)]
+#[derive(Clone, Copy)]
 pub struct Seat {
     pub contending: bool,
     pub position: u16,
@@ -18,7 +18,7 @@ pub struct Seat {
 }
 
 // The reply. A refused one has the refusal's number and place, and 0 for all else.
-#[derive(Drop)]
+#[derive(Clone, Copy)]
 pub struct Arbitrated {
     pub refusal: Refusal,
     // how many bytes the bus carried (01: k)

@@ -7,7 +7,7 @@ use arbitration_members::Members;
 use arbitration_pass::{Effect, Instant, Part, Pass, Seen};
 use arbitration_rules::{MAX_LENGTH, MAX_MASTERS};
 
-#[derive(Drop)]
+#[derive(Clone, Copy)]
 pub struct Sequencer {
     pub running: bool,
     // the instant that comes next

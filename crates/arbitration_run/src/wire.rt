@@ -5,7 +5,7 @@ ghost use Rattle.arbitration_run.specs.Wire as rule;
 
 use arbitration_pass::{Effect, Operation, Seen};
 
-#[derive(Drop)]
+#[derive(Clone, Copy)]
 pub struct Wire {
     // whether any module pulls SCL, and SDA; whether the acknowledge pulls SDA
     pub scl: bool,

@@ -4,7 +4,7 @@ ghost use Rattle.std.specs.Prelude.{◌≤◌, length};
 use text::Number;
 
 // How many lengths of parts were read, and how many counts of parts.
-#[derive(Drop)]
+#[derive(Clone, Copy)]
 pub struct Read {
     pub parts: usize,
     pub counts: usize,

@@ -11,7 +11,7 @@ const MODULE: usize = 96;
 const HELD: u8 = 0xee;
 
 // What a buffer holds.
-#[derive(Drop)]
+#[derive(Clone, Copy)]
 enum Entries {
     Bytes,
     Levels,

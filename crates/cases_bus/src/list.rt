@@ -11,7 +11,7 @@ const STOP: u16 = 514;
 const BYTE: u16 = 0xa5;
 
 // Events that a list repeats.
-#[derive(Drop)]
+#[derive(Clone, Copy)]
 enum Group {
     Byte,
     Repeated,

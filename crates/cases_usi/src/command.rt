@@ -2,7 +2,7 @@
 use check::same;
 use text::Number;
 
-#[derive(Drop)]
+#[derive(Clone, Copy)]
 pub enum Command {
     Power(u8, u8),
     Write(u16, u8),

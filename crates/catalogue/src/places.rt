@@ -6,7 +6,7 @@ use crate::lists;
 
 // Where a board's message lies: in the corrections or else in the standing catalogue, from an offset of the block, so
 // many bytes. At a refusal its number, and all else 0.
-#[derive(Drop)]
+#[derive(Clone, Copy)]
 pub struct Located {
     pub number: u8,
     pub corrected: bool,

@@ -7,7 +7,7 @@ mod listing; // listing.rt: the events of all samples, counted and written
 
 // What the decoder knows after a sample: the last level, whether a frame is open, whether a START or STOP fell in this
 // high phase of SCL, how many bits are pending, and their value.
-#[derive(Drop)]
+#[derive(Clone, Copy)]
 pub struct Decoder {
     pub last: u8,
     pub framed: bool,
@@ -17,7 +17,7 @@ pub struct Decoder {
 }
 
 // What one sample lists: nothing, one event, or two.
-#[derive(Drop)]
+#[derive(Clone, Copy)]
 pub enum Listed {
     Nothing,
     One(u16),
@@ -25,14 +25,14 @@ pub enum Listed {
 }
 
 // The decoder after a sample, and what the sample lists.
-#[derive(Drop)]
+#[derive(Clone, Copy)]
 pub struct Stepped {
     pub decoder: Decoder,
     pub listed: Listed,
 }
 
 // The answer of decode.
-#[derive(Drop)]
+#[derive(Clone, Copy)]
 pub enum Decoded {
     Events {
         count: usize,

@@ -9,7 +9,7 @@ ghost use Rattle.decode.specs.Stepping.{list_of};
 use super::{Decoder, Listed};
 
 // The decoder after the last sample, and how many events were written.
-#[derive(Drop)]
+#[derive(Clone, Copy)]
 pub(crate) struct Written {
     pub(crate) decoder: Decoder,
     pub(crate) count: usize,

@@ -8,7 +8,7 @@ mod lines; // lines.rt: the lines of one sample
 mod writer; // writer.rt: the text from a byte on, put into a slice
 
 // The answer of dump: how many bytes it wrote, or a refusal.
-#[derive(Drop)]
+#[derive(Clone, Copy)]
 pub enum Dumped {
     Written(usize),
     Refused { number: u8, place: usize },

@@ -11,7 +11,7 @@ use text::put_bytes;
 const LONGEST_TEXT: usize = 73855;
 
 // Where the writer is: how many of the bytes to come are left out, and where in the slice the first other one goes.
-#[derive(Drop)]
+#[derive(Clone, Copy)]
 pub(crate) struct Point {
     pub(crate) skip: usize,
     pub(crate) at: usize,

@@ -20,7 +20,7 @@ pub const LONGEST_TEXT: usize = 60000;
 
 // The answer of read: how many samples it wrote and the unit of their stamps in femtoseconds, 0 if the text says none;
 // or a refusal.
-#[derive(Drop)]
+#[derive(Clone, Copy)]
 pub enum DumpRead {
     Written { count: usize, timescale: u64 },
     Refused { number: u8, place: usize },

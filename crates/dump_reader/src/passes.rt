@@ -14,7 +14,7 @@ use crate::values::change;
 use crate::words::{Word, bytes_of, next_word};
 
 // The reader after the last word, and how many samples there are.
-#[derive(Drop)]
+#[derive(Clone, Copy)]
 pub(crate) struct Scanned {
     pub(crate) reader: Reader,
     pub(crate) count: usize,

@@ -5,7 +5,7 @@ ghost use Rattle.dump_reader.specs.Reader.{started, with_part, refused_by, with_
 use crate::words::Word;
 
 // What may stand next.
-#[derive(Drop)]
+#[derive(Clone, Copy)]
 pub(crate) enum Part {
     // a command of the definitions
     Definitions,
@@ -40,7 +40,7 @@ pub(crate) enum Part {
 
 // What the stamps and values say so far: the last stamp, if any; which wires have a value, and the values, both as
 // level bytes; and the level of the sample before, NO_SAMPLE if there is none.
-#[derive(Drop)]
+#[derive(Clone, Copy)]
 pub(crate) struct Wave {
     pub(crate) stamped: bool,
     pub(crate) stamp: u32,
@@ -52,7 +52,7 @@ pub(crate) struct Wave {
 // No level is this number.
 pub(crate) const NO_SAMPLE: u8 = 4;
 
-#[derive(Drop)]
+#[derive(Clone, Copy)]
 pub(crate) struct Reader {
     pub(crate) part: Part,
     // where the word that was judged last begins

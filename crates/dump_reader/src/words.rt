@@ -5,7 +5,7 @@ ghost use Rattle.text.specs.Words.{run_length};
 ghost use Rattle.dump_reader.specs.Words.{parting, belongs, bytes_of, word_from, first_byte, begins};
 
 // Bytes that stand together.
-#[derive(Drop)]
+#[derive(Clone, Copy)]
 pub(crate) enum Run {
     Parting,
     Word,
@@ -14,7 +14,7 @@ pub(crate) enum Run {
 }
 
 // A word: the place of its first byte, and that of the byte after its last.
-#[derive(Drop)]
+#[derive(Clone, Copy)]
 pub(crate) struct Word {
     pub(crate) start: usize,
     pub(crate) end: usize,

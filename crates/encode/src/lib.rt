@@ -8,7 +8,7 @@ mod draw; // draw.rt: the levels and stamps of an event list
 use trace::{MAX_GAP, MAX_SAMPLES, MAX_STAMP};
 
 // Where an event list stands: between frames, after a START, after a byte, or where no complete list can stand.
-#[derive(Drop)]
+#[derive(Clone, Copy)]
 pub enum Position {
     Between,
     Opened,
@@ -17,7 +17,7 @@ pub enum Position {
 }
 
 // The answer of encode: the sample count, or the refusal's number.
-#[derive(Drop)]
+#[derive(Clone, Copy)]
 pub enum Encoded {
     Drawn(usize),
     Refused(u8),

@@ -6,7 +6,7 @@ mod parts; // parts.rt: where two events differ
 mod lists; // lists.rt: how many events two lists begin with alike, and which byte comes next
 
 // Where two events differ: at a bit of a byte (7 is the most significant), at its acknowledge, or as no two bytes do.
-#[derive(Drop)]
+#[derive(Clone, Copy)]
 pub enum Part {
     Other,
     Bit(u8),
@@ -14,7 +14,7 @@ pub enum Part {
 }
 
 // The first difference: the index of the event, which byte of its message it is or comes before, and its part.
-#[derive(Drop)]
+#[derive(Clone, Copy)]
 pub enum Difference {
     Equal,
     At {

@@ -82,7 +82,7 @@ fn is_waiting(book: &[u32], row: usize) -> bool
 }
 
 // What a row is looked for as.
-#[derive(Drop)]
+#[derive(Clone, Copy)]
 pub(crate) enum Sought {
     Load,
     Board,

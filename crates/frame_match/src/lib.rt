@@ -55,7 +55,7 @@ pub const WAITS: usize = 1;
 pub const DONE: usize = 2;
 
 // What a frame is found to be.
-#[derive(Drop)]
+#[derive(Clone, Copy)]
 pub enum Found {
     // the message of a board that waits, in this row
     Waiting(usize),

@@ -41,6 +41,7 @@ module _ {A : Type 0} where
 
   -- someone of whom a claim holds, where another claim holds of everyone
   pub someone-both : {P Q : A → Type 0} {l : List A} → Everyone P l → Someone Q l → Someone (λ a. P a × Q a) l
+  someone-both {P = P} {Q = Q} nobody some = elim some [ ]
   someone-both (also p more) (this q) = this (p, q)
   someone-both (also p more) (another some) = another (someone-both more some)
 

@@ -2,7 +2,7 @@
 // their start, claims about everyone in a list, and the rules by which proofs take a branch.
 
 // A refusal: its number and its place in the input; 0 and 0 where nothing is refused.
-#[derive(Drop)]
+#[derive(Clone, Copy)]
 pub struct Refusal {
     pub number: u8,
     pub place: usize,

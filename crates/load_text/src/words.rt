@@ -13,14 +13,14 @@ pub const BOARD_NAME: usize = 16;
 pub const LOAD_NAME: usize = 32;
 
 // A word that says a number up to 255, or none.
-#[derive(Drop)]
+#[derive(Clone, Copy)]
 pub enum Byte {
     Of(u8),
     No,
 }
 
 // A word that says two numbers, or none.
-#[derive(Drop)]
+#[derive(Clone, Copy)]
 pub enum Parts {
     Of(u64, u64),
     No,

@@ -7,7 +7,7 @@ use arbitration_rules::{MAX_MASTERS, Seat};
 use usi::Usi;
 
 // A night between two rounds: how many there were, the round of each message, 0 while it waits, and the table.
-#[derive(Drop)]
+#[derive(Clone, Copy)]
 pub(crate) struct Standing {
     pub(crate) count: u32,
     pub(crate) rounds: [u32; MAX_MASTERS],

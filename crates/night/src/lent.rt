@@ -10,7 +10,7 @@ use arbitration_rules::MAX_MASTERS;
 use usi::Usi;
 
 // The reply, and the modules that the first entries of the table are to get.
-#[derive(Drop)]
+#[derive(Clone, Copy)]
 pub(crate) struct Ended {
     pub(crate) reply: Reply,
     pub(crate) entries: usize,

@@ -17,7 +17,7 @@ use usi::Usi;
 
 // The reply, the round of each message from 1, 0 past them, and the table of modules as it then stands. A refused one
 // has the refusal's number and place, 0 for all else, and the table as it was.
-#[derive(Drop)]
+#[derive(Clone, Copy)]
 pub struct NightRun {
     pub refusal: Refusal,
     // how many rounds there were
@@ -68,7 +68,7 @@ pub fn rehearse(
 }
 
 // What a night over a lent table answers: the refusal, and how many rounds there were, 0 at a refusal.
-#[derive(Drop)]
+#[derive(Clone, Copy)]
 pub struct Reply {
     pub refusal: Refusal,
     pub count: usize,

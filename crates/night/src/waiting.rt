@@ -10,14 +10,14 @@ use arbitration_messages::MAX_SENT;
 use arbitration_rules::MAX_MASTERS;
 
 // Counts or lengths one after the other, as many as size says.
-#[derive(Drop)]
+#[derive(Clone, Copy)]
 pub(crate) struct Numbers {
     pub(crate) list: [u32; MAX_SENT],
     pub(crate) size: usize,
 }
 
 // Bytes one after the other, as many as size says.
-#[derive(Drop)]
+#[derive(Clone, Copy)]
 pub(crate) struct Octets {
     pub(crate) list: [u8; MAX_SENT],
     pub(crate) size: usize,

@@ -9,7 +9,7 @@ mod phase; // phase.rt: the phases of SCL, and the first sample that ends a shor
 
 // What the bus behind a trace may do: anything, or what UM10204 allows in Standard-mode or in Fast-mode. In the last
 // two stamps count units of 100 ns.
-#[derive(Drop)]
+#[derive(Clone, Copy)]
 pub enum Mode {
     Unchecked,
     Standard,

@@ -6,14 +6,14 @@ ghost use Rattle.phases.specs.Phases as phases;
 use super::Mode;
 
 // The least length of a low and of a high phase.
-#[derive(Drop)]
+#[derive(Clone, Copy)]
 pub(crate) struct Limits {
     pub(crate) low: u32,
     pub(crate) high: u32,
 }
 
 // The phase that runs at a sample: SCL in it, whether the trace holds the sample that began it, and that one's stamp.
-#[derive(Drop)]
+#[derive(Clone, Copy)]
 pub(crate) struct Phase {
     pub(crate) scl: bool,
     pub(crate) whole: bool,

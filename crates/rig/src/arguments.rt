@@ -43,7 +43,7 @@ const SECOND_FILE: usize = 10;
 
 const UNKNOWN_OPTION: usize = 11;
 
-#[derive(Drop)]
+#[derive(Clone, Copy)]
 pub(crate) struct Arguments {
     pub(crate) task: usize,
     // which argument names the file; 0: none does

@@ -24,7 +24,7 @@ const UNPAIRED: u8 = 5;
 const CROSSED: u8 = 7;
 
 // How a trace ends, as the library says it.
-#[derive(Drop)]
+#[derive(Clone, Copy)]
 struct Ending {
     count: usize,
     framed: bool,

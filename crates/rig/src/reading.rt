@@ -6,7 +6,7 @@ use rig_lines::input;
 use rig_lines::input::{Line, ROOM, Source, Taken};
 use text::first_word;
 
-#[derive(Drop)]
+#[derive(Clone, Copy)]
 pub(crate) struct Progress {
     pub(crate) source: Source,
     pub(crate) more: bool,

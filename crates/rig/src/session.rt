@@ -14,7 +14,7 @@ use rig_lines::numbers::more;
 use text::first_word;
 use usi::Usi;
 
-#[derive(Drop)]
+#[derive(Clone, Copy)]
 struct Session {
     device: Usi,
     source: Source,

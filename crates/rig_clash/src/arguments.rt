@@ -26,7 +26,7 @@ const NIGHT: usize = 1;
 
 const DRAW: usize = 2;
 
-#[derive(Drop)]
+#[derive(Clone, Copy)]
 pub(crate) struct Arguments {
     command: usize,
     pub(crate) svg: bool,

@@ -19,7 +19,7 @@ const ONE_DIGIT: usize = 10;
 const BITS: u16 = 9;
 
 // The lines of the boards that are still in stand first, then the losers.
-#[derive(Drop)]
+#[derive(Clone, Copy)]
 pub(crate) enum Group {
     In,
     Lost,

@@ -106,7 +106,7 @@ fn with_corrections(
 }
 
 // Messages as the library takes them: their bytes, one after another, the boards that send them, and their lengths.
-#[derive(Drop)]
+#[derive(Clone, Copy)]
 struct List {
     bytes: [u8; BYTES],
     size: usize,

@@ -143,7 +143,7 @@ fn progress(page: &mut [u8; PAGE], state: State) -> State {
 }
 
 // What is done with a load: where a trace or a drawing is asked for, other loads are only read.
-#[derive(Drop)]
+#[derive(Clone, Copy)]
 enum Course {
     Night,
     Rehearsed,

@@ -1,7 +1,7 @@
 // A load: what its lines say, beside the bytes that are kept.
 use arbitration_rules::MAX_MASTERS;
 
-#[derive(Drop)]
+#[derive(Clone, Copy)]
 pub(crate) struct Load {
     // whether there is one that is being read, and whether it is in error
     pub(crate) open: bool,

@@ -9,7 +9,7 @@ use rig_lines::parts;
 use usi::Usi;
 use verdict::Verdict;
 
-#[derive(Drop)]
+#[derive(Clone, Copy)]
 pub(crate) struct Night {
     // refused, or sent, in so many rounds
     pub(crate) verdict: Verdict,

@@ -24,7 +24,7 @@ pub(crate) fn recorded(bytes: usize, parts: usize) -> usize {
     START + BYTE * least(bytes, MAX_LENGTH) + END * least(parts, MAX_LENGTH)
 }
 
-#[derive(Drop)]
+#[derive(Clone, Copy)]
 pub(crate) struct Outcome {
     pub(crate) verdict: Verdict,
     // the load has no `expect`, or went as it says

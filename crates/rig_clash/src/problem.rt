@@ -20,7 +20,7 @@ const LOADS: u8 = b'&';
 
 const LAST: u8 = b'^';
 
-#[derive(Drop)]
+#[derive(Clone, Copy)]
 pub(crate) struct Problem {
     // the line that is wrong, 0: none in particular
     pub(crate) line: u64,

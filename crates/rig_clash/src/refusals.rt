@@ -12,7 +12,7 @@ use rig_lines::lists::line_of;
 use text::put_byte;
 
 // Where a refusal is said: in a block, in the table, or in the block of a night.
-#[derive(Drop)]
+#[derive(Clone, Copy)]
 pub(crate) enum Stage {
     Block,
     Table,
@@ -57,7 +57,7 @@ const NOT_FITTING: usize = 24;
 const LITTLE_ROOM: usize = 25;
 
 // Words by their place, and their numbers.
-#[derive(Drop)]
+#[derive(Clone, Copy)]
 struct Words {
     form: usize,
     numbers: [u64; 8],

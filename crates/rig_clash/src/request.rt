@@ -9,7 +9,7 @@ use load_text::{gather, gather_counts, gather_parts};
 const COUNTS: usize = MAX_MASTERS + 1;
 
 // The bytes of the messages, the lengths of their parts, how many parts each has, and how many there are of each.
-#[derive(Drop)]
+#[derive(Clone, Copy)]
 pub(crate) struct Request {
     pub(crate) bytes: [u8; BYTES],
     pub(crate) size: usize,

@@ -7,7 +7,7 @@ use rig_lines::input;
 use rig_lines::input::Source;
 
 // What is shown of a load, and the room lent to the library.
-#[derive(Drop)]
+#[derive(Clone, Copy)]
 pub(crate) struct Options {
     pub(crate) table: bool,
     pub(crate) registers: bool,
@@ -23,7 +23,7 @@ pub(crate) struct Options {
 }
 
 // The file that is being read.
-#[derive(Drop)]
+#[derive(Clone, Copy)]
 pub(crate) struct File {
     // whether there is more to read
     pub(crate) more: bool,
@@ -42,7 +42,7 @@ pub(crate) struct File {
     pub(crate) end_line: u64,
 }
 
-#[derive(Drop)]
+#[derive(Clone, Copy)]
 pub(crate) struct State {
     // where the page goes on
     pub(crate) at: usize,

@@ -7,7 +7,7 @@ use rig_lines::console::PAGE;
 use rig_lines::lists::place_of;
 use text::{after_word, first_word};
 
-#[derive(Drop)]
+#[derive(Clone, Copy)]
 pub(crate) enum Statement {
     Boards,
     Load,
@@ -32,7 +32,7 @@ pub(crate) fn named(word: &[u8]) -> Statement {
 }
 
 // What a line of a file does. In the old form the first load and a board differ from those of a file with boards.
-#[derive(Drop)]
+#[derive(Clone, Copy)]
 enum Deed {
     Nothing,
     Ended,

@@ -11,7 +11,7 @@ use verdict::Verdict;
 // How many items the last line may have.
 const ITEMS: usize = 9;
 
-#[derive(Drop)]
+#[derive(Clone, Copy)]
 pub(crate) struct Tally {
     pub(crate) loads: u64,
     // sent as expected, cut, undecided, sent and not as expected, refused, in error

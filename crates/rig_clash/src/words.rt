@@ -7,7 +7,7 @@ use rig_lines::numbers::{least, more};
 use text::{after_word, first_word, put_byte};
 
 // What the words of a line are to be: bytes of two digits, of one or two, or acknowledges.
-#[derive(Drop)]
+#[derive(Clone, Copy)]
 pub(crate) enum Kind {
     Byte,
     Short,

@@ -55,7 +55,7 @@ pub fn put_name(page: &mut [u8], at: usize, argument: usize) -> usize
 }
 
 // What opening a file comes to: a source, or the error's number.
-#[derive(Drop)]
+#[derive(Clone, Copy)]
 pub enum Opened {
     Source(Source),
     Failed(u64),

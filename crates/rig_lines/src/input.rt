@@ -22,7 +22,7 @@ const TAB: u8 = 0x09;
 const RETURN: u8 = 0x0d;
 
 // Where the lines come from, and how far they are read.
-#[derive(Drop)]
+#[derive(Clone, Copy)]
 pub struct Source {
     pub fd: i32,
     // the argument that names the file; 0: standard input
@@ -38,7 +38,7 @@ pub struct Source {
 }
 
 // What taking a line finds: its length, or why there is none.
-#[derive(Drop)]
+#[derive(Clone, Copy)]
 pub enum Line {
     Text(usize),
     TooLong,
@@ -47,13 +47,13 @@ pub enum Line {
     Failed,
 }
 
-#[derive(Drop)]
+#[derive(Clone, Copy)]
 pub struct Taken {
     pub line: Line,
     pub source: Source,
 }
 
-#[derive(Drop)]
+#[derive(Clone, Copy)]
 enum Next {
     Byte(u8, Source),
     End(Source),

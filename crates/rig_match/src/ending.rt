@@ -9,7 +9,7 @@ use rig_lines::numbers::more;
 use text::put_byte;
 
 // What is missing: loads and messages that were not on the bus, loads that were not rehearsed.
-#[derive(Drop)]
+#[derive(Clone, Copy)]
 struct Missing {
     // where the page goes on
     at: usize,

@@ -10,7 +10,7 @@ use rig_lines::console::PAGE;
 use rig_lines::numbers::more;
 
 // How far the frames are held against the loads, and what became of them.
-#[derive(Drop)]
+#[derive(Clone, Copy)]
 pub(crate) struct Matching {
     // where the page goes on
     pub(crate) at: usize,

@@ -35,7 +35,7 @@ pub(crate) const STRANGE: usize = 7;
 const UNREADABLE: usize = 8;
 
 // How far the input is read, and how much of it is kept.
-#[derive(Drop)]
+#[derive(Clone, Copy)]
 pub(crate) struct Reading {
     source: Source,
     // how many bytes the line taken last has

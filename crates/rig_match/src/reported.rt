@@ -11,7 +11,7 @@ use rig_lines::store::line_at;
 use trace::START;
 
 // What is said of a frame: the place of the words, and the numbers in them.
-#[derive(Drop)]
+#[derive(Clone, Copy)]
 pub(crate) struct Said {
     words: usize,
     numbers: [u64; 6],

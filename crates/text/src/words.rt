@@ -12,7 +12,7 @@ const RETURN: u8 = 0x0d;
 const NEWLINE: u8 = 0x0a;
 
 // Bytes that stand together.
-#[derive(Drop)]
+#[derive(Clone, Copy)]
 enum Run {
     Line,
     Blanks,

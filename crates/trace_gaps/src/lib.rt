@@ -13,7 +13,7 @@ const MOST: u64 = 4;
 pub const MAX_GAPS: usize = 536870912;
 
 // How many gaps, and how long they are together.
-#[derive(Drop)]
+#[derive(Clone, Copy)]
 struct Tally {
     count: u64,
     sum: u64,

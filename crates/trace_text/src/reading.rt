@@ -11,7 +11,7 @@ use trace::{NACK, PARTIAL, REPEATED_START, START, STOP};
 
 const LARGEST_BYTE: u64 = 255;
 
-#[derive(Drop)]
+#[derive(Clone, Copy)]
 pub enum Said {
     Event(u16),
     // event numbers, one to a word, or what is none

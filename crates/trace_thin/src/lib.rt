@@ -9,7 +9,7 @@ use trace::MAX_SAMPLES;
 mod changes; // changes.rt: the samples that change a level, counted and written
 
 // The answer of thin: how many samples are left, or the refusal.
-#[derive(Drop)]
+#[derive(Clone, Copy)]
 pub enum Thinned {
     Left(usize),
     Refused { number: u8, place: usize },

@@ -13,7 +13,7 @@ mod ticks; // ticks.rt: a tick of the module's clock
 
 use usi_spi::Driven;
 
-#[derive(Drop)]
+#[derive(Clone, Copy)]
 pub struct Usi {
     pub usictl0: u8,
     pub usictl1: u8,
@@ -35,7 +35,7 @@ pub struct Usi {
 }
 
 // What a step answers: the next module, or a refusal's number with the module as it was.
-#[derive(Drop)]
+#[derive(Clone, Copy)]
 pub enum Step {
     Next(Usi),
     Refused(u8, Usi),
@@ -43,7 +43,7 @@ pub enum Step {
 
 // What a write answers: the module, as it was where the write is refused; the refusal's number, 0 where it is not;
 // and the flags of USICTL1 that were 1 before it and are 0 after it (02: Ask 12).
-#[derive(Drop)]
+#[derive(Clone, Copy)]
 pub struct Written {
     pub usi: Usi,
     pub refusal: u8,
@@ -51,21 +51,21 @@ pub struct Written {
 }
 
 // What a read answers: the byte or word, or a refusal's number.
-#[derive(Drop)]
+#[derive(Clone, Copy)]
 pub enum Read {
     Value(u16),
     Refused(u8),
 }
 
 // Which lines a module pulls low.
-#[derive(Drop)]
+#[derive(Clone, Copy)]
 pub struct Lines {
     pub scl: bool,
     pub sda: bool,
 }
 
 // What a module drives in SPI.
-#[derive(Drop)]
+#[derive(Clone, Copy)]
 pub struct SpiLines {
     pub sclk: Driven,
     pub sdo: Driven,

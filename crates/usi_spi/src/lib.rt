@@ -11,7 +11,7 @@ ghost use Rattle.usi_spi.specs.Rules.{driven as driven_rule, clock_level, clock_
 use usi_registers::{USI16B, USICKPH, USICKPL, USILSB, USIMST};
 
 // A line that the module drives, or not.
-#[derive(Drop)]
+#[derive(Clone, Copy)]
 pub enum Driven {
     Released,
     Low,

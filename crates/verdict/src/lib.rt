@@ -9,7 +9,7 @@ mod messages; // messages.rt: where a message lies, two compared, and whether ev
 use arbitration_rules::{Arbitrated, MAX_MASTERS, Seat};
 
 // What a rehearsal says of a load.
-#[derive(Drop)]
+#[derive(Clone, Copy)]
 pub enum Verdict {
     // the library refused it, with this number
     Refused(u8),

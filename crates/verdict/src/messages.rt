@@ -5,7 +5,7 @@ ghost use Rattle.verdict.specs.Message.{MessageAt};
 ghost use Rattle.laws.specs.Same.{same as same_of};
 
 // From one index to another.
-#[derive(Drop)]
+#[derive(Clone, Copy)]
 pub(crate) struct Span {
     pub(crate) from: usize,
     pub(crate) to: usize,

@@ -18,7 +18,7 @@ pub(crate) const CAPTURE: usize = 65536 + 1;
 
 const LARGEST_LEVEL: u64 = 255;
 
-#[derive(Drop)]
+#[derive(Clone, Copy)]
 pub(crate) struct Reading {
     pub(crate) progress: Progress,
     // how many samples are read at most
@@ -33,7 +33,7 @@ pub(crate) struct Reading {
 }
 
 // What a line says. Of one that is wrong: how, and where the word stands, in bytes before its end.
-#[derive(Drop)]
+#[derive(Clone, Copy)]
 enum Sample {
     Nothing,
     Both(u32, u8),

@@ -9,7 +9,7 @@ use trace::{PARTIAL, REPEATED_START, START, STOP};
 use trace_gaps::{apart, is_long};
 
 // What has been shown.
-#[derive(Drop)]
+#[derive(Clone, Copy)]
 pub(crate) struct Shown {
     // where the page goes on
     pub(crate) at: usize,

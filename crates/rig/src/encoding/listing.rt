@@ -19,7 +19,7 @@ const LARGEST_EVENT: u64 = 65535;
 
 const GAP: u32 = 50;
 
-#[derive(Drop)]
+#[derive(Clone, Copy)]
 pub(crate) struct Listing {
     pub(crate) progress: Progress,
     pub(crate) count: usize,

@@ -11,7 +11,7 @@ use trace_text::Said;
 const LARGEST_LEVEL: u64 = 3;
 
 // What a line says; words of it by where they stand, in bytes before its end.
-#[derive(Drop)]
+#[derive(Clone, Copy)]
 pub(crate) enum Statement {
     Nothing,
     Start(u32),

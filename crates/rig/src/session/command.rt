@@ -5,7 +5,7 @@ use rig_lines::numbers::value;
 use text::{after_word, first_word};
 use usi::Usi;
 
-#[derive(Drop)]
+#[derive(Clone, Copy)]
 pub(crate) enum Command {
     Power(u8, u8),
     Read(u16),

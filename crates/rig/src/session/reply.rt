@@ -43,7 +43,7 @@ const SDA: usize = 3;
 
 const SDO: usize = 5;
 
-#[derive(Drop)]
+#[derive(Clone, Copy)]
 pub(crate) struct Reply {
     // the module after the command
     pub(crate) device: Usi,
