@@ -1,0 +1,9 @@
+-- `text::words::after_line` meets its contract: a newline itself is left out.
+use Rattle.text.proofs.Runs.{past-newline, past-last}
+use Rattle.text.proofs.words.after_line.Goals as goal
+
+pub returns-then-end-text : goal.returns-then-end-text
+returns-then-end-text c = past-newline _ _ c.args.text.now c.run_length-end.ensures.value
+
+pub returns : goal.returns
+returns c = past-last _ _ c.args.text.now c.run_length-end.ensures.value c.if-end-text.false

@@ -1,0 +1,10 @@
+-- `text::words::first_word` meets its contract.
+use mathlib.Core.Path.{sym}
+use lib.Seq.{length-take-le}
+use Rattle.text.proofs.words.first_word.Goals as goal
+
+pub slice_bounds-result-end : goal.slice_bounds-result-end
+slice_bounds-result-end c = sym (length-take-le _ _ c.run_length-length.ensures.upper_bound)
+
+pub returns : goal.returns
+returns c = rw (c.run_length-length.ensures.value, c.from_word-word.ensures)
