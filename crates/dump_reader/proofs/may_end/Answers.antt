@@ -7,6 +7,3 @@ returns-in-Definitions c = rw c.in-Definitions.is
 
 pub returns-in-Values : goal.returns-in-Values
 returns-in-Values c = rw c.in-Values.is
-
-pub returns-in_default : goal.returns-in_default
-returns-in_default c = may-not-end c.args.part c.in_default.in_default-own.keys3
