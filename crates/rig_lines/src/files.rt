@@ -96,8 +96,7 @@ pub enum Opened {
 }
 
 // Opens the file of a name, that of an argument; argument 0 and the name `-` are standard input. The reader that is
-// lent is standard input too, and becomes the file that is opened. The system is asked for names that are UTF-8 alone:
-// no file has another.
+// lent is standard input, and becomes the file that is opened. A name that is no UTF-8 is taken for that of no file.
 pub fn open<R: Files<File = File>>(
     rt: &R,
     reader: &mut Reader,

@@ -1,5 +1,4 @@
 use mathlib.Core.Path.{refl}
-use Prim.Native.Nat.{◌-◌}
 use Rattle.text.proofs.Putting.{putting-length}
 use Rattle.rig_lines.proofs.Forms.{forming-none, forming-more, forming-done}
 use Rattle.rig_lines.proofs.console.put_form.Goals as goal

@@ -1,4 +1,4 @@
-use Prim.Native.Nat.{◌≤◌, ◌<◌, ◌-◌}
+use Prim.Native.Nat.{◌≤◌, ◌<◌}
 use lib.ListN.{length}
 use Rattle.text.proofs.Putting.{putting-none, putting-length}
 use Rattle.rig_lines.proofs.Forms.{shown-more, shown-done}

@@ -1,5 +1,4 @@
 use mathlib.Core.Path.{sym, ◌∙◌}
-use Prim.Native.Nat.{◌-◌}
 use Rattle.rig_lines.proofs.Taking.{passing-none, passing-more, passing-not, passing-all}
 use borrow.Author.Rules.{rules}
 use Rattle.rig_lines.proofs.input.is_text.Goals as goal
