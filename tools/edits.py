@@ -61,7 +61,7 @@ def now(path):
 
 
 def listed(commit):
-    out = subprocess.run(["git", "ls-tree", "-r", "--name-only", "-z", commit, "crates"], cwd=ROOT, capture_output=True,
+    out = subprocess.run(["git", "ls-tree", "-r", "--name-only", "-z", commit, "crates", "tests"], cwd=ROOT, capture_output=True,
                          text=True, check=True)
     return [path for path in out.stdout.split("\0") if path]
 
@@ -116,9 +116,16 @@ def learn(commit):
     words = {}
     for x, ys in seen.items():
         y, count = ys.most_common(1)[0]
-        if y != x and count > ys[x] and count * 2 > sum(ys.values()):
+        if y != x and count > ys[x] and count * 2 > sum(ys.values()) and same(x, y):
             words[x] = y
     return words
+
+
+def same(x, y):
+    """Whether two words are spellings of one: what else stands in a word's place is a change of the proofs. Of std's
+    words only getD has another name now."""
+    x, y = (re.sub(r"[-_'\u2032]", "", word).lower() for word in (x, y))
+    return x.replace("getd", "getor") == y
 
 
 # ---- the rules
@@ -187,7 +194,7 @@ def atoms(text):
 
 def projections(text):
     """`x .f` is `x.f`, and `g x .f` is `(g x).f`."""
-    while (m := re.search(r"(?<=[\w')]) \.([a-z][\w']*)", text)):
+    while (m := re.search(r"(?<=[\w')]) \.([a-z\d][\w']*)", text)):
         before = text[: m.start()]
         # within an open bracket only what is inside counts
         deep, start = 0, len(before)
@@ -207,7 +214,8 @@ def projections(text):
             made = f"{word}.{m[1]}"
             text = text[: first - whole] + made + text[m.end() + whole:]
         else:
-            text = text[:first] + f"({head}).{m[1]}" + text[m.end():]
+            whole = first > 0 and text[first - 1] == "(" and text[m.end(): m.end() + 1] == ")"
+            text = text[: first - whole] + f"({head}).{m[1]}" + text[m.end() + whole:]
     return text
 
 
@@ -219,6 +227,7 @@ def turned(text, words, ghost, lent=()):
     text = re.sub(r"Rattle·(\w+)(?:·specs\.specs|·proofs\.proofs|\.specs|\.proofs)\.",
                   lambda m: f"Rattle.{m[1]}.{'proofs' if 'proofs' in m[0] else 'specs'}.", text)
     text = re.sub(r"(?<=[{ ])_([^\w\s,}]+)_(?=[,}])", r"◌\1◌", text)
+    text = text.replace("Bool·beq", "beq")
     text = re.sub(r"λ r\. (?=⌜)", "", text)
     text = re.sub(r"⌜ | ⌝", "", text)
     parts = re.split(r'("(?:\\.|[^"\\])*")', text)
@@ -261,18 +270,45 @@ def added(head, items, more):
     return head + first, head + ", ".join([*more, first])
 
 
+# std's names for specs/ that Prelude doesn't pass on, and where an import of this repository has them
+ELSEWHERE = {"beq": "Rattle.std.specs.Bool", "zip_with": "mathlib.Core.List", "bool_byte": "mir.Val"}
+
+
+def names(items, words):
+    """The names of an import in today's spelling; an operator by itself is no case of the rule for imports."""
+    items = [re.sub(r"^_(.+)_$", r"◌\1◌", item) for item in re.findall(r"[^\s,]+", items)]
+    return [spelled(item.replace("Bool·beq", "beq"), words) for item in items]
+
+
 def merged(after, old, new, words):
     """Of a changed import, which stands now in a line with others of its module: the head of that line with the names
-    that the change adds; or that line without the name that the change declares in its place."""
+    that the change adds; or that line without the name that the change declares in its place. Further imports of the
+    new text stand before it, those of std in one line."""
     lines = after.split("\n")
-    if (was := GHOST_USE.match(old)) and (to := GHOST_USE.match(new)):
-        here, made = ([turned(item, words, True) for item in re.findall(r"[^\s,]+", m[2])] for m in (was, to))
-        # an operator by itself is none of the cases of the rule for imports
-        here, made = ([re.sub(r"^_(.+)_$", r"◌\1◌", item) for item in items] for items in (here, made))
-        more = [item for item in made if item not in here]
+    if (was := GHOST_USE.match(old)):
+        here, more, other = names(was[2], words), [], []
+        for line in new.split("\n"):
+            if not (to := GHOST_USE.match(line)):
+                return None
+            if to[1] == was[1]:
+                if not set(here) <= set(names(to[2], words)):
+                    return None
+            elif "Rattle·" in to[1]:
+                other.append(turned(line, words, True))
+                continue
+            more += [name for name in names(to[2], words) if name not in here]
         there = [m for line in lines if (m := GHOST_USE.match(line)) and set(here) <= set(re.findall(r"[^\s,]+", m[2]))]
-        if len(there) == 1 and more and after.count(there[0][1]) == 1 and set(here) <= set(made):
-            return added(there[0][1], there[0][2], more)
+        if len(there) != 1 or after.count(there[0][1]) != 1:
+            return None
+        imported = {name for line in lines if (m := GHOST_USE.match(line)) for name in re.findall(r"[^\s,]+", m[2])}
+        more = [name for name in more if name not in imported]
+        prelude = there[0][1].endswith("Prelude.{")
+        ghost = "ghost " if old.startswith("ghost") else ""
+        for name in [name for name in more if prelude and name in ELSEWHERE]:
+            more.remove(name)
+            other.append(f"{ghost}use {ELSEWHERE[name]}.{{{name}}}{was[3]}")
+        old2, new2 = added(there[0][1], there[0][2], more)
+        return old2, "\n".join([*other, new2])
     if (was := CODE_USE.match(old)):
         head = f"use {was[1]}::{{"
         line = [line for line in lines if line.startswith(head) and line.endswith("};")]
@@ -332,6 +368,71 @@ def edited(commit, path, words, learned):
     return "\n".join(out)
 
 
+def block(commit, path, old, new, words, learned):
+    """The same of texts of several lines, each line by itself."""
+    before, after = then(commit, path), now(path)
+    if after is None:
+        raise ByHand(f"no file {path}")
+    if before.count(old) != 1:
+        raise ByHand(f"stood {before.count(old)} times: {old}")
+    if (GHOST_USE.match(old) or CODE_USE.match(old)) and after.count(old) != 1:
+        if (both := merged(after, old, new, words)):
+            return both
+    first, code = before[: before.index(old)].count("\n"), path.endswith(".rt")
+    inside = ghosts(before) if code else None
+    lent, _ = parameters(before, first) if code else ((), ())
+
+    def line_now(line, ghost):
+        if code and not ghost:
+            return CLAUSE.sub(lambda m: turned(m[0], words | {"r": "result"}, True), line)
+        return turned(line, words | {"r": "result"} if code else words, ghost, lent)
+
+    old2 = "\n".join(line_now(line, not code or inside[first + n]) for n, line in enumerate(old.split("\n")))
+    ghost = not code or inside[first]
+    clause = [ghost or bool(re.match(r"\s*(ghost use|requires|ensures)\b", line)) for line in new.split("\n")]
+    new2 = "\n".join(line_now(line, ghost) for line, ghost in zip(new.split("\n"), clause))
+    if after.count(old2) != 1:
+        raise ByHand(f"{after.count(old2)} times now:\n      " + old2.replace("\n", "\n      "))
+    return old2, new2
+
+
+def changed(commit, path, words, learned):
+    """A wrong definition's present text (tests/wrong_definitions/*.change)."""
+    out, crate, file, old, new, word = [], None, None, None, None, None
+
+    def put():
+        if old is not None:
+            old2, new2 = block(commit, f"crates/{crate}/{file}", "\n".join(old), "\n".join(new), words, learned)
+            out.extend(f"old: {line}" for line in old2.split("\n"))
+            out.extend(f"new: {line}" for line in new2.split("\n"))
+
+    for line in then(commit, path).split("\n"):
+        before, (word, _, rest) = word, line.partition(":")
+        rest = rest.removeprefix(" ")
+        if word == "old" and before != "old":
+            put()
+            old, new = [rest], []
+        elif word == "old":
+            old.append(rest)
+        elif word == "new" and not line.startswith("#"):
+            new.append(rest)
+        else:
+            put()
+            old = new = None
+            crate = rest if word == "crate" else crate
+            file = rest if word == "file" else file
+            if word == "refused by" and rest.startswith("theorem "):
+                name = rest.split()[2]
+                line = line.removesuffix(name) + (words.get(name, name) if not stated(rest.split()[1], name) else name)
+            out.append(line)
+    return "\n".join(out)
+
+
+def stated(crate, theorem):
+    header = re.compile(rf"^ *(pub )?{re.escape(theorem)} :", re.M)
+    return any(header.search(path.read_text()) for path in (ROOT / "crates" / crate / "proofs").glob("*.antt"))
+
+
 def gone(path, text):
     """Words of new texts that stand neither in their file nor in the crate's definitions nor in std's words."""
     crate = path.split("/")[1]
@@ -362,17 +463,17 @@ def main():
         return 0
     count = hand = 0
     for path in listed(asked.old):
-        if not re.search(r"/must-fail/.*\.edit$", path) or (asked.names and not any(n in path for n in asked.names)):
+        if not re.search(r"/must-fail/.*\.edit$|\.change$", path):
             continue
-        if path.removeprefix("crates/") in BY_HAND:
+        if (asked.names and not any(n in path for n in asked.names)) or path.removeprefix("crates/") in BY_HAND:
             continue
         try:
-            text = edited(asked.old, path, words, learned)
+            text = (changed if path.endswith(".change") else edited)(asked.old, path, words, learned)
         except ByHand as why:
             hand += 1
             print(f"by hand: {path}: {why}")
             continue
-        if (lost := gone(path, text)):
+        if path.endswith(".edit") and (lost := gone(path, text)):
             print(f"look: {path}: its file has no {', '.join(lost)}")
         if text != now(path):
             count += 1
