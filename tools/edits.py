@@ -128,6 +128,9 @@ def same(x, y):
     return x.replace("getd", "getor") == y
 
 
+# names of the kit that only edits use
+STD = {"and-zero-r": "and_zero_r"}
+
 # ---- the rules
 
 
@@ -271,6 +274,7 @@ def added(head, items, more):
 
 
 # std's names for specs/ that Prelude doesn't pass on, and where an import of this repository has them
+PRELUDE = "use Rattle.std.specs.Prelude."
 ELSEWHERE = {"beq": "Rattle.std.specs.Bool", "zip_with": "mathlib.Core.List", "bool_byte": "mir.Val"}
 
 
@@ -293,7 +297,7 @@ def merged(after, old, new, words):
             if to[1] == was[1]:
                 if not set(here) <= set(names(to[2], words)):
                     return None
-            elif "Rattle·" in to[1]:
+            elif "Rattle·" in to[1] or not any(line.split("{")[0].endswith(PRELUDE) for line in lines):
                 other.append(turned(line, words, True))
                 continue
             more += [name for name in names(to[2], words) if name not in here]
@@ -302,7 +306,7 @@ def merged(after, old, new, words):
             return None
         imported = {name for line in lines if (m := GHOST_USE.match(line)) for name in re.findall(r"[^\s,]+", m[2])}
         more = [name for name in more if name not in imported]
-        prelude = there[0][1].endswith("Prelude.{")
+        prelude = there[0][1].endswith(PRELUDE + "{")
         ghost = "ghost " if old.startswith("ghost") else ""
         for name in [name for name in more if prelude and name in ELSEWHERE]:
             more.remove(name)
@@ -400,11 +404,17 @@ def changed(commit, path, words, learned):
     """A wrong definition's present text (tests/wrong_definitions/*.change)."""
     out, crate, file, old, new, word = [], None, None, None, None, None
 
+    blank = "new:" if "\nnew:\n" in then(commit, path) else "new: "
+
     def put():
-        if old is not None:
+        place = ROOT / "crates" / str(crate) / str(file)
+        if re.fullmatch(r"proofs/.*/Proof\.antt", str(file)) and not place.is_file():
+            # a function's own proof, which is found or written otherwise now: what judges a change reads none
+            print(f"look: {path}: {file} is gone, and what the change did there")
+        elif old is not None:
             old2, new2 = block(commit, f"crates/{crate}/{file}", "\n".join(old), "\n".join(new), words, learned)
             out.extend(f"old: {line}" for line in old2.split("\n"))
-            out.extend(f"new: {line}" for line in new2.split("\n"))
+            out.extend(f"new: {line}" if line else blank for line in new2.split("\n"))
 
     for line in then(commit, path).split("\n"):
         before, (word, _, rest) = word, line.partition(":")
@@ -457,6 +467,7 @@ def main():
     parser.add_argument("names", nargs="*")
     asked = parser.parse_args()
     words = learn(asked.old)
+    words |= STD
     learned = tuple(sorted(words.items()))
     if asked.words:
         print("\n".join(f"{x} {y}" for x, y in learned))
