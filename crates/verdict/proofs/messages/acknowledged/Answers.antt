@@ -7,40 +7,55 @@ use Rattle.laws.proofs.Bools.{below_both, past-either}
 use Rattle.arbitration_rules.proofs.Undecided.{none_left}
 use Rattle.verdict.proofs.Pairs.{through-start, through-more, through-fails, through-one}
 use Rattle.verdict.proofs.messages.acknowledged.Goals as goal
-use Rattle.verdict.proofs.messages.acknowledged.Goals.{In-loop-i}
-
-inside : (s : In-loop-i)
-    → s.loop-i.i
-    < min (length s.args.message.now) (length s.args.acks.now)
-inside s =
-    let a = s.args in
-    below_both s.loop-i.i (length a.message.now) (length a.acks.now) s.loop-i-test.true
 
 pub loop-i-init : goal.loop-i-init
 loop-i-init c = through-start _ _ _ _ _
 
 pub bounds-acks-i : goal.bounds-acks-i
-bounds-acks-i c = omega (arith, inside c)
+bounds-acks-i c =
+    let inside : c.loop-i.i
+    < min (length c.args.message.now) (length c.args.acks.now) =
+    let a = c.args in
+    below_both c.loop-i.i (length a.message.now) (length a.acks.now) c.loop-i-test.true in
+    omega (arith, inside)
 
 pub returns-then-acks-i-ne0 : goal.returns-then-acks-i-ne0
 returns-then-acks-i-ne0 c =
+    let inside : c.loop-i.i
+    < min (length c.args.message.now) (length c.args.acks.now) =
+    let a = c.args in
+    below_both c.loop-i.i (length a.message.now) (length a.acks.now) c.loop-i-test.true in
     let head = c.loop-i in
     let a = c.args in
-    let less = inside c in
+    let less = inside in
     through-fails _ _ _ a.message.now a.acks.now head.i 0 0 head.invariant (omega (arith, less))
     (omega (arith, less)) (ne_eqb _ _ c.if-acks-i-ne0.true)
 
 pub overflow_add-i : goal.overflow_add-i
-overflow_add-i c = omega (arith, inside c)
+overflow_add-i c =
+    let inside : c.loop-i.i
+    < min (length c.args.message.now) (length c.args.acks.now) =
+    let a = c.args in
+    below_both c.loop-i.i (length a.message.now) (length a.acks.now) c.loop-i-test.true in
+    omega (arith, inside)
 
 pub loop-i-smaller : goal.loop-i-smaller
-loop-i-smaller c = omega (arith, inside c)
+loop-i-smaller c =
+    let inside : c.loop-i.i
+    < min (length c.args.message.now) (length c.args.acks.now) =
+    let a = c.args in
+    below_both c.loop-i.i (length a.message.now) (length a.acks.now) c.loop-i-test.true in
+    omega (arith, inside)
 
 pub loop-i-preserved : goal.loop-i-preserved
 loop-i-preserved c =
+    let inside : c.loop-i.i
+    < min (length c.args.message.now) (length c.args.acks.now) =
+    let a = c.args in
+    below_both c.loop-i.i (length a.message.now) (length a.acks.now) c.loop-i-test.true in
     let head = c.loop-i in
     let a = c.args in
-    let less = inside c in
+    let less = inside in
     through-more _ _ _ a.message.now a.acks.now head.i 0 0 head.invariant (omega (arith, less))
     (omega (arith, less)) (eq-eqb _ _ c.if-acks-i-ne0.false)
 
