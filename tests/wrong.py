@@ -1,93 +1,55 @@
 #!/usr/bin/env python3
 """tests/wrong.py [CRATE..]: tries every wrong version of the crates, those that the gate leaves out too
-(crates/*/must-fail/more), each over its crate's incremental folder: some seconds each. The prover must refuse each
-because a fact fails. Works on two copies of the tree beside each other; the last line counts."""
-import os
+(crates/*/must-fail/more), with `rt must-fail` on a copy of the tree where all stand right in must-fail/: some seconds
+each, over what `rt check` kept in out/. The prover must refuse each because a fact fails. What was tried before and
+stands on nothing that changed is not tried again. The last line counts."""
+import re
 import shutil
 import subprocess
 import sys
 import tempfile
-import threading
 from pathlib import Path
 
-from edits_apply import ROOT, applied
+from edits_apply import ROOT
 
-COPIES = 2
+TRIED = re.compile(r"^(?:rt: )?must-fail (\S+\.edit): (refused|NOT REFUSED|BAD EDIT|NOT TRIED)")
 
 
 def copy_of_tree(where):
-    for part in ("crates", "crates.txt", "target"):
+    """The tree with every edit in the gate's place; how many edits each crate has."""
+    for part in ("crates", "crates.txt", "HANDLES"):
         source = ROOT / part
         if source.is_dir():
             shutil.copytree(source, where / part, symlinks=True)
         elif source.exists():
             shutil.copy(source, where / part)
-    return where
-
-
-def verdict(tree, crate):
-    """Whether the crate is proved, refused, or did not reach the prover; and the first error."""
-    done = subprocess.run(["rt", "dev", crate], cwd=tree, capture_output=True, text=True, errors="replace")
-    said = done.stdout + done.stderr
-    first = next((line for line in said.splitlines() if ": error" in line), "")
-    if "logic=proved" in said:
-        return "proved", first
-    return ("refused" if "logic=not-proved" in said else "broken"), first
-
-
-def try_edit(tree, edit):
-    crate = edit.relative_to(ROOT / "crates").parts[0]
-    files = applied(edit)
-    kept = {path: (tree / path).read_bytes() for path in files}
-    for path, text in files.items():
-        (tree / path).write_text(text)
-    answer, first = verdict(tree, crate)
-    for path, text in kept.items():
-        (tree / path).write_bytes(text)
-    return answer, first.replace(str(tree) + os.sep, "")
-
-
-class Work:
-    """Crates to be done, one at a time in each copy; the results of all."""
-
-    def __init__(self, edits):
-        self.crates = {}
-        for edit in edits:
-            self.crates.setdefault(edit.relative_to(ROOT / "crates").parts[0], []).append(edit)
-        self.lock, self.count, self.bad = threading.Lock(), 0, []
-
-    def next_crate(self):
-        with self.lock:
-            return self.crates.popitem() if self.crates else None
-
-    def note(self, edit, answer, first):
-        with self.lock:
-            self.count += 1
-            if answer != "refused":
-                self.bad.append(edit)
-            print(f"{answer} {edit.relative_to(ROOT / 'crates')}: {first[:160]}", flush=True)
-
-    def run(self, tree):
-        while (task := self.next_crate()) is not None:
-            crate, edits = task
-            verdict(tree, crate)
-            for edit in edits:
-                self.note(edit, *try_edit(tree, edit))
+    counts = {}
+    for edits in sorted(where.glob("crates/*/must-fail")):
+        for edit in sorted(edits.glob("*/*.edit")):
+            to = edits / edit.name
+            if to.exists():
+                sys.exit(f"two wrong versions are called {to.relative_to(where)}")
+            edit.rename(to)
+        for folder in [path for path in edits.iterdir() if path.is_dir()]:
+            shutil.rmtree(folder)
+        counts[edits.parent.name] = len(list(edits.glob("*.edit")))
+    return counts
 
 
 def main():
-    names = sys.argv[1:]
-    edits = sorted(ROOT.glob("crates/*/must-fail/**/*.edit"))
-    work = Work([edit for edit in edits if not names or edit.relative_to(ROOT / "crates").parts[0] in names])
     with tempfile.TemporaryDirectory() as place:
-        trees = [copy_of_tree(Path(place) / str(copy)) for copy in range(COPIES)]
-        threads = [threading.Thread(target=work.run, args=(tree,)) for tree in trees]
-        for thread in threads:
-            thread.start()
-        for thread in threads:
-            thread.join()
-    print(f"{work.count} wrong versions, {work.count - len(work.bad)} refused, {len(work.bad)} not refused")
-    return 1 if work.bad or not work.count else 0
+        counts = copy_of_tree(Path(place))
+        names = sys.argv[1:] or list(counts)
+        words = {"stdout": subprocess.PIPE, "stderr": subprocess.STDOUT, "text": True, "errors": "replace"}
+        answers = {}
+        with subprocess.Popen(["rt", "must-fail", *names], cwd=place, **words) as tries:
+            for line in tries.stdout:
+                print(line, end="", flush=True)
+                if found := TRIED.match(line):
+                    answers[found[1]] = found[2]
+    count, refused = sum(counts.get(name, 0) for name in names), list(answers.values()).count("refused")
+    print(f"{count} wrong versions, {refused} refused, {count - refused} not refused")
+    return 1 if refused != count or not count else 0
 
 
 sys.exit(main())

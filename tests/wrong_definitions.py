@@ -7,11 +7,11 @@ code can keep its contract. Nothing in the crate itself notices that; each `refu
   theorem CRATE NAME   a theorem about the definitions, stated in crates/CRATE/proofs, is no longer proved. It is
                        checked over the changed definitions alone: no function, no theorem but those that it cites
   cases_X              the changed code, run unproved, writes something else than crates/cases_X/stdout
-  comparison           the changed crates are proved, and the library differs from the Rust model (needs target/)
+  comparison           the changed crates are proved, and the library differs from the Rust model (needs out/)
 
 Without a mode each is tried, and a line says where it was refused; first the same is tried with no change, which must
 pass. --apply says whether every change still applies, and whether docs/WRONG.md has its row: quick, for the gate.
---table prints those rows. --agree proves the changed crates with each change (needs target/): definition and code
+--table prints those rows. --agree proves the changed crates with each change (needs out/): definition and code
 agree, or the crate's own proofs refuse them too. All work on a copy of the tree. Without a name: all of them."""
 import re
 import shutil

@@ -55,12 +55,12 @@ class Kit:
     """The compiler and prover that `rt` runs."""
 
     def __init__(self):
-        rt = shutil.which("rt") or sys.exit("no rt in PATH")
-        home = Path(os.environ.get("RATTLE_HOME") or Path(rt).resolve().parent.parent)
-        own = home / "on" / os.uname().machine
-        self.prover, rlibs = own / "bin" / "rattle", own / "rlib"
-        self.words = ["--antt-project", home / "logic" / "antt-project.json", "--logic-built", own / "logic-built"]
-        self.words += ["--extern", f"std={rlibs}/std.rlib", "-L", f"dependency={rlibs}"]
+        home = Path(shutil.which("rt") or sys.exit("no rt in PATH")).resolve().parent.parent
+        self.prover, rlibs = home / "bin" / "rattle", home / "rlibs"
+        self.words = ["--antt-project", home / "rattle" / "logic" / "antt-project.json"]
+        self.words += ["--logic-built", home / "logic_built", "--jobs", "1"]
+        self.words += [word for name in ("core", "std") for word in ("--extern", f"{name}={rlibs}/{name}.rlib")]
+        self.words += ["-L", f"dependency={rlibs}"]
 
     def check(self, crate, root, more):
         return run([self.prover, "check", "--crate-name", crate, root / "src" / "lib.rt", *self.words, *more])
@@ -72,7 +72,7 @@ class Tree:
     def __init__(self, work):
         self.root, self.uses, self.changed = work / "tree", dependencies(), []
         for part in ("crates", "rust"):
-            shutil.copytree(ROOT / part, self.root / part, ignore=shutil.ignore_patterns("target", "must-fail"))
+            shutil.copytree(ROOT / part, self.root / part, ignore=shutil.ignore_patterns("target", "out", "must-fail"))
         shutil.copy(ROOT / "crates.txt", self.root)
 
     def apply(self, texts):
@@ -96,30 +96,36 @@ class Tree:
 
 # ---- a theorem over the definitions alone
 
-FUNCTION = re.compile(r'(pub(\(crate\))? )?(extern "C" )?fn |impl |#\[no_mangle\]')
-OUTSIDE = re.compile(r"ghost use |(pub )?(use|mod) ")
-USE = re.compile(r"use (\w+)::(\w+);")
-INNER = re.compile(r"^use crate::(\w+)::([A-Z]\w*);", re.M)
+FUNCTION = re.compile(r'(pub(\(crate\))? )?(extern "C" )?fn |impl |#\[unsafe\(no_mangle\)\]|#\[cycle\(')
+OUTSIDE = re.compile(r"^((ghost |pub )?use|(pub )?mod) [^;]*;.*\n", re.M)
+USE = re.compile(r"^use ([\w:]+)::(?:(\w+)|\{([^}]*)\});", re.M)
 DECLARED = re.compile(r"(?:(?:abbrev|unfoldable) )?(?:pub )?([^\s:]+) :")
 
 
 def types(text):
     """The types and constants of a crate's root file, which its definitions may name; no function."""
     kept, inside = [], False
-    for line in text.split("\n"):
+    for line in OUTSIDE.sub("", text).split("\n"):
         inside = inside or bool(FUNCTION.match(line))
-        if not inside and not OUTSIDE.match(line):
+        if not inside:
             kept.append(line)
         inside = inside and line != "}"
     named = words("\n".join(kept))
-    uses = [(crate, item) for crate, item in USE.findall(text) if item in named and crate != "crate"]
-    inner = [(module, item) for module, item in INNER.findall(text) if item in named]
-    return "\n".join([f"use {crate}::{item};" for crate, item in uses]
-                     + [f"use crate::{module}::{item};" for module, item in inner] + kept)
+    uses = [f"use {path}::{item};" for path, item in imports(text)
+            if item in named and (path.partition("::")[0] != "crate" or item[0].isupper())]
+    # what speaks of the whole file (#![..]) stays at its head
+    head = [line for line in kept if line.startswith("#![")]
+    return "\n".join([*head, *uses, *(line for line in kept if line not in head)])
+
+
+def imports(text):
+    """The items that a file imports, each with the path before it."""
+    return [(path, item) for path, one, several in USE.findall(text)
+            for item in ([one] if one else re.findall(r"\w+", several))]
 
 
 def words(text):
-    return set(re.findall(r"[\w·'-]+", text))
+    return set(re.findall(r"[\w'-]+", text))
 
 
 def alone(text, names):
@@ -160,9 +166,9 @@ class Definitions:
             for (owner, module), names in needs.items():
                 text = (self.tree.root / "crates" / owner / "proofs" / f"{module}.antt").read_text()
                 texts[owner, module] = alone(text, names)
-            for (owner, _), text in texts.items():
-                for other, inside, module in re.findall(r"Rattle·(\w+?)(·proofs)?\.proofs\.(\w+)", text):
-                    if not inside or other == owner:
+            for text in texts.values():
+                for other, module in re.findall(r"Rattle\.(\w+)\.proofs\.(\w+)", text):
+                    if other in self.tree.uses:
                         cites.setdefault((other, module), set()).update(words(text))
             if all(names <= needs.get(place, set()) for place, names in cites.items()):
                 return texts
@@ -198,8 +204,8 @@ class Definitions:
     def named(self, crate):
         """The crates that what is written of one names, and those that they name, lowest first."""
         text = "".join(path.read_text() for path in (self.root / crate).rglob("*.antt"))
-        found = {name for name in re.findall(r"Rattle·(\w+?)[·.]", text)}
-        found |= {used for used, _ in USE.findall((self.root / crate / "src" / "lib.rt").read_text())}
+        found = {name for name in re.findall(r"Rattle\.(\w+)\.", text)}
+        found |= {path.partition("::")[0] for path, _ in imports((self.root / crate / "src" / "lib.rt").read_text())}
         found &= set(self.tree.uses)
         for name in found - {crate}:
             found = found | set(self.named(name))
@@ -234,38 +240,42 @@ class Definitions:
 
 def stored(tree, cases):
     """The first line that the changed program writes otherwise, or None. The interpreter has too few steps for all."""
-    said = run(["rt", "try", cases], cwd=tree.root).stdout
-    way = re.search(r"^(ok|FAIL): the native program at -O0 (.*)(?:\non standard output, at byte (\d+))?", said, re.M)
-    if not way:
-        raise Bad("the program was not run:\n" + said[-2000:])
-    if way[1] == "ok":
+    folder = tree.root / "crates" / cases
+    with (folder / "stdin").open("rb") as given:
+        said = subprocess.run(["rt", "try"], cwd=folder, stdin=given, capture_output=True)
+    ended = re.search(rb"^run=ended status=(\d+) ", said.stderr, re.M)
+    if said.returncode == 4:
+        return f"{cases}: a fault"
+    if not ended:
+        raise Bad("the program was not run:\n" + said.stderr.decode(errors="replace")[-2000:])
+    if ended[1] != b"0":
+        return f"{cases}: status {ended[1].decode()}"
+    wrote, wanted = said.stdout, (folder / "stdout").read_bytes()
+    if wrote == wanted:
         return None
-    if not way[3]:
-        return f"{cases}: {way[2]}"
-    before = (tree.root / "crates" / cases / "stdout").read_bytes()[: int(way[3])].decode(errors="replace").split("\n")
+    same = len(os.path.commonprefix([wrote, wanted]))
+    before = wanted[:same].decode(errors="replace").split("\n")
     heading = next((line for line in reversed(before) if line.startswith("# ")), "# stdout")
     return f"{cases} (stdout:{len(before)}, {heading[2:]})"
 
 
 class Comparison:
-    """The changed library, proved, against the Rust model. What is unchanged is taken from target/ as it is proved."""
+    """The changed library, proved, against the Rust model. What is unchanged is taken from out/ as it is proved."""
 
     def __init__(self, tree, work):
         self.tree, self.built = tree, work / "cargo"
 
     def begin(self):
-        shutil.rmtree(self.tree.root / "target", ignore_errors=True)
-        for crate in self.tree.reached("export"):
-            for part in (f"rlib/{crate}.rlib", f"stamp/{crate}"):
-                source, target = ROOT / "target" / part, self.tree.root / "target" / part
-                if not source.exists():
-                    raise Bad(f"no target/{part}: rt check export makes it")
-                target.parent.mkdir(parents=True, exist_ok=True)
-                shutil.copytree(source, target) if source.is_dir() else shutil.copy(source, target)
+        for crate in [*self.tree.reached("export"), "export"]:
+            source, target = (root / "crates" / crate / "out" for root in (ROOT, self.tree.root))
+            if not (source / ("incremental" if crate == "export" else "rlib")).is_dir():
+                raise Bad(f"no {source.relative_to(ROOT)}: rt lib export makes it")
+            shutil.rmtree(target, ignore_errors=True)
+            shutil.copytree(source, target)
 
     def judge(self):
         self.begin()
-        archive = run(["rt", "staticlib", "export"], cwd=self.tree.root)
+        archive = run(["rt", "lib", "export"], cwd=self.tree.root / "crates" / "export")
         if archive.returncode != 0:
             raise Bad("the changed library is not proved:\n" + archive.stdout[-2000:])
         compare = "cargo run --quiet --manifest-path rust/Cargo.toml --release -p linked --bin compare -- all"
@@ -305,7 +315,8 @@ class Judges:
                 if changed & {name, *self.tree.reached(name)}:
                     more += ["--lib", f"{name}={self.tree.root}/crates/{name}/src/lib.rt"]
                 else:
-                    more += ["--extern", f"{name}={ROOT}/target/rlib/{name}.rlib"]
+                    built = ROOT / "crates" / name / "out" / "rlib"
+                    more += ["--extern", f"{name}={built}/{name}.rlib", "-L", f"dependency={built}"]
             said = self.kit.check(top, self.tree.root / "crates" / top, more)
             first = re.search(r"^(?:note: )?(\S+?\.(?:rt|antt)):(\d+):\d+:", said.stdout, re.M)
             if said.returncode != 0 and ("logic=not-proved" not in said.stdout or not first):
