@@ -62,12 +62,12 @@ loop-i-preserved c =
             rw (w.index-is, w.best_from-is, w.best_to-is, counts)
             (leading-yields _ _ head.from head.index head.best_from head.best_to head.comparisons
             head.i _ head.invariant.1
-            c.loop-i-test.true c.end_of-to.ensures (sym precedes ∙ w.if-not-compared.true))
+            c.loop-i-test.true c.end_of-to.ensures (sym precedes ∙ not-true c.compare-compared.result.precedes w.if-not-compared.true))
         | else-not-compared w ↦
             rw (w.index-is, w.best_from-is, w.best_to-is, counts)
             (leading-stays _ _ head.from head.index head.best_from head.best_to head.comparisons
             head.i _ head.invariant.1
-            c.loop-i-test.true c.end_of-to.ensures (sym precedes ∙ w.if-not-compared.false))
+            c.loop-i-test.true c.end_of-to.ensures (sym precedes ∙ not-false c.compare-compared.result.precedes w.if-not-compared.false))
       ],
     )
 
