@@ -31,11 +31,11 @@ fn put_flag(page: &mut [u8; PAGE], at: usize, byte: u8, name: &[u8]) -> usize {
 
 // The names of the bits that are 1, from bit 7 down; each stands in a line of its own, from a first one on.
 fn put_flags(page: &mut [u8; PAGE], at: usize, byte: u8, first: usize) -> usize {
-    let names = b"PE7\n_pE6\n_pE5\n_lSB\n_mST\n_gE\n_oE\n_sWRST\n\
-        CKPH\n_i2_c\n_sTTIE\n_iIE\n_aL\n_sTP\n_sTTIFG\n_iFG\n\
-        CKPL\n_sWCLK\n\n\n\n\n\n\n\
-        SCLREL\n16_b\n_iFGCC\n\n\n\n\n\n\
-        AL\n_sTP\n_sTTIFG\n_iFG";
+    let names = b"PE7\nPE6\nPE5\nLSB\nMST\nGE\nOE\nSWRST\n\
+        CKPH\nI2C\nSTTIE\nIIE\nAL\nSTP\nSTTIFG\nIFG\n\
+        CKPL\nSWCLK\n\n\n\n\n\n\n\
+        SCLREL\n16B\nIFGCC\n\n\n\n\n\n\
+        AL\nSTP\nSTTIFG\nIFG";
     let mut next = at;
     let mut rest = byte;
     let mut place: usize = 0;

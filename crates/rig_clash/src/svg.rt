@@ -76,7 +76,7 @@ fn put_head(page: &mut [u8; PAGE], at: usize, kept: &[u8], width: usize, height:
     let root = begin_numbers(
         page,
         at,
-        b"<svg xmlns=\"http://www.w3.org/2000/svg\" width=\"#\" height=\"#\" view_box=\"0 0 # #\" \
+        b"<svg xmlns=\"http://www.w3.org/2000/svg\" width=\"#\" height=\"#\" viewBox=\"0 0 # #\" \
         font-family=\"monospace\" font-size=\"12\">\n<title>",
         &numbers,
     );

@@ -88,8 +88,8 @@ fn put_said(page: &mut [u8; PAGE], at: usize, kept: &[u8], load: Load, outcome: 
     let unsent = outcome.length > outcome.count;
     let form = form_of(verdict, load.ack_line > 0, unsent);
     let words = b"sent, no ack line\nsent\n???CUT at byte # (%), the last\n\
-        ???CUT at byte # (%), # not sent\n???UNDECIDED at byte #: \n_eXPECTED $ #/#\n_eXPECTED $ #/#\n\
-        EXPECTED $ #/#, CUT at byte # (%), the last\n_eXPECTED $ #/#, CUT at byte # (%), # not sent\n\
+        ???CUT at byte # (%), # not sent\n???UNDECIDED at byte #: \nEXPECTED $ #/#\nEXPECTED $ #/#\n\
+        EXPECTED $ #/#, CUT at byte # (%), the last\nEXPECTED $ #/#, CUT at byte # (%), # not sent\n\
         EXPECTED $ #/#, UNDECIDED at byte #: ";
     let said = line_of(words, shifted(form, either(outcome.expected, 0, 5)));
     let numbers = numbers_of(load, outcome);
