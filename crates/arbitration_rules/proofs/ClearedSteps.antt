@@ -290,7 +290,7 @@ module _ (messages : List (List ℕ)) (standing : List ℕ → Standing) (byte :
       quietly messages (bit-turn-quiet false)
       (λ message. standing_as (last_bit (after_byte byte ninth)) (standing message)) refl
       (phases.bit-turn-is messages false (all_as (last_bit (after_byte byte ninth)) pull level levels)
-      ∙ ends.low_bit messages standing byte ninth pull level old levels carried one)
+      ∙ ends.low-bit messages standing byte ninth pull level old levels carried one)
 
   lets-rise : Clears messages (writes still_in let_rise) (all_as low_bit false 1 (levels ++ 0 ∷ 1 ∷ []))
       (all_as lets_rise false 1 (levels ++ 0 ∷ 1 ∷ [])) (λ message. 0)
@@ -392,7 +392,7 @@ module _ (messages : List (List ℕ)) (standing : List ℕ → Standing) (byte :
       quietly messages (bit-turn-quiet false)
       (λ message. standing_as (to_send (after_byte byte ninth)) (standing message)) refl
       (phases.bit-turn-is messages false (stage (to_send (after_byte byte ninth)) pull level levels)
-      ∙ again.high_bit messages standing byte ninth pull level old levels carried one)
+      ∙ again.high-bit messages standing byte ninth pull level old levels carried one)
 
   lowers : Clears messages (writes still_in pull_low) (stage high_bit false 3 bit) (stage pulls_low false 3 bit)
       (λ message. 0)

@@ -63,9 +63,14 @@ ready-to-listen =
       opaque-lost = refl;
     }
 
+-- what holds of both levels holds of every level
+at_both : (P : Bool → Type 0) → P true → P false → (b : Bool) → P b
+at_both P high low true = high
+at_both P high low false = low
+
 clocking : {control flags : ℕ} → Ready control flags → (n : ℕ) → suc n < 32 → Clocking control flags (suc n)
 unfolding loss_control
-clocking ready n small =
+clocking {control = control} ready n small =
     record {
       fitting = ready.fitting (suc n) ∙ ap (λ b. b && true && true && true) (narrow (suc n) small);
       clocks = ready.clocks (suc n) ∙ counts n small;
@@ -73,7 +78,8 @@ clocking ready n small =
       counting = counts n small;
       moves = ready.moves (suc n) ∙ ap (λ b. b && true) (counts n small);
       opaque = ready.opaque;
-      opaque-after = λ lost. elim lost [ true ↦ ready.opaque-lost | false ↦ ready.opaque ];
+      opaque-after =
+          at_both (λ lost. set_up.transparent (loss_control control lost) ≡ false) ready.opaque-lost ready.opaque;
     }
 
 -- the registers after a turn with one bit less to go
@@ -161,18 +167,18 @@ unfolding condition_flags condition_count phase_after followed edged fallen rise
 released-turn register latch sda true =
     record {
       falls = refl;
-      low = λ before. elim before [ true ↦ refl | false ↦ refl ];
-      drives-low = λ before. elim before [ true ↦ refl | false ↦ refl ];
-      high = λ before. elim before [ true ↦ refl | false ↦ refl ];
-      drives-high = λ before. elim before [ true ↦ refl | false ↦ refl ];
-      ends = λ before. elim before [ true ↦ refl | false ↦ refl ];
+      low = at_both _ refl refl;
+      drives-low = at_both _ refl refl;
+      high = at_both _ refl refl;
+      drives-high = at_both _ refl refl;
+      ends = at_both _ refl refl;
     }
 released-turn register latch sda false =
     record {
       falls = refl;
-      low = λ before. elim before [ true ↦ refl | false ↦ refl ];
-      drives-low = λ before. elim before [ true ↦ refl | false ↦ refl ];
-      high = λ before. elim before [ true ↦ refl | false ↦ refl ];
-      drives-high = λ before. elim before [ true ↦ refl | false ↦ refl ];
-      ends = λ before. elim before [ true ↦ refl | false ↦ refl ];
+      low = at_both _ refl refl;
+      drives-low = at_both _ refl refl;
+      high = at_both _ refl refl;
+      drives-high = at_both _ refl refl;
+      ends = at_both _ refl refl;
     }

@@ -81,7 +81,7 @@ differs-apart acknowledges (sent ∷ message) (other ∷ others) differs =
           index = suc later.index;
           alike = ap₂ ◌∷◌ (eqb-true sent other same) later.alike;
           acknowledged =
-              λ i. elim i [
+              λ i. elim i as (λ i. i < suc later.index → get_or acknowledges i 0 ≡ 0) [
                 | zero ↦ λ below. eqb-true (get_or acknowledges 0 0) 0 two.0
                 | suc i ↦ λ below. sym (get_d-rest acknowledges i) ∙ later.acknowledged i (omega arith)
               ];

@@ -12,7 +12,7 @@ use Rattle.arbitration_rules.specs.Masters.{still_in}
 use Rattle.arbitration_rules.specs.Outcome.{byte_at}
 use Rattle.arbitration_rules.specs.Run.{Bus, perform, writes}
 use Rattle.arbitration_pass.specs.declared.instants.Operation.{Operation}
-use Rattle.arbitration_pass.specs.declared.instants.Operation.TheVariants.{Pull, Clear, Load, LetGo, Lower, Raise}
+use Rattle.arbitration_pass.specs.declared.instants.Operation.TheVariants.{Pull, Clear, Load, LetGo, Lower, Raise, Enter, Sample, Heed}
 use Rattle.arbitration_pass.specs.declared.instants.Operation.TheVariants.{Rest, Rise, Heed}
 use Rattle.arbitration_pass.specs.declared.instants.Effect.{Effect}
 use Rattle.arbitration_pass.specs.declared.instants.Effect.TheVariants.{Nothing, Begin, Release, Acknowledge, Record}
@@ -52,6 +52,11 @@ spells Lower lower index = refl
 spells Raise raise index = refl
 spells Rest rest index = refl
 spells Rise rise index = refl
+spells Enter never index = elim never [ ]
+spells Sample never index = elim never [ ]
+spells Load never index = elim never [ ]
+spells LetGo never index = elim never [ ]
+spells Heed never index = elim never [ ]
 
 plain : (ticks : Bool) (level : ℕ) (contending lost : List Bool) (bytes : List ℕ) (operation : Operation)
     → Writes operation → Plain ticks level contending lost bytes operation
@@ -67,6 +72,11 @@ plain ticks level contending lost bytes Rest rest =
     record { no-sample = refl; no-yield = refl; no-heed = refl; not-fresh = λ usi. refl; alike = λ byte. refl }
 plain ticks level contending lost bytes Rise rise =
     record { no-sample = refl; no-yield = refl; no-heed = refl; not-fresh = λ usi. refl; alike = λ byte. refl }
+plain ticks level contending lost bytes Enter never = elim never [ ]
+plain ticks level contending lost bytes Sample never = elim never [ ]
+plain ticks level contending lost bytes Load never = elim never [ ]
+plain ticks level contending lost bytes LetGo never = elim never [ ]
+plain ticks level contending lost bytes Heed never = elim never [ ]
 
 -- the instants past set-up
 pub data Allowed : Instant → Type 0 where

@@ -3,9 +3,10 @@ mod script;
 mod show;
 
 use check::same;
-use libc::STDIN_FILENO;
 use script::{read_bytes, read_digits, read_messages, read_numbers, within};
 use text::{after_word, first_word};
+
+const STDIN: i32 = 0;
 
 // Room for the digits, bytes, parts and messages of a line, and for both buffers.
 const ROOM: usize = 2048;
@@ -125,7 +126,7 @@ fn run(script: &[u8]) {
 
 fn main() {
     let mut script = io::large_buffer();
-    let n = io::read_full(STDIN_FILENO, &mut script);
+    let n = io::read_full(STDIN, &mut script);
     if n == script.len() {
         show::line(b"the script is too long");
         return;

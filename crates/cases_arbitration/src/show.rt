@@ -1,8 +1,9 @@
 // The lines that answer a command.
 use arbitration::{Arbitrated, Rehearsed};
 use arbitration_rules::{MAX_MASTERS, Seat};
-use libc::STDOUT_FILENO;
 use usi::Usi;
+
+const STDOUT: i32 = 1;
 
 // Room for a module.
 const MODULE: usize = 96;
@@ -18,28 +19,28 @@ enum Entries {
 }
 
 pub fn line(bytes: &[u8]) {
-    io::write_all(STDOUT_FILENO, bytes);
-    io::write_all(STDOUT_FILENO, b"\n");
+    io::write_all(STDOUT, bytes);
+    io::write_all(STDOUT, b"\n");
 }
 
 // A label and a number.
 fn labelled(label: &[u8], number: u64) {
-    io::write_all(STDOUT_FILENO, label);
-    io::print_decimal(STDOUT_FILENO, number);
+    io::write_all(STDOUT, label);
+    io::print_decimal(STDOUT, number);
 }
 
 fn module(device: Usi) {
     let mut text = [0u8; MODULE];
     let end = usi_text::put_module(&mut text, 0, device);
-    io::write_all(STDOUT_FILENO, &text[0..end]);
+    io::write_all(STDOUT, &text[0..end]);
 }
 
 fn master(i: usize, device: Usi, seat: Seat) {
     labelled(b"  ", i as u64);
-    io::write_all(STDOUT_FILENO, b": ");
+    io::write_all(STDOUT, b": ");
     module(device);
     labelled(b" at ", seat.position as u64);
-    io::write_all(STDOUT_FILENO, b" cleared=");
+    io::write_all(STDOUT, b" cleared=");
     hex_byte(seat.cleared);
     line(b"");
 }
@@ -92,13 +93,13 @@ fn replied(done: Rehearsed, count: usize) {
 fn hex_byte(b: u8) {
     let mut text = [0u8; 2];
     text::put_hex_byte(&mut text, 0, b);
-    io::write_all(STDOUT_FILENO, &text);
+    io::write_all(STDOUT, &text);
 }
 
 // A level as a digit, and a point for a byte that is none.
 fn level(b: u8) {
     let text = [if b <= 3 { b'0' + b } else { b'.' }];
-    io::write_all(STDOUT_FILENO, &text);
+    io::write_all(STDOUT, &text);
 }
 
 fn entry(b: u8, kind: Entries) {
@@ -109,7 +110,7 @@ fn entry(b: u8, kind: Entries) {
 }
 
 fn buffer(label: &[u8], entries: &[u8], kind: Entries) {
-    io::write_all(STDOUT_FILENO, label);
+    io::write_all(STDOUT, label);
     let mut i = 0;
     while i < entries.len() {
         entry(entries[i], kind);

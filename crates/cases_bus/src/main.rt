@@ -4,7 +4,8 @@ mod script;
 mod show;
 
 use check::same;
-use libc::STDIN_FILENO;
+
+const STDIN: i32 = 0;
 
 // The longest trace, event list and buffer of a command.
 const ROOM: usize = 4200;
@@ -119,7 +120,7 @@ fn run(script: &[u8]) {
 
 fn main() {
     let mut script = io::large_buffer();
-    let n = io::read_full(STDIN_FILENO, &mut script);
+    let n = io::read_full(STDIN, &mut script);
     if n == script.len() {
         show::line(b"the script is too long");
         return;

@@ -1,18 +1,19 @@
 // The lines that answer the commands.
 use decode::Decoded;
 use encode::Encoded;
-use libc::STDOUT_FILENO;
 use std::num::wrapping_add_u32;
 
+const STDOUT: i32 = 1;
+
 pub fn line(bytes: &[u8]) {
-    io::write_all(STDOUT_FILENO, bytes);
-    io::write_all(STDOUT_FILENO, b"\n");
+    io::write_all(STDOUT, bytes);
+    io::write_all(STDOUT, b"\n");
 }
 
 // A label and a number.
 fn labelled(label: &[u8], number: u64) {
-    io::write_all(STDOUT_FILENO, label);
-    io::print_decimal(STDOUT_FILENO, number);
+    io::write_all(STDOUT, label);
+    io::print_decimal(STDOUT, number);
 }
 
 fn decoded_line(refusal: u8, place: usize, count: usize, framed: bool, pending: u8, value: u8) {
@@ -22,7 +23,7 @@ fn decoded_line(refusal: u8, place: usize, count: usize, framed: bool, pending: 
     labelled(b" open ", framed as u64);
     labelled(b" pending ", pending as u64);
     labelled(b" value ", value as u64);
-    io::write_all(STDOUT_FILENO, b" |");
+    io::write_all(STDOUT, b" |");
 }
 
 fn decoded(answer: Decoded) {
@@ -120,7 +121,7 @@ pub fn decoding(stamps: &[u32], levels: &[u8], n: usize, events: &mut [u16], roo
 // Encodes an event list into two buffers, and prints the answer and the buffers.
 fn encode_into(events: &[u16], start: u32, gap: u32, stamps: &mut [u32], levels: &mut [u8]) {
     encoded(encode::encode(events, start, gap, stamps, levels));
-    io::write_all(STDOUT_FILENO, b" |");
+    io::write_all(STDOUT, b" |");
     all_samples(stamps, levels);
     line(b"");
 }

@@ -3,8 +3,9 @@ mod command;
 mod show;
 
 use command::Command;
-use libc::STDIN_FILENO;
 use usi::{Step, Usi};
+
+const STDIN: i32 = 0;
 
 // Runs one command and answers the module after it.
 fn run_command(command: Command, device: Usi) -> Usi {
@@ -57,7 +58,7 @@ fn run(script: &[u8]) {
 
 fn main() {
     let mut script = io::large_buffer();
-    let n = io::read_full(STDIN_FILENO, &mut script);
+    let n = io::read_full(STDIN, &mut script);
     if n == script.len() {
         show::line(b"the script is too long");
         return;

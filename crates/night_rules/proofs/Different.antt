@@ -140,7 +140,7 @@ count-at-most message other (own ∷ l) order =
     omega (arith, smaller-than-more own message other order, count-at-most message other l order)
 
 -- more than one of them that is smaller
-pub count-smaller : {l : List (List ℕ)} (message other : List ℕ) → Among message l → smaller message other ≡ true
+pub count-smaller : (message other : List ℕ) {l : List (List ℕ)} → Among message l → smaller message other ≡ true
     → smaller_count message l < smaller_count other l
 count-smaller message other (this {a = own} {l} same) less =
     let itself : smaller own message ≡ false = ap (λ m. smaller m message) same ∙ smaller-self message in
@@ -162,7 +162,7 @@ count_most : (message : List ℕ) (l : List (List ℕ)) → smaller_count messag
 count_most message [] = omega arith
 count_most message (own ∷ l) = omega (arith, some_or_none (smaller own message), count_most message l)
 
-pub count-within : {l : List (List ℕ)} (message : List ℕ) → Among message l → smaller_count message l < length l
+pub count-within : (message : List ℕ) {l : List (List ℕ)} → Among message l → smaller_count message l < length l
 count-within message (this {a = own} {l} same) =
     let itself : smaller own message ≡ false = ap (λ m. smaller m message) same ∙ smaller-self message in
     rw itself (omega (arith, count_most message l))

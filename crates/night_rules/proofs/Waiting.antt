@@ -17,12 +17,14 @@ use Rattle.night_rules.proofs.Different.{Among}
 -- what holds of all holds of one of them
 pub among-so : {P : List ℕ → Type 0} {message : List ℕ} {messages : List (List ℕ)} → Everyone P messages
     → Among message messages → P message
+among-so {P = P} {message = message} nobody among = elim among [ ]
 among-so {P} (also p more) (this same) = subst P same p
 among-so (also p more) (another among) = among-so more among
 
 -- the least message, known by the order
 pub least-is : (messages : List (List ℕ)) (winner : List ℕ) → Among winner messages
     → Everyone (AtMost winner) messages → least messages ≡ winner
+least-is [] winner among order = elim among [ ]
 least-is (message ∷ messages) winner among order =
     at-most-equal
     (at-most (least (message ∷ messages)) winner (among-so (least-at-most (message ∷ messages)) among))
@@ -42,7 +44,7 @@ module _ (round_of : List ℕ → ℕ) where
       go (suc round) is rest = rest
 
   -- and who has none waits
-  pub waiting_among : {messages : List (List ℕ)} (message : List ℕ) → Among message messages → round_of message ≡ 0
+  pub waiting_among : (message : List ℕ) {messages : List (List ℕ)} → Among message messages → round_of message ≡ 0
       → Among message (waiting (map round_of messages) messages)
   waiting_among message (this {a = own} {l = messages} same) first =
       go (round_of own) (ap round_of same ∙ first)

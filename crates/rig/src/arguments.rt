@@ -2,10 +2,12 @@
 use crate::lines::say;
 use check::same;
 use phases::Mode;
+use rig_lines::arguments::{Found, count, find, word};
 use rig_lines::console::PAGE;
 use rig_lines::lists::{line_of, place_of};
 use rig_lines::numbers::{is_number, value};
 use rig_lines::options::is_option;
+use std::rt::Env;
 
 // The commands by their place in the list of names.
 pub(crate) const DECODE: usize = 0;
@@ -151,13 +153,12 @@ impl Arguments {
         self.with_file(argument, same(word, b"-"))
     }
 
-    fn with_argument(self, argument: usize) -> Arguments {
+    fn with_argument<E: Env>(self, env: &E, argument: usize) -> Arguments {
         let mut space = io::buffer();
-        let n = os::arg(argument, &mut space);
-        if os::errno() != 0 {
-            return self.failed(TOO_LONG, argument);
+        match find(env, argument, &mut space) {
+            Found::Word(n) => self.with_word(argument, &space[..n]),
+            _ => self.failed(TOO_LONG, argument),
         }
-        self.with_word(argument, &space[..n])
     }
 
     // What is found once all words are read. rig encode and rig session go without a file.
@@ -180,9 +181,9 @@ impl Arguments {
         self
     }
 
-    pub(crate) fn complain(self, page: &mut [u8; PAGE]) -> usize {
+    pub(crate) fn complain<E: Env>(self, env: &E, page: &mut [u8; PAGE]) -> usize {
         let mut space = io::buffer();
-        let n = os::arg(self.about, &mut space);
+        let n = word(env, self.about, &mut space);
         let words = line_of(
             b"
 error an argument is longer than 4096 bytes
@@ -199,37 +200,38 @@ error unknown option $ for *
 ",
             self.trouble,
         );
-        say(page, 0, words, &[0], &space[..n])
+        say(page, 0, words, &[self.task as u64], &space[..n])
     }
 }
 
 // The command that the first word names.
-fn begun() -> Arguments {
-    let none = Arguments::none(0);
-    if os::arg_count() < 2 {
-        return none.failed(NO_COMMAND, 0);
-    }
-    let mut space = io::buffer();
-    let n = os::arg(1, &mut space);
-    if os::errno() != 0 {
-        return none.failed(TOO_LONG, 1);
-    }
-    let task = place_of(b"decode\ndump\nencode\nsession\nsort\n", &space[..n]);
+fn of_command(word: &[u8]) -> Arguments {
+    let task = place_of(b"decode\ndump\nencode\nsession\nsort\n", word);
     if task > SORT {
-        return none.failed(UNKNOWN_COMMAND, 1);
+        return Arguments::none(0).failed(UNKNOWN_COMMAND, 1);
     }
     Arguments::none(task)
 }
 
-pub(crate) fn parse() -> Arguments {
-    let mut given = begun();
-    let count = os::arg_count();
+fn begun<E: Env>(env: &E) -> Arguments {
+    let none = Arguments::none(0);
+    let mut space = io::buffer();
+    match find(env, 1, &mut space) {
+        Found::Word(n) => of_command(&space[..n]),
+        Found::TooLong => none.failed(TOO_LONG, 1),
+        Found::Missing => none.failed(NO_COMMAND, 0),
+    }
+}
+
+pub(crate) fn parse<E: Env>(env: &E) -> Arguments {
+    let mut given = begun(env);
+    let end = count(env);
     let mut i: usize = 2;
-    while i < count {
+    while i < end {
         if given.trouble != NOTHING {
             return given;
         }
-        given = given.with_argument(i);
+        given = given.with_argument(env, i);
         i += 1;
     }
     given.finished()

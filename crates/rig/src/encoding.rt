@@ -8,9 +8,11 @@ use crate::trouble::NOTHING;
 use encode::Encoded;
 use listing::{EVENTS, Listing};
 use rig_lines::console::PAGE;
+use rig_lines::files::Reader;
 use rig_lines::input::Source;
 use rig_lines::refusals::put_refusal;
 use rig_lines::{input, parts};
+use std::rt::Env;
 use trace::MAX_SAMPLES;
 
 // The refusal of a list that is not complete.
@@ -83,7 +85,8 @@ fn answer_part(page: &mut [u8; PAGE], listing: Listing, events: &[u16], room: us
 }
 
 // The same, where every line was understood.
-fn answer_read(
+fn answer_read<E: Env>(
+    env: &E,
     page: &mut [u8; PAGE],
     listing: Listing,
     line: &[u8; input::ROOM],
@@ -91,15 +94,27 @@ fn answer_read(
     room: usize,
 ) -> usize {
     if listing.progress.fault != NOTHING {
-        return listing.complain(page, line);
+        return listing.complain(env, page, line);
     }
     answer_part(page, listing, events, room)
 }
 
-pub(crate) fn run(page: &mut [u8; PAGE], source: Source, room: usize) -> usize {
+pub(crate) fn run<E: Env>(
+    env: &E,
+    reader: &mut Reader,
+    page: &mut [u8; PAGE],
+    source: Source,
+    room: usize,
+) -> usize {
     let mut piece = [0u8; PAGE];
     let mut line = [0u8; input::ROOM];
     let mut events = [0u16; EVENTS];
-    let listing = listing::read_all(Listing::new(source), &mut piece, &mut line, &mut events);
-    answer_read(page, listing, &line, &events, room)
+    let listing = listing::read_all(
+        reader,
+        Listing::new(source),
+        &mut piece,
+        &mut line,
+        &mut events,
+    );
+    answer_read(env, page, listing, &line, &events, room)
 }

@@ -1,11 +1,11 @@
 // Lines of output in words with marks.
 use rig_lines::console::{PAGE, begin, put_quoted};
-use rig_lines::files::put_name;
+use rig_lines::lists::line_of;
 use rig_lines::store::line_at;
 use text::{put_byte, put_bytes, put_decimal, put_hex_byte};
 
 // What stands for the next number, in decimal or as two hexadecimal digits; for `s`, unless the number before was 1;
-// for a word that was met, in quotes; and for the command, which is the first argument.
+// for a word that was met, in quotes; and for the command, whose place among them is the first number.
 const DECIMAL: u8 = b'#';
 
 const HEX: u8 = b'%';
@@ -40,6 +40,11 @@ fn put_plural(page: &mut [u8; PAGE], at: usize, number: u64) -> usize {
     put_byte(page, at, b's')
 }
 
+fn put_command(page: &mut [u8; PAGE], at: usize, task: u64) -> usize {
+    let commands = b"decode\ndump\nencode\nsession\nsort\n";
+    put_bytes(page, at, line_of(commands, task as usize))
+}
+
 fn put_mark(
     page: &mut [u8; PAGE],
     at: usize,
@@ -53,7 +58,7 @@ fn put_mark(
         HEX => put_hex_byte(page, at, (line_at(numbers, place) % 256) as u8),
         PLURAL => put_plural(page, at, line_at(numbers, before(place))),
         WORD => put_quoted(page, at, word),
-        COMMAND => put_name(page, at, 1),
+        COMMAND => put_command(page, at, line_at(numbers, 0)),
         _ => put_byte(page, at, b),
     }
 }

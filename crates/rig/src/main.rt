@@ -13,40 +13,51 @@ mod traced; // traced.rt: a trace read from its lines
 mod trouble; // trouble.rt: what was not understood or could not be read
 
 use arguments::{Arguments, ENCODE, NOTHING, SESSION};
+use rig_lines::arguments::word;
 use rig_lines::console::PAGE;
-use rig_lines::files::Opened;
+use rig_lines::files::{Opened, Reader};
 use rig_lines::input::Source;
 use rig_lines::{console, files};
+use std::fs::File;
+use std::rt::{Env, Files};
 
 // Runs a command on its file; answers how much then stands on the page.
-fn run(page: &mut [u8; PAGE], given: Arguments, source: Source) -> usize {
+fn run<E: Env>(
+    env: &E,
+    reader: &mut Reader,
+    page: &mut [u8; PAGE],
+    given: Arguments,
+    source: Source,
+) -> usize {
     let task = given.task;
     match task {
-        ENCODE => encoding::run(page, source, given.room),
-        SESSION => session::run(page, source),
-        _ => traced::run(page, given, source),
+        ENCODE => encoding::run(env, reader, page, source, given.room),
+        SESSION => session::run(env, reader, page, source),
+        _ => traced::run(env, reader, page, given, source),
     }
 }
 
-fn begin(page: &mut [u8; PAGE]) -> usize {
-    let given = arguments::parse();
+// The reader that is lent is standard input.
+fn begin<R: Env + Files<File = File>>(rt: &R, reader: &mut Reader, page: &mut [u8; PAGE]) -> usize {
+    let given = arguments::parse(rt);
     if given.trouble != NOTHING {
-        return given.complain(page);
+        return given.complain(rt, page);
     }
     let mut name = io::buffer();
-    let n = os::arg(given.file, &mut name);
-    match files::open(given.file, &name[..n]) {
-        Opened::Source(source) => run(page, given, source),
-        Opened::Failed(errno) => trouble::file(page, b"error cannot open ", given.file, errno),
+    let n = word(rt, given.file, &mut name);
+    match files::open(rt, reader, given.file, &name[..n]) {
+        Opened::Source(source) => run(rt, reader, page, given, source),
+        Opened::Failed(errno) => trouble::file(rt, page, b"error cannot open ", given.file, errno),
     }
 }
 
-fn answer(page: &mut [u8; PAGE]) {
-    let end = begin(page);
+fn answer<R: Env + Files<File = File>>(rt: &R, reader: &mut Reader, page: &mut [u8; PAGE]) {
+    let end = begin(rt, reader, page);
     console::flush(page, end);
 }
 
-fn main() {
+fn main(rt: HostRuntime) {
+    let mut reader = Reader::Standard(rt.stdin());
     let mut page = [0u8; PAGE];
-    answer(&mut page);
+    answer(&rt, &mut reader, &mut page);
 }

@@ -4,6 +4,7 @@ use crate::trouble;
 use rig_lines::console::PAGE;
 use rig_lines::input;
 use rig_lines::input::{Line, ROOM, Source, Taken};
+use std::rt::Env;
 use text::first_word;
 
 #[derive(Clone, Copy)]
@@ -41,10 +42,16 @@ impl Progress {
     }
 
     // Says what is wrong, with a hint.
-    pub(crate) fn complain(self, page: &mut [u8; PAGE], line: &[u8; ROOM], hint: usize) -> usize {
+    pub(crate) fn complain<E: Env>(
+        self,
+        env: &E,
+        page: &mut [u8; PAGE],
+        line: &[u8; ROOM],
+        hint: usize,
+    ) -> usize {
         let words = input::content(line, self.length);
         let word = first_word(suffix(words, self.left));
-        trouble::fault(page, self.source, self.fault, word, hint)
+        trouble::fault(env, page, self.source, self.fault, word, hint)
     }
 }
 

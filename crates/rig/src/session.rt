@@ -7,10 +7,12 @@ use crate::reading::{Progress, after};
 use crate::trouble;
 use reply::Reply;
 use rig_lines::console::{PAGE, flush};
+use rig_lines::files::Reader;
 use rig_lines::input;
 use rig_lines::input::{ROOM, Source};
 use rig_lines::lists::line_of;
 use rig_lines::numbers::more;
+use std::rt::Env;
 use text::first_word;
 use usi::Usi;
 
@@ -118,10 +120,16 @@ impl Session {
     }
 
     // The last line.
-    fn summary(self, page: &mut [u8; PAGE]) -> usize {
+    fn summary<E: Env>(self, env: &E, page: &mut [u8; PAGE]) -> usize {
         if self.source.errno != 0 {
             let source = self.source;
-            return trouble::file(page, b"error cannot read ", source.argument, source.errno);
+            return trouble::file(
+                env,
+                page,
+                b"error cannot read ",
+                source.argument,
+                source.errno,
+            );
         }
         let words = b"error # of # commands not understood, the first on line #
 refused #: # of # commands refused, the first on line #
@@ -133,19 +141,21 @@ ok # command~";
 
 // Replies to the next line.
 fn with_next(
+    reader: &mut Reader,
     page: &mut [u8; PAGE],
     piece: &mut [u8; PAGE],
     line: &mut [u8; ROOM],
     session: Session,
 ) -> Session {
     let from = session.source;
-    let taken = input::next_line(piece, line, from);
+    let taken = input::next_line(reader, piece, line, from);
     let progress = after(taken);
     let next = session.with_progress(progress);
     next.replied(page, progress.fault, input::content(line, progress.length))
 }
 
 fn run_all(
+    reader: &mut Reader,
     page: &mut [u8; PAGE],
     piece: &mut [u8; PAGE],
     line: &mut [u8; ROOM],
@@ -158,14 +168,19 @@ fn run_all(
         if !session.more {
             return session;
         }
-        session = with_next(page, piece, line, session);
+        session = with_next(reader, page, piece, line, session);
     }
     session
 }
 
-pub(crate) fn run(page: &mut [u8; PAGE], source: Source) -> usize {
+pub(crate) fn run<E: Env>(
+    env: &E,
+    reader: &mut Reader,
+    page: &mut [u8; PAGE],
+    source: Source,
+) -> usize {
     let mut piece = [0u8; PAGE];
     let mut line = [0u8; ROOM];
-    let session = run_all(page, &mut piece, &mut line, source);
-    session.summary(page)
+    let session = run_all(reader, page, &mut piece, &mut line, source);
+    session.summary(env, page)
 }

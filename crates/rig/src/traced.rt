@@ -6,8 +6,10 @@ use crate::decoding::{captured, samples};
 use crate::trouble::NOTHING;
 use crate::{decoding, dumping, sorting};
 use rig_lines::console::PAGE;
+use rig_lines::files::Reader;
 use rig_lines::input::Source;
 use rig_lines::{input, parts};
+use std::rt::Env;
 
 // The part of it that was read.
 fn answer(
@@ -39,7 +41,8 @@ fn answer(
 }
 
 // The same, where every line was understood.
-fn answer_read(
+fn answer_read<E: Env>(
+    env: &E,
     page: &mut [u8; PAGE],
     given: Arguments,
     reading: Reading,
@@ -49,13 +52,15 @@ fn answer_read(
     lines: &[u64; CAPTURE],
 ) -> usize {
     if reading.progress.fault != NOTHING {
-        return reading.complain(page, line);
+        return reading.complain(env, page, line);
     }
     answer(page, given, reading, stamps, levels, lines)
 }
 
 // Reads the lines of a trace.
-fn run_lines(
+fn run_lines<E: Env>(
+    env: &E,
+    reader: &mut Reader,
     page: &mut [u8; PAGE],
     given: Arguments,
     source: Source,
@@ -66,6 +71,7 @@ fn run_lines(
     let mut levels = [0u8; CAPTURE];
     let mut lines = [0u64; CAPTURE];
     let reading = samples::read_all(
+        reader,
         Reading::new(source, given.thin),
         piece,
         &mut line,
@@ -73,16 +79,22 @@ fn run_lines(
         &mut levels,
         &mut lines,
     );
-    answer_read(page, given, reading, &line, &stamps, &levels, &lines)
+    answer_read(env, page, given, reading, &line, &stamps, &levels, &lines)
 }
 
 // A dump, which rig decode alone reads, is known by how its text begins, all of which is read first.
-pub(crate) fn run(page: &mut [u8; PAGE], given: Arguments, source: Source) -> usize {
+pub(crate) fn run<E: Env>(
+    env: &E,
+    reader: &mut Reader,
+    page: &mut [u8; PAGE],
+    given: Arguments,
+    source: Source,
+) -> usize {
     let mut piece = [0u8; TEXT];
-    let ready = input::fill(&mut piece, source);
+    let ready = input::fill(reader, &mut piece, source);
     let n = parts::bytes(ready.end, &piece);
     if (given.task == DECODE) & captured::begins(&piece[..n]) {
-        return captured::run(page, given, ready, &piece[..n]);
+        return captured::run(env, page, given, ready, &piece[..n]);
     }
-    run_lines(page, given, ready, &mut piece)
+    run_lines(env, reader, page, given, ready, &mut piece)
 }

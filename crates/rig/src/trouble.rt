@@ -5,6 +5,7 @@ use rig_lines::console::PAGE;
 use rig_lines::files::{put_name, put_reason};
 use rig_lines::input::Source;
 use rig_lines::lists::line_of;
+use std::rt::Env;
 use text::{put_byte, put_bytes};
 
 // What is wrong with a line of the file, or that none can be read: the places of the words below.
@@ -39,16 +40,23 @@ pub(crate) const NO_GAP: usize = 13;
 pub(crate) const WRONG_GAP: usize = 14;
 
 // A file that cannot be opened or read.
-pub(crate) fn file(page: &mut [u8; PAGE], words: &[u8], argument: usize, errno: u64) -> usize {
+pub(crate) fn file<E: Env>(
+    env: &E,
+    page: &mut [u8; PAGE],
+    words: &[u8],
+    argument: usize,
+    errno: u64,
+) -> usize {
     let error = put_bytes(page, 0, words);
-    let named = put_name(page, error, argument);
+    let named = put_name(env, page, error, argument);
     let why = put_bytes(page, named, b": ");
     let reason = put_reason(page, why, errno);
     put_byte(page, reason, b'\n')
 }
 
 // The fault of the line read last, with the word that it is about, and a hint.
-pub(crate) fn fault(
+pub(crate) fn fault<E: Env>(
+    env: &E,
     page: &mut [u8; PAGE],
     source: Source,
     fault: usize,
@@ -56,7 +64,13 @@ pub(crate) fn fault(
     hint: usize,
 ) -> usize {
     if fault == FAILED {
-        return file(page, b"error cannot read ", source.argument, source.errno);
+        return file(
+            env,
+            page,
+            b"error cannot read ",
+            source.argument,
+            source.errno,
+        );
     }
     let words = line_of(
         b"

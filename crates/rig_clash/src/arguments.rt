@@ -2,9 +2,11 @@
 use crate::problem::Problem;
 use crate::words::is_dash;
 use crate::{forms, problem};
+use rig_lines::arguments::{Found, count, find, word};
 use rig_lines::lists::place_of;
 use rig_lines::numbers::{is_number, value};
 use rig_lines::options::is_option;
+use std::rt::Env;
 
 // The places of the options in their list; those from the first that takes the next word on take it.
 const TABLE: usize = 0;
@@ -212,13 +214,12 @@ impl Arguments {
         self.with_other(argument, word)
     }
 
-    fn with_argument(self, argument: usize) -> Arguments {
+    fn with_argument<E: Env>(self, env: &E, argument: usize) -> Arguments {
         let mut space = io::buffer();
-        let n = os::arg(argument, &mut space);
-        if os::errno() != 0 {
-            return self.trouble(forms::LONG_ARGUMENT, b"");
+        match find(env, argument, &mut space) {
+            Found::Word(n) => self.with_word(argument, &space[..n]),
+            _ => self.trouble(forms::LONG_ARGUMENT, b""),
         }
-        self.with_word(argument, &space[..n])
     }
 
     // What is wrong once all words are read: an option lacks its word, there is no file, or a table or a trace is not
@@ -256,9 +257,9 @@ impl Arguments {
     }
 }
 
-fn command() -> usize {
+fn command<E: Env>(env: &E) -> usize {
     let mut space = io::buffer();
-    let n = os::arg(1, &mut space);
+    let n = word(env, 1, &mut space);
     place_of(b"clash\nnight\ndraw", &space[..n])
 }
 
@@ -279,43 +280,50 @@ fn unknown_form(command: usize) -> usize {
     }
 }
 
-pub(crate) fn parse() -> Arguments {
-    let mut given = Arguments::none(command());
-    let count = os::arg_count();
+pub(crate) fn parse<E: Env>(env: &E) -> Arguments {
+    let mut given = Arguments::none(command(env));
+    let end = count(env);
     let mut i: usize = 2;
-    while i < count {
+    while i < end {
         if given.is_broken() {
             return given;
         }
-        given = given.with_argument(i);
+        given = given.with_argument(env, i);
         i += 1;
     }
     given.finished()
 }
 
-// How many arguments it takes to pass one that is no file; 0 where it is a file.
-fn passed(argument: usize) -> usize {
-    let mut space = io::buffer();
-    let n = os::arg(argument, &mut space);
-    let option = option_of(&space[..n]);
+// How many arguments it takes to pass a word that is no file; 0 where it is a file.
+fn passed_by(word: &[u8]) -> usize {
+    let option = option_of(word);
     match option {
         ROOM => 2,
         CORRECTIONS => 2,
         TRACE => 2,
-        _ => is_option(&space[..n]) as usize,
+        _ => is_option(word) as usize,
+    }
+}
+
+// The same of an argument; where there is none, all.
+fn passed<E: Env>(env: &E, argument: usize) -> usize {
+    let mut space = io::buffer();
+    match find(env, argument, &mut space) {
+        Found::Word(n) => passed_by(&space[..n]),
+        Found::TooLong => 0,
+        Found::Missing => usize::MAX,
     }
 }
 
 // The argument at or after one that names a file; 0 where none does.
-pub(crate) fn next_file(from: usize) -> usize {
-    let count = os::arg_count();
+pub(crate) fn next_file<E: Env>(env: &E, from: usize) -> usize {
     let mut i = from;
-    while i < count {
-        let past = passed(i);
+    while i < usize::MAX {
+        let past = passed(env, i);
         if past == 0 {
             return i;
         }
-        if past > count - i {
+        if past > usize::MAX - i {
             return 0;
         }
         i += past;

@@ -1,6 +1,6 @@
 // The file of tonight's corrections. Whatever is wrong with it, nothing is rehearsed.
-use crate::kept::{NAME_AT, ROOM, SLOTS};
-use crate::phrase::{begin_numbers, either, line_numbers};
+use crate::kept::{FILE_AT, NAME_AT, ROOM, SLOTS};
+use crate::phrase::{begin_numbers, either, put_line};
 use crate::state::State;
 use crate::statements::Statement;
 use crate::words::Kind;
@@ -8,11 +8,14 @@ use crate::{ending, forms, kept, lines, load, reading, slots, sources, statement
 use arbitration_rules::MAX_LENGTH;
 use load_text::{LOAD_NAME, is_board_name, is_load_name};
 use rig_lines::console::PAGE;
-use rig_lines::files::Opened;
+use rig_lines::files::{Opened, Reader};
 use rig_lines::input;
 use rig_lines::input::Line;
 use rig_lines::lists::line_of;
 use rig_lines::numbers::{least_number, more};
+use std::fs::File;
+use std::io::Stdin;
+use std::rt::{Env, Files};
 use text::{after_word, first_word, put_bytes};
 
 const BYTES: u64 = MAX_LENGTH as u64;
@@ -198,13 +201,21 @@ fn ended(kept: &[u8], state: State) -> State {
 }
 
 // `cannot open` or `cannot read`, and why.
-fn unread(page: &mut [u8; PAGE], state: State, reads: bool, argument: usize, errno: u64) -> State {
+fn unread(
+    page: &mut [u8; PAGE],
+    kept: &[u8],
+    state: State,
+    reads: bool,
+    argument: usize,
+    errno: u64,
+) -> State {
     let words =
         b"! cannot open +: `; nothing is rehearsed\n! cannot read +: `; nothing is rehearsed";
     let numbers = [argument as u64, errno];
-    let end = line_numbers(
+    let end = put_line(
         page,
         state.at,
+        kept,
         true,
         line_of(words, reads as usize),
         &numbers,
@@ -230,14 +241,23 @@ pub(crate) fn with_line(
     line: &[u8],
 ) -> State {
     if let Line::Failed = found {
-        return unread(page, state, true, state.source.argument, state.source.errno);
+        return unread(
+            page,
+            kept,
+            state,
+            true,
+            state.source.argument,
+            state.source.errno,
+        );
     }
     let next = followed(kept, state, found, line);
     said(page, next)
 }
 
 // Keeps the corrections of the file that an argument names; argument 0: there are none.
-pub(crate) fn read(
+pub(crate) fn read<R: Env + Files<File = File>>(
+    rt: &R,
+    stdin: Stdin,
     page: &mut [u8; PAGE],
     kept: &mut [u8; ROOM],
     state: State,
@@ -246,8 +266,12 @@ pub(crate) fn read(
     if argument == 0 {
         return state;
     }
-    match sources::open(argument) {
-        Opened::Source(source) => reading::run_source(page, kept, state, source, true),
-        Opened::Failed(errno) => unread(page, state, false, argument, errno),
+    let mut reader = Reader::Standard(stdin);
+    sources::keep(rt, kept, FILE_AT, argument);
+    match sources::open(rt, &mut reader, kept, argument) {
+        Opened::Source(source) => {
+            reading::run_source(&mut reader, page, kept, state, source, true)
+        }
+        Opened::Failed(errno) => unread(page, kept, state, false, argument, errno),
     }
 }

@@ -1,7 +1,7 @@
 // How a file ends: the statement `end`, what stands after it, the end of the input, and an input that fails.
 use crate::complaints::fault;
 use crate::kept::ROOM;
-use crate::phrase::{line_numbers, put_line};
+use crate::phrase::put_line;
 use crate::state::State;
 use crate::{finish, forms};
 use rig_lines::console::PAGE;
@@ -74,18 +74,26 @@ pub(crate) fn input_ended(page: &mut [u8; PAGE], kept: &mut [u8; ROOM], state: S
 // A fault of the file itself: `cannot open` or `cannot read`, and why.
 pub(crate) fn failed(
     page: &mut [u8; PAGE],
+    kept: &[u8],
     state: State,
     reads: bool,
     argument: usize,
     errno: u64,
 ) -> State {
     let words = line_of(b"! cannot open +: `\n! cannot read +: `", reads as usize);
-    let end = line_numbers(page, state.at, true, words, &[argument as u64, errno]);
+    let end = put_line(page, state.at, kept, true, words, &[argument as u64, errno]);
     state.moved(end).faulted().done()
 }
 
 // The input cannot be read: the load that is being read is in error.
 pub(crate) fn input_failed(page: &mut [u8; PAGE], kept: &mut [u8; ROOM], state: State) -> State {
-    let next = failed(page, state, true, state.source.argument, state.source.errno);
+    let next = failed(
+        page,
+        kept,
+        state,
+        true,
+        state.source.argument,
+        state.source.errno,
+    );
     finish::finish(page, kept, next.broken())
 }

@@ -139,7 +139,7 @@ fn progress(page: &mut [u8; PAGE], state: State) -> State {
     if (state.options.trace > 0) | (state.tally.loads % PROGRESS != 0) {
         return state;
     }
-    state.moved(put_note(page, state.at, b"rig: # load~\n", &[state.tally.loads]))
+    state.moved(put_note(page, state.at, b"", b"rig: # load~\n", &[state.tally.loads]))
 }
 
 // What is done with a load: where a trace or a drawing is asked for, other loads are only read.

@@ -5,7 +5,7 @@ use arbitration_rules::{MAX_LENGTH, MAX_MASTERS};
 use load_text::{BOARD_NAME, LOAD_NAME};
 use rig_lines::numbers::value;
 use rig_lines::parts;
-use text::put_bytes;
+use text::{put_byte, put_bytes};
 
 // The longest title, and as many bytes as the names of loads to see may take.
 pub(crate) const TITLE: usize = 64;
@@ -54,7 +54,15 @@ pub(crate) const NAMES: usize = 8192;
 
 pub(crate) const NAMED: usize = LOAD_NAME + NUMBER;
 
-pub(crate) const ROOM: usize = NAMES_AT + NAMES * NAMED;
+// The longest word of the command line.
+const WORD: usize = 4096;
+
+// The name of the file that is being read, and that of the load whose trace is asked for, as the command line has them.
+pub(crate) const FILE_AT: usize = NAMES_AT + NAMES * NAMED;
+
+pub(crate) const ASKED_AT: usize = FILE_AT + WORD;
+
+pub(crate) const ROOM: usize = ASKED_AT + WORD;
 
 // Zeros for the longest cell.
 const ZEROS: [u8; TITLE] = [0; TITLE];
@@ -89,6 +97,24 @@ pub(crate) fn text_in(kept: &[u8], from: usize, width: usize) -> &[u8] {
 pub(crate) fn keep(kept: &mut [u8; ROOM], from: usize, width: usize, text: &[u8]) {
     put_bytes(kept, from, part(&ZEROS, 0, width));
     put_bytes(kept, from, part(text, 0, width));
+}
+
+// A word of the command line put into a cell, with a zero after it where the cell goes on.
+pub(crate) fn keep_word(kept: &mut [u8; ROOM], from: usize, word: &[u8]) {
+    let end = put_bytes(kept, from, part(word, 0, WORD));
+    if word.len() < WORD {
+        put_byte(kept, end, 0);
+    }
+}
+
+// The name of the file that is being read.
+pub(crate) fn file(kept: &[u8]) -> &[u8] {
+    text_in(kept, FILE_AT, WORD)
+}
+
+// The name of the load whose trace is asked for.
+pub(crate) fn asked(kept: &[u8]) -> &[u8] {
+    text_in(kept, ASKED_AT, WORD)
 }
 
 // The number in a cell.

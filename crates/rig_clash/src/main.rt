@@ -33,7 +33,7 @@ mod rounds; // rounds.rt: the block of a load in a night
 mod rows; // rows.rt: the rows of a waveform
 mod seen; // seen.rt: the names of the loads to see
 mod slots; // slots.rt: the corrections as they are kept
-mod sources; // sources.rt: the file of an argument
+mod sources; // sources.rt: the words that name a file or a load
 mod state; // state.rt: what is known while the files are read
 mod statements; // statements.rt: the statements of a file
 mod svg; // svg.rt: the drawing of a load
@@ -44,15 +44,21 @@ mod words; // words.rt: the bytes and the acknowledges of a line
 
 use crate::phrase::line_numbers;
 use arguments::{Arguments, next_file};
-use kept::ROOM;
+use kept::{ASKED_AT, FILE_AT, ROOM};
 use phrase::put_line;
+use rig_lines::arguments::count;
 use rig_lines::console::{PAGE, flush};
-use rig_lines::files::Opened;
+use rig_lines::files::{Opened, Reader};
 use state::{Options, State};
+use std::fs::File;
+use std::io::Stdin;
+use std::rt::{Env, Files};
 use text::{put_byte, put_bytes};
 
 // `file FILE`, where there are several and no trace is asked for. The names of loads and boards are each file's own.
-fn with_file(
+fn with_file<R: Env + Files<File = File>>(
+    rt: &R,
+    stdin: Stdin,
     page: &mut [u8; PAGE],
     kept: &mut [u8; ROOM],
     state: State,
@@ -61,26 +67,37 @@ fn with_file(
 ) -> State {
     names::clear(kept);
     kept::clear_board_names(kept);
+    sources::keep(rt, kept, FILE_AT, argument);
     let named = several & (state.options.trace == 0);
     let next = state.moved(put_line(page, state.at, kept, named, b"file +", &[argument as u64]));
-    match sources::open(argument) {
-        Opened::Source(source) => reading::run_source(page, kept, next, source, false),
-        Opened::Failed(errno) => ending::failed(page, next, false, argument, errno),
+    let mut reader = Reader::Standard(stdin);
+    match sources::open(rt, &mut reader, kept, argument) {
+        Opened::Source(source) => {
+            reading::run_source(&mut reader, page, kept, next, source, false)
+        }
+        Opened::Failed(errno) => ending::failed(page, kept, next, false, argument, errno),
     }
 }
 
 // There are no more files than arguments.
-fn run_files(page: &mut [u8; PAGE], kept: &mut [u8; ROOM], begun: State, first: usize) -> State {
-    let several = next_file(after(first)) > 0;
+fn run_files<R: Env + Files<File = File>>(
+    rt: &R,
+    stdin: Stdin,
+    page: &mut [u8; PAGE],
+    kept: &mut [u8; ROOM],
+    begun: State,
+    first: usize,
+) -> State {
+    let several = next_file(rt, after(first)) > 0;
     let mut state = begun;
     let mut argument = first;
-    let mut turns = os::arg_count();
+    let mut turns = count(rt);
     while turns > 0 {
         if argument == 0 {
             return state;
         }
-        state = with_file(page, kept, state, argument, several);
-        argument = next_file(after(argument));
+        state = with_file(rt, stdin, page, kept, state, argument, several);
+        argument = next_file(rt, after(argument));
         turns -= 1;
     }
     state
@@ -102,32 +119,43 @@ fn summed(page: &mut [u8; PAGE], kept: &[u8; ROOM], state: State) {
 }
 
 // The load whose trace is asked for is there.
-fn met(page: &mut [u8; PAGE], state: State) -> State {
+fn met(page: &mut [u8; PAGE], kept: &[u8], state: State) -> State {
     if (state.options.trace == 0) | (state.tally.loads > 0) {
         return state;
     }
-    let mut space = io::buffer();
-    let n = os::arg(state.options.trace, &mut space);
-    complaints::fault(page, state, forms::UNKNOWN_LOAD, &space[..n])
+    complaints::fault(page, state, forms::UNKNOWN_LOAD, kept::asked(kept))
 }
 
 // All files, or the one that has the load that is drawn: the word after it is no file.
-fn run_all(page: &mut [u8; PAGE], kept: &mut [u8; ROOM], state: State, first: usize) -> State {
+fn run_all<R: Env + Files<File = File>>(
+    rt: &R,
+    stdin: Stdin,
+    page: &mut [u8; PAGE],
+    kept: &mut [u8; ROOM],
+    state: State,
+    first: usize,
+) -> State {
     if state.options.draws {
-        return with_file(page, kept, state, first, false);
+        return with_file(rt, stdin, page, kept, state, first, false);
     }
-    run_files(page, kept, state, first)
+    run_files(rt, stdin, page, kept, state, first)
 }
 
 // All files, and then the corrections that are for none of their loads. No file of loads is read where the corrections
 // are at fault.
-fn run_loads(page: &mut [u8; PAGE], kept: &mut [u8; ROOM], state: State) -> State {
+fn run_loads<R: Env + Files<File = File>>(
+    rt: &R,
+    stdin: Stdin,
+    page: &mut [u8; PAGE],
+    kept: &mut [u8; ROOM],
+    state: State,
+) -> State {
     if state.tally.has_fault() {
         return state;
     }
-    let done = run_all(page, kept, state, next_file(2));
+    let done = run_all(rt, stdin, page, kept, state, next_file(rt, 2));
     let read = corrected::unmet(page, kept, done, done.corrections);
-    met(page, read)
+    met(page, kept, read)
 }
 
 fn options_of(given: Arguments) -> Options {
@@ -144,14 +172,15 @@ fn options_of(given: Arguments) -> Options {
 }
 
 // In a table the header stands first.
-fn run(given: Arguments) {
+fn run<R: Env + Files<File = File>>(rt: &R, stdin: Stdin, given: Arguments) {
     let mut page = [0u8; PAGE];
     let mut kept = [0u8; ROOM];
+    sources::keep(rt, &mut kept, ASKED_AT, given.trace);
     let header = b"  load       title          winner    bytes verdict";
     let at = line_numbers(&mut page, 0, given.table, header, &[]);
     let begun = state::begun(options_of(given)).moved(at);
-    let read = corrections::read(&mut page, &mut kept, begun, given.corrections);
-    let state = run_loads(&mut page, &mut kept, read);
+    let read = corrections::read(rt, stdin, &mut page, &mut kept, begun, given.corrections);
+    let state = run_loads(rt, stdin, &mut page, &mut kept, read);
     summed(&mut page, &kept, state);
 }
 
@@ -163,12 +192,12 @@ fn refuse(page: &mut [u8; PAGE], given: Arguments) {
     flush(page, end);
 }
 
-fn main() {
+fn main(rt: HostRuntime) {
     let mut page = [0u8; PAGE];
-    let given = arguments::parse();
+    let given = arguments::parse(&rt);
     if given.is_broken() {
         refuse(&mut page, given);
     } else {
-        run(given);
+        run(&rt, rt.stdin(), given);
     }
 }

@@ -3,8 +3,8 @@ use crate::columns::pad;
 use crate::kept;
 use crate::order::byte_at;
 use crate::rows::{before, less, shifted};
-use rig_lines::console::{PAGE, begin, note, put_form};
-use rig_lines::files::{put_name, put_reason};
+use rig_lines::console::{PAGE, begin, note, put_form, put_shown};
+use rig_lines::files::put_reason;
 use rig_lines::lists::line_of;
 use text::{put_byte, put_bytes, put_decimal, put_hex_byte};
 
@@ -28,7 +28,8 @@ const BOARD: u8 = b'@';
 
 const MESSAGE: u8 = b'&';
 
-// What stands for the file of an argument, and for why the system refuses it.
+// What stands for the file that is being read, by its name or, where its argument is 0, as standard input, and for why
+// the system refuses it.
 const FILE: u8 = b'+';
 
 const REASON: u8 = b'`';
@@ -73,6 +74,14 @@ pub(crate) fn gap_of(i: usize, part: u8) -> usize {
         return 0;
     }
     either(part > 0, 2, 1)
+}
+
+// A file by its name, or standard input.
+fn put_file(page: &mut [u8; PAGE], at: usize, kept: &[u8], argument: u64) -> usize {
+    if argument == 0 {
+        return put_bytes(page, at, b"standard input");
+    }
+    put_shown(page, at, kept::file(kept))
 }
 
 // The message of a board, from one place to another.
@@ -144,7 +153,7 @@ fn put_mark(
     match b {
         DECIMAL => put_decimal(page, at, number),
         HEX => put_hex_byte(page, at, (number % 256) as u8),
-        FILE => put_name(page, at, number as usize),
+        FILE => put_file(page, at, kept, number),
         REASON => put_reason(page, at, number),
         COLUMN => pad(page, from, at, number as usize),
         PASSED => at,
@@ -214,9 +223,15 @@ pub(crate) fn put_line(
 }
 
 // A note aside, on standard error; answers where the page goes on.
-pub(crate) fn put_note(page: &mut [u8; PAGE], at: usize, words: &[u8], numbers: &[u64]) -> usize {
+pub(crate) fn put_note(
+    page: &mut [u8; PAGE],
+    at: usize,
+    kept: &[u8],
+    words: &[u8],
+    numbers: &[u64],
+) -> usize {
     let start = begin(page, at);
-    let end = put_numbers(page, start, words, numbers);
+    let end = put(page, start, kept, words, numbers);
     note(page, start, end)
 }
 

@@ -3,8 +3,8 @@ use crate::kept::ROOM;
 use crate::sources::PIECE;
 use crate::state::State;
 use crate::{complaints, corrections, ending, forms, statements};
-use libc::STDIN_FILENO;
 use rig_lines::console::{PAGE, flush};
+use rig_lines::files::Reader;
 use rig_lines::input;
 use rig_lines::input::{Line, Source};
 
@@ -47,13 +47,14 @@ fn written(
 
 // The next line of a file.
 fn with_line(
+    reader: &mut Reader,
     page: &mut [u8; PAGE],
     kept: &mut [u8; ROOM],
     state: State,
     piece: &mut [u8; PIECE],
     line: &mut [u8; input::ROOM],
 ) -> State {
-    let taken = input::next_line(piece, line, state.source);
+    let taken = input::next_line(reader, piece, line, state.source);
     let found = taken.line;
     let next = state.with_source(taken.source);
     if state.file.corrects {
@@ -64,6 +65,7 @@ fn with_line(
 
 // The lines of a file, one after another.
 fn run_lines(
+    reader: &mut Reader,
     page: &mut [u8; PAGE],
     kept: &mut [u8; ROOM],
     begun: State,
@@ -76,13 +78,14 @@ fn run_lines(
         if !state.file.more {
             return state;
         }
-        state = with_line(page, kept, state, piece, line);
+        state = with_line(reader, page, kept, state, piece, line);
         turns -= 1;
     }
     state
 }
 
 pub(crate) fn run_source(
+    reader: &mut Reader,
     page: &mut [u8; PAGE],
     kept: &mut [u8; ROOM],
     state: State,
@@ -92,9 +95,5 @@ pub(crate) fn run_source(
     let mut piece = io::buffer();
     let mut line = [0u8; input::ROOM];
     let begun = state.with_file(source, corrects);
-    let done = run_lines(page, kept, begun, &mut piece, &mut line);
-    if source.fd != STDIN_FILENO {
-        libc::close(source.fd);
-    }
-    done
+    run_lines(reader, page, kept, begun, &mut piece, &mut line)
 }

@@ -11,9 +11,7 @@ const GAP: u64 = 50;
 
 // The load that is being read has the name that an argument is; argument 0: any name.
 pub(crate) fn is_asked(kept: &[u8], argument: usize) -> bool {
-    let mut space = io::buffer();
-    let n = os::arg(argument, &mut space);
-    (argument == 0) | same(&space[..n], kept::name(kept))
+    (argument == 0) | same(kept::asked(kept), kept::name(kept))
 }
 
 fn stamp(sample: usize) -> u64 {

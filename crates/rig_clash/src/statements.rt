@@ -137,17 +137,17 @@ fn recorded(kept: &mut [u8; ROOM], state: State, deed: Deed, word: &[u8], rest: 
 }
 
 // The first `load` of a file in the old form, of which a note says so.
-fn in_old_form(page: &mut [u8; PAGE], mut state: State) -> State {
+fn in_old_form(page: &mut [u8; PAGE], kept: &[u8], mut state: State) -> State {
     let words = b"rig: +: no boards line, so boards are numbered by their rows\n";
     state.file.numbered = true;
-    state.moved(put_note(page, state.at, words, &[state.source.argument as u64]))
+    state.moved(put_note(page, state.at, kept, words, &[state.source.argument as u64]))
 }
 
 // `load` and `end` finish the load before them.
 fn finished(page: &mut [u8; PAGE], kept: &mut [u8; ROOM], state: State, deed: Deed) -> State {
     match deed {
         Deed::Load | Deed::End => finish::finish(page, kept, state),
-        Deed::FirstLoad => in_old_form(page, state),
+        Deed::FirstLoad => in_old_form(page, kept, state),
         _ => state,
     }
 }

@@ -29,7 +29,7 @@ read-once old new s s' n errno e h d l k =
     rw e (record { fed = read new n errno nothing h d k within; kept = k })
 
 -- what a source hands on, and then more
-pub fed_then : {p q r : List ℕ} {s t u : Source} {bs cs : List ℕ} → Fed p s bs q t → Fed q t cs r u
+pub fed_then : {p q : List ℕ} {s t : Source} {r : List ℕ} {u : Source} {bs cs : List ℕ} → Fed p s bs q t → Fed q t cs r u
     → Fed p s (bs ++ cs) r u
 fed_then f nothing = rw append-nil f
 fed_then f (byte g h k) = rw (← append_assoc) (byte (fed_then f g) h k)

@@ -1,3 +1,4 @@
+pub mod Arguments
 pub mod Bytes
 pub mod Lists
 pub mod Console

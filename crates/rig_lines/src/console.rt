@@ -10,8 +10,11 @@ ghost use Rattle.rig_lines.specs.Lists.{line_at};
 use crate::lists::line_of;
 use crate::numbers::least;
 use crate::{parts, store};
-use libc::{STDERR_FILENO, STDOUT_FILENO};
 use text::{put_byte, put_bytes, put_decimal, put_hex_byte};
+
+const STDOUT: i32 = 1;
+
+const STDERR: i32 = 2;
 
 pub const PAGE: usize = 16384;
 
@@ -31,8 +34,8 @@ pub fn flush(page: &[u8], at: usize) -> usize
     ensures { result ≡ 0 }
 {
     let end = parts::bytes(at, page);
-    if !io::write_all(STDOUT_FILENO, &page[..end]) {
-        os::fail(b"standard output");
+    if !io::write_all(STDOUT, &page[..end]) {
+        io::write_all(STDERR, b"standard output: cannot be written\n");
     }
     0
 }
@@ -60,7 +63,7 @@ pub fn note(page: &[u8], from: usize, end: usize) -> usize
 {
     let last = parts::bytes(end, page);
     if from <= last {
-        io::write_all(STDERR_FILENO, &page[from..last]);
+        io::write_all(STDERR, &page[from..last]);
     }
     from
 }

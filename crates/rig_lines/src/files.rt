@@ -1,31 +1,65 @@
 // Files by the name on the command line, and what can be wrong with one.
+ghost use Rattle.std.specs.Prelude.{◌<◌};
 ghost use Rattle.text.specs.Output.{Put};
 ghost use Rattle.rig_lines.specs.Opening.{Opening, reason_text, Named};
 
 use crate::console::{put_form, put_shown};
-use crate::input;
 use crate::input::Source;
+use crate::{arguments, input};
 use check::same;
-use libc::STDIN_FILENO;
+use std::fs::File;
+use std::io::{Error, Read, Result, Stdin};
+use std::os::fd::AsRawFd;
+use std::rt::{Env, Files};
+use std::str::from_utf8;
 use text::put_bytes;
 
-const NO_FILE: u64 = libc::ENOENT as u64;
+// The numbers of the system's errors.
+const NO_FILE: u64 = 2;
 
-const NO_PERMISSION: u64 = libc::EACCES as u64;
+const NOT_OPEN: u64 = 9;
 
-const DIRECTORY: u64 = libc::EISDIR as u64;
+const NO_PERMISSION: u64 = 13;
 
-const LONG_NAME: u64 = libc::ENAMETOOLONG as u64;
+const DIRECTORY: u64 = 21;
 
-const NOT_OPEN: u64 = libc::EBADF as u64;
+const LONG_NAME: u64 = 36;
 
-fn counted(errno: i32) -> u64 {
-    if errno > 0 { errno as u64 } else { 0 }
+// That of a failure to which the system gives none.
+const NOT_MOVED: u64 = 5;
+
+const STDIN: i32 = 0;
+
+// What a source is read from.
+#[derive(Drop)]
+pub enum Reader {
+    Standard(Stdin),
+    File(File),
 }
 
-// errno just after a call; 0 where the call did not fail.
-pub(crate) fn error_number(failed: bool) -> u64 {
-    if failed { counted(os::errno()) } else { 0 }
+impl Read for Reader {
+    fn read(&mut self, buf: &mut [u8]) -> Result<usize> {
+        match self {
+            Reader::Standard(stdin) => stdin.read(buf),
+            Reader::File(file) => file.read(buf),
+        }
+    }
+}
+
+fn counted(errno: i32) -> u64
+    ensures { 0 < result }
+{
+    if errno > 0 { errno as u64 } else { NOT_MOVED }
+}
+
+// The number of an error, above 0: 0 stands for a call that did not fail.
+pub(crate) fn error_number(error: Error) -> u64
+    ensures { 0 < result }
+{
+    match error.raw_os_error() {
+        Some(errno) => counted(errno),
+        None => NOT_MOVED,
+    }
 }
 
 // Why the system refuses a file.
@@ -43,14 +77,14 @@ pub fn put_reason(page: &mut [u8], at: usize, errno: u64) -> usize
 }
 
 // A file's name, as the command line has it.
-pub fn put_name(page: &mut [u8], at: usize, argument: usize) -> usize
+pub fn put_name<E: Env>(env: &E, page: &mut [u8], at: usize, argument: usize) -> usize
     ensures { Named argument page.old at page.new result }
 {
     if argument == 0 {
         return put_bytes(page, at, b"standard input");
     }
     let mut space = io::buffer();
-    let n = os::arg(argument, &mut space);
+    let n = arguments::word(env, argument, &mut space);
     put_shown(page, at, &space[..n])
 }
 
@@ -61,19 +95,31 @@ pub enum Opened {
     Failed(u64),
 }
 
-// Opens the file of a name, that of an argument; argument 0 and the name `-` are standard input.
-pub fn open(argument: usize, name: &[u8]) -> Opened
+// Opens the file of a name, that of an argument; argument 0 and the name `-` are standard input. The reader that is
+// lent is standard input, and becomes the file that is opened. A name that is no UTF-8 is taken for that of no file.
+pub fn open<R: Files<File = File>>(
+    rt: &R,
+    reader: &mut Reader,
+    argument: usize,
+    name: &[u8],
+) -> Opened
     ensures { Opening argument name.now result }
 {
     if argument == 0 {
-        return Opened::Source(input::begin(STDIN_FILENO, 0));
+        return Opened::Source(input::begin(STDIN, 0));
     }
     if same(name, b"-") {
-        return Opened::Source(input::begin(STDIN_FILENO, 0));
+        return Opened::Source(input::begin(STDIN, 0));
     }
-    let fd = os::open_read(name);
-    if fd < 0 {
-        return Opened::Failed(error_number(true));
+    let Ok(path) = from_utf8(name) else {
+        return Opened::Failed(NO_FILE);
+    };
+    match File::open(rt, path) {
+        Ok(file) => {
+            let fd = file.as_raw_fd();
+            *reader = Reader::File(file);
+            Opened::Source(input::begin(fd, argument))
+        }
+        Err(error) => Opened::Failed(error_number(error)),
     }
-    Opened::Source(input::begin(fd, argument))
 }

@@ -8,6 +8,7 @@ ghost use Rattle.rig_lines.specs.Input.{judged_line, judged_last, Took, comment_
 use crate::console::is_control;
 use crate::numbers::more;
 use crate::{files, parts};
+use std::io::Read;
 use text::put_byte;
 
 // The longest line, and room for it with one byte more, which shows that a line is longer.
@@ -86,8 +87,18 @@ fn after_read(mut from: Source, n: usize, errno: u64) -> Source
     from
 }
 
+// Reads once: how many bytes came, and the error's number where the read failed, else 0.
+fn read_once<R: Read>(reader: &mut R, piece: &mut [u8]) -> (usize, u64)
+    ensures { result.0 ≤ length piece.new }
+{
+    match reader.read(piece) {
+        Ok(count) => (count, 0),
+        Err(error) => (0, files::error_number(error)),
+    }
+}
+
 // Reads once, where the last piece is used up and the input has not ended.
-fn refilled(piece: &mut [u8], from: Source) -> Source
+fn refilled<R: Read>(reader: &mut R, piece: &mut [u8], from: Source) -> Source
     ensures { Refilled piece.old from piece.new result }
 {
     if from.at < from.end {
@@ -96,9 +107,8 @@ fn refilled(piece: &mut [u8], from: Source) -> Source
     if from.done {
         return from;
     }
-    let got = libc::read(from.fd, piece);
-    let errno = files::error_number(got < 0);
-    after_read(from, io::count(got, piece), errno)
+    let (count, errno) = read_once(reader, piece);
+    after_read(from, count, errno)
 }
 
 // A source whose input ends with a piece of n bytes.
@@ -123,7 +133,7 @@ fn supplied(mut from: Source, n: usize) -> Source
 
 // Reads until the piece is full or the input has ended, where the last piece is used up: a pipe hands on what it has,
 // and what begins the input can then be looked at however it came.
-pub fn fill(piece: &mut [u8], from: Source) -> Source
+pub fn fill<R: Read>(reader: &mut R, piece: &mut [u8], from: Source) -> Source
     ensures { Filled piece.old from piece.new result }
 {
     if from.at < from.end {
@@ -131,9 +141,7 @@ pub fn fill(piece: &mut [u8], from: Source) -> Source
     }
     let mut n: usize = 0;
     while n < piece.len() {
-        let got = libc::read(from.fd, &mut piece[n..]);
-        let errno = files::error_number(got < 0);
-        let count = io::count(got, &piece[n..]);
+        let (count, errno) = read_once(reader, &mut piece[n..]);
         if count == 0 {
             return ended(from, n, errno);
         }
@@ -142,10 +150,10 @@ pub fn fill(piece: &mut [u8], from: Source) -> Source
     supplied(from, n)
 }
 
-fn next_byte(piece: &mut [u8], from: Source) -> Next
+fn next_byte<R: Read>(reader: &mut R, piece: &mut [u8], from: Source) -> Next
     ensures { NextByte piece.old from piece.new result }
 {
-    let mut after = refilled(piece, from);
+    let mut after = refilled(reader, piece, from);
     let at = after.at;
     if at < after.end {
         if at < piece.len() {
@@ -210,14 +218,14 @@ fn counted(mut from: Source) -> Source
 
 // Takes the next line whole, also one that is too long.
 // Nothing says that a line ends, so turns are counted down from a number that no line uses up.
-pub fn next_line(piece: &mut [u8], line: &mut [u8], from: Source) -> Taken
+pub fn next_line<R: Read>(reader: &mut R, piece: &mut [u8], line: &mut [u8], from: Source) -> Taken
     ensures { Took piece.old line.old from piece.new line.new result }
 {
     let mut from = counted(from);
     let mut n: usize = 0;
     let mut turns = u64::MAX;
     while turns > 0 {
-        match next_byte(piece, from) {
+        match next_byte(reader, piece, from) {
             Next::End(after) => {
                 let last = judged_last(line, n, after.errno);
                 return Taken {

@@ -1,4 +1,7 @@
 // What the commands of rig share: lines of input and output, files by name, numbers, and refusals in words.
+#![tactic(auto)]
+
+pub mod arguments; // arguments.rt: words of the command line
 pub mod console; // console.rt: text on the page of output
 pub mod files; // files.rt: files by name
 pub mod input; // input.rt: lines of input

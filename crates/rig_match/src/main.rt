@@ -12,12 +12,15 @@ mod reported; // reported.rt: the line of a frame
 mod shown; // shown.rt: what the marks of a phrase stand for
 mod words; // words.rt: messages and frames in words
 
+use rig_lines::arguments::{Found, find};
 use rig_lines::console::{PAGE, flush, put_quoted};
 use rig_lines::input::ROOM;
+use std::io::Stdin;
+use std::rt::Env;
 use text::put_bytes;
 
 // All of the input, then all of the frames.
-fn run(page: &mut [u8; PAGE]) -> usize {
+fn run(stdin: &mut Stdin, page: &mut [u8; PAGE]) -> usize {
     let mut book = [0u32; book::ROW_ROOM];
     let mut events = [0u16; book::EVENT_ROOM];
     let mut names = [0u8; book::NAME_ROOM];
@@ -26,6 +29,7 @@ fn run(page: &mut [u8; PAGE]) -> usize {
     let mut piece = [0u8; PAGE];
     let mut line = [0u8; ROOM];
     let reading = reading::read_all(
+        stdin,
         page,
         &mut piece,
         &mut line,
@@ -42,27 +46,24 @@ fn run(page: &mut [u8; PAGE]) -> usize {
 }
 
 // Whatever the input is, no word stands after the command.
-fn unexpected(page: &mut [u8; PAGE]) -> usize {
-    let mut space = io::buffer();
-    let n = os::arg(2, &mut space);
-    if os::errno() != 0 {
-        return put_bytes(page, 0, b"error an argument is longer than 4096 bytes\n");
-    }
+fn unexpected(page: &mut [u8; PAGE], word: &[u8]) -> usize {
     let error = put_bytes(page, 0, b"error unexpected ");
-    let word = put_quoted(page, error, &space[..n]);
-    put_bytes(page, word, b" after match\n")
+    let quoted = put_quoted(page, error, word);
+    put_bytes(page, quoted, b" after match\n")
 }
 
-fn answer(page: &mut [u8; PAGE]) {
-    let end = if os::arg_count() > 2 {
-        unexpected(page)
-    } else {
-        run(page)
+fn answer<E: Env>(env: &E, stdin: &mut Stdin, page: &mut [u8; PAGE]) {
+    let mut space = io::buffer();
+    let end = match find(env, 2, &mut space) {
+        Found::Missing => run(stdin, page),
+        Found::Word(n) => unexpected(page, &space[..n]),
+        Found::TooLong => put_bytes(page, 0, b"error an argument is longer than 4096 bytes\n"),
     };
     flush(page, end);
 }
 
-fn main() {
+fn main(rt: HostRuntime) {
+    let mut stdin = rt.stdin();
     let mut page = [0u8; PAGE];
-    answer(&mut page);
+    answer(&rt, &mut stdin, &mut page);
 }

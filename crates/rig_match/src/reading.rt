@@ -3,14 +3,16 @@ use crate::book::{EVENT_ROOM, NAME_ROOM, ROW_ROOM};
 use crate::capture::EVENTS;
 use crate::{book, capture, rehearsal};
 use check::same;
-use libc::STDIN_FILENO;
 use rig_lines::console::{PAGE, begin, put_form, put_quoted};
 use rig_lines::files::put_reason;
 use rig_lines::input;
 use rig_lines::input::{Line, ROOM, Source, Taken};
 use rig_lines::lists::line_of;
 use rig_lines::numbers::more;
+use std::io::Stdin;
 use text::{first_word, put_byte, put_bytes};
+
+const STDIN: i32 = 0;
 
 // How the rehearsal ended: `ok` or `look`, refused by a number, in error; from OPEN on not yet.
 pub(crate) const REFUSED: usize = 2;
@@ -63,7 +65,7 @@ pub(crate) struct Reading {
 impl Reading {
     fn new() -> Reading {
         Reading {
-            source: input::begin(STDIN_FILENO, 0),
+            source: input::begin(STDIN, 0),
             length: 0,
             at: 0,
             rows: 0,
@@ -197,6 +199,7 @@ error line #: expected what rig decode prints, not \nerror cannot read standard 
 
 // All of the input.
 pub(crate) fn read_all(
+    stdin: &mut Stdin,
     page: &mut [u8; PAGE],
     piece: &mut [u8; PAGE],
     line: &mut [u8; ROOM],
@@ -213,7 +216,7 @@ pub(crate) fn read_all(
         if !reading.more {
             return ended(page, line, reading);
         }
-        let taken = input::next_line(piece, line, reading.source);
+        let taken = input::next_line(stdin, piece, line, reading.source);
         let next = reading.after(taken);
         reading = with_line(page, next, line, book, events, names, seen, stamps);
     }

@@ -35,7 +35,7 @@ listed-paid (level ∷ levels) position decoder sound stands whole =
     let paid : Paid decoder (lists decoder level) after later =
     sample-paid position later (sampled decoder level) sound stands whole in
     let rest : length (draw_events later) ≤ length levels + credit after =
-    listed-paid levels paid.position after (next-sound decoder level sound) paid.stands paid.goes_on in
+    listed-paid levels paid.position after (next-sound decoder level sound) paid.stands paid.goes-on in
     omega (arith, draw-length (lists decoder level) later, paid.cost)
 
 -- the first sample is only remembered

@@ -56,7 +56,7 @@ own-start index (suc count) (sent ∷ message) =
     rw (eq-eqb (byte_of sent) (byte_of sent) refl) (own-start (suc index) count message)
 
 -- what holds of someone who loses nothing holds of someone unbeaten
-unbeaten-some : {P : List ℕ → Type 0} {messages : List (List ℕ)} (carried : List ℕ)
+unbeaten-some : {P : List ℕ → Type 0} (carried : List ℕ) {messages : List (List ℕ)}
     → Someone (λ own. P own × (loss_from 0 carried own ≡ none)) messages → Someone P (unbeaten carried messages)
 unbeaten-some {P} carried (this {a} {l} (holds, still)) = rw still (this holds)
 unbeaten-some {P} carried (another {a} {l} some_one) =
@@ -68,7 +68,7 @@ unbeaten-some {P} carried (another {a} {l} some_one) =
     go false rest = rest
 
 -- what holds of all who lose nothing holds of everyone unbeaten
-pub unbeaten-every : {P : List ℕ → Type 0} {messages : List (List ℕ)} (carried : List ℕ)
+pub unbeaten-every : {P : List ℕ → Type 0} (carried : List ℕ) {messages : List (List ℕ)}
     → Everyone (λ own. loss_from 0 carried own ≡ none → P own) messages → Everyone P (unbeaten carried messages)
 unbeaten-every carried nobody = nobody
 unbeaten-every {P} carried (also {a} {l} holds more) = go (loss_from 0 carried a) holds (unbeaten-every carried more)

@@ -17,7 +17,7 @@ returns-then-standing_number-ne0 c =
 pub found-requires : goal.found-requires
 found-requires c =
     let good = sound _ (sym c.judge-correction_number.ensures ∙ c.if-correction_number-ne0.false) in
-    (omega (arith, good.paired), omega (arith, good.summed, c.well-formed.1.0.0))
+    (omega (arith, good.paired), omega (arith, good.summed, c.well_formed.1.0.0))
 
 pub returns-then-index-correction_boards : goal.returns-then-index-correction_boards
 returns-then-index-correction_boards c = c.found.ensures
@@ -27,7 +27,7 @@ returns-then-index-correction_boards c = c.found.ensures
 pub found-requires-then-other-standing_boards : goal.found-requires-then-other-standing_boards
 found-requires-then-other-standing_boards c =
     let good = sound _ (sym c.judge-standing_number.ensures ∙ c.if-standing_number-ne0.false) in
-    (omega (arith, good.paired), omega (arith, good.summed, c.well-formed.1.1.1.1.0.0))
+    (omega (arith, good.paired), omega (arith, good.summed, c.well_formed.1.1.1.1.0.0))
 
 pub returns-then-other-standing_boards : goal.returns-then-other-standing_boards
 returns-then-other-standing_boards c = c.found-then-other-standing_boards.ensures

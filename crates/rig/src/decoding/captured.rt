@@ -10,6 +10,7 @@ use rig_lines::lists::line_of;
 use rig_lines::numbers::{least, least_number, more};
 use rig_lines::parts;
 use rig_lines::refusals::{put_byte_refusal, put_refusal};
+use std::rt::Env;
 use text::{first_line, first_word, put_bytes};
 use trace::MAX_SAMPLES;
 
@@ -157,9 +158,21 @@ fn show(
 }
 
 // Reads a dump, unless the input failed within its text.
-pub(crate) fn run(page: &mut [u8; PAGE], given: Arguments, source: Source, text: &[u8]) -> usize {
+pub(crate) fn run<E: Env>(
+    env: &E,
+    page: &mut [u8; PAGE],
+    given: Arguments,
+    source: Source,
+    text: &[u8],
+) -> usize {
     if source.errno != 0 {
-        return trouble::file(page, b"error cannot read ", source.argument, source.errno);
+        return trouble::file(
+            env,
+            page,
+            b"error cannot read ",
+            source.argument,
+            source.errno,
+        );
     }
     let mut stamps = [0u32; MAX_SAMPLES];
     let mut levels = [0u8; MAX_SAMPLES];

@@ -4,9 +4,11 @@ use crate::reading::{Progress, after};
 use crate::{hints, trouble};
 use check::same;
 use rig_lines::console::PAGE;
+use rig_lines::files::Reader;
 use rig_lines::input::{ROOM, Source};
 use rig_lines::numbers::{is_number, value};
 use rig_lines::{input, store};
+use std::rt::Env;
 use text::{after_word, first_word};
 use trace::{MAX_SAMPLES, MAX_STAMP};
 
@@ -140,18 +142,24 @@ impl Reading {
     }
 
     // Says what is wrong, with a hint where the line is none of a trace.
-    pub(crate) fn complain(self, page: &mut [u8; PAGE], line: &[u8; ROOM]) -> usize {
+    pub(crate) fn complain<E: Env>(
+        self,
+        env: &E,
+        page: &mut [u8; PAGE],
+        line: &[u8; ROOM],
+    ) -> usize {
         let progress = self.progress;
         let mut hint = hints::NONE;
         if progress.fault == trouble::NO_SAMPLE {
             hint = hints::other(first_word(input::content(line, progress.length)));
         }
-        progress.complain(page, line, hint)
+        progress.complain(env, page, line, hint)
     }
 }
 
 // The next line. What it says is kept after the samples before it, and counted where it says it.
 fn with_next(
+    reader: &mut Reader,
     reading: Reading,
     piece: &mut [u8; TEXT],
     line: &mut [u8; ROOM],
@@ -161,7 +169,7 @@ fn with_next(
 ) -> Reading {
     let progress = reading.progress;
     let from = progress.source;
-    let taken = input::next_line(piece, line, from);
+    let taken = input::next_line(reader, piece, line, from);
     let next = reading.with_line(after(taken), line);
     store::stamp(stamps, reading.stamps, next.stamp);
     store::byte(levels, reading.levels, next.level);
@@ -170,6 +178,7 @@ fn with_next(
 }
 
 pub(crate) fn read_all(
+    reader: &mut Reader,
     begun: Reading,
     piece: &mut [u8; TEXT],
     line: &mut [u8; ROOM],
@@ -184,7 +193,7 @@ pub(crate) fn read_all(
         if !reading.progress.more {
             return reading;
         }
-        reading = with_next(reading, piece, line, stamps, levels, lines);
+        reading = with_next(reader, reading, piece, line, stamps, levels, lines);
     }
     reading
 }

@@ -5,9 +5,11 @@ use crate::lines::suffix;
 use crate::reading::{Progress, after};
 use crate::{hints, trouble};
 use rig_lines::console::PAGE;
+use rig_lines::files::Reader;
 use rig_lines::input::{ROOM, Source};
 use rig_lines::numbers::{is_number, least_number, value};
 use rig_lines::{input, store};
+use std::rt::Env;
 use text::{after_word, first_word};
 use trace::MAX_SAMPLES;
 
@@ -137,15 +139,21 @@ impl Listing {
         }
     }
 
-    pub(crate) fn complain(self, page: &mut [u8; PAGE], line: &[u8; ROOM]) -> usize {
+    pub(crate) fn complain<E: Env>(
+        self,
+        env: &E,
+        page: &mut [u8; PAGE],
+        line: &[u8; ROOM],
+    ) -> usize {
         let progress = self.progress;
         let words = input::content(line, progress.length);
-        progress.complain(page, line, self.hint(words))
+        progress.complain(env, page, line, self.hint(words))
     }
 }
 
 // The next line.
 fn with_next(
+    reader: &mut Reader,
     listing: Listing,
     piece: &mut [u8; PAGE],
     line: &mut [u8; ROOM],
@@ -153,11 +161,12 @@ fn with_next(
 ) -> Listing {
     let progress = listing.progress;
     let from = progress.source;
-    let taken = input::next_line(piece, line, from);
+    let taken = input::next_line(reader, piece, line, from);
     listing.followed(events, after(taken), line)
 }
 
 pub(crate) fn read_all(
+    reader: &mut Reader,
     begun: Listing,
     piece: &mut [u8; PAGE],
     line: &mut [u8; ROOM],
@@ -170,7 +179,7 @@ pub(crate) fn read_all(
         if !listing.progress.more {
             return listing;
         }
-        listing = with_next(listing, piece, line, events);
+        listing = with_next(reader, listing, piece, line, events);
     }
     listing
 }

@@ -1,0 +1,56 @@
+use native.Mathlib.Omega.{arith}
+use Prim.Native.Nat.{◌<◌, ◌-◌}
+use mathlib.Core.Path.{sym, ◌∙◌}
+use lib.ListN.{length}
+use Rattle.arbitration_checks.proofs.Endings.{together-start, together-more, together-end}
+use Rattle.arbitration_checks.proofs.Endings.{together-other-end, together-differ, together-refused}
+use Rattle.arbitration_checks.proofs.messages.ending_differs.Goals as goal
+
+pub loop-i-init : goal.loop-i-init
+loop-i-init c = together-start _ _ _
+
+pub returns-then-i-other : goal.returns-then-i-other
+returns-then-i-other c =
+    let head = c.loop-i in
+    together-other-end _ _ _ head.i head.invariant c.loop-i-test.true c.if-i-other.true
+
+pub offset_bounds-other-i : goal.offset_bounds-other-i
+offset_bounds-other-i c = omega (arith, c.loop-i.invariant.within-other)
+
+pub bounds-other-i : goal.bounds-other-i
+bounds-other-i c = omega (arith, c.loop-i.invariant.within-other)
+
+pub offset_bounds-other-i-then-message-i : goal.offset_bounds-other-i-then-message-i
+offset_bounds-other-i-then-message-i c = omega (arith, c.loop-i.invariant.within-other)
+
+pub bounds-other-i-then-message-i : goal.bounds-other-i-then-message-i
+bounds-other-i-then-message-i c = omega (arith, c.loop-i.invariant.within-other)
+
+pub returns-then-message-i : goal.returns-then-message-i
+returns-then-message-i c =
+    let head = c.loop-i in
+    let args = c.args in
+    let less : head.i < length args.other.now = omega (arith, head.invariant.within-other) in
+    together-differ _ _ _ head.i head.invariant c.loop-i-test.true less c.if-message-i.true
+
+pub acknowledged-requires : goal.acknowledged-requires
+acknowledged-requires c = tt
+
+pub returns-then-not-acknowledged : goal.returns-then-not-acknowledged
+returns-then-not-acknowledged c =
+    let head = c.loop-i in
+    let args = c.args in
+    let less : head.i < length args.other.now = omega (arith, head.invariant.within-other) in
+    together-refused _ _ _ head.i head.invariant c.loop-i-test.true less c.if-message-i.false
+    (sym c.acknowledged.ensures ∙ c.if-not-acknowledged.true)
+
+pub loop-i-preserved : goal.loop-i-preserved
+loop-i-preserved c =
+    let head = c.loop-i in
+    let args = c.args in
+    let less : head.i < length args.other.now = omega (arith, head.invariant.within-other) in
+    together-more _ _ _ head.i head.invariant c.loop-i-test.true less c.if-message-i.false
+    (sym c.acknowledged.ensures ∙ c.if-not-acknowledged.false)
+
+pub returns : goal.returns
+returns c = together-end _ _ _ c.loop-i.i c.loop-i.invariant c.loop-i-test.false

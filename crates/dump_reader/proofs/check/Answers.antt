@@ -1,0 +1,36 @@
+-- `dump_reader::check` meets its contract.
+use borrow.Author.Tests.{eq-eqb, ne_eqb}
+use Rattle.std.proofs.Common.{ap, not}
+use Rattle.dump_reader.proofs.check.Goals as goal
+
+pub returns-then-number-ne0 : goal.returns-then-number-ne0
+returns-then-number-ne0 c = rw (← c.refusal_of-number.ensures, ne_eqb _ _ c.if-number-ne0.true) c.refused.ensures
+
+pub returns-then-not-is_closed-may_end : goal.returns-then-not-is_closed-may_end
+returns-then-not-is_closed-may_end c = rw (
+      ← c.refusal_of-number.ensures,
+      eq-eqb _ _ c.if-number-ne0.false,
+      ← c.is_closed.ensures,
+      ← c.may_end.ensures,
+      (ap not c.if-not-is_closed-may_end.true),
+    ) c.refused-then-not-is_closed-may_end.ensures
+
+pub returns-then-reader-ne-MAX_LEVEL : goal.returns-then-reader-ne-MAX_LEVEL
+returns-then-reader-ne-MAX_LEVEL c = rw (
+      ← c.refusal_of-number.ensures,
+      eq-eqb _ _ c.if-number-ne0.false,
+      ← c.is_closed.ensures,
+      ← c.may_end.ensures,
+      (ap not c.if-not-is_closed-may_end.false),
+      ne_eqb _ _ c.if-reader-ne-MAX_LEVEL.true,
+    ) c.refused-then-reader-ne-MAX_LEVEL.ensures
+
+pub returns : goal.returns
+returns c = rw (
+      ← c.refusal_of-number.ensures,
+      eq-eqb _ _ c.if-number-ne0.false,
+      ← c.is_closed.ensures,
+      ← c.may_end.ensures,
+      (ap not c.if-not-is_closed-may_end.false),
+      eq-eqb _ _ c.if-reader-ne-MAX_LEVEL.false,
+    ) c.refused-2.ensures

@@ -1,0 +1,5 @@
+-- The composition of what the calls answer.
+use Rattle.usi.proofs.Usi.sampled.Goals as goal
+
+pub returns : goal.returns
+returns c = cc

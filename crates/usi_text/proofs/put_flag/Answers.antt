@@ -1,0 +1,6 @@
+-- `usi_text::put_flag` meets its contract.
+use Rattle.text.proofs.Putting.{put_next}
+use Rattle.usi_text.proofs.put_flag.Goals as goal
+
+pub returns : goal.returns
+returns c = rw (← c.flag_byte.ensures) (put_next _ _ c.put_bytes-next.ensures c.put_byte.ensures)
