@@ -411,7 +411,9 @@ def changed(commit, path, words, learned):
         place = ROOT / "crates" / str(crate) / str(file)
         if re.fullmatch(r"proofs/.*/Proof\.antt", str(file)) and not place.is_file():
             # a function's own proof, which is found or written otherwise now: what judges a change reads none
-            print(f"look: {path}: {file} is gone, and what the change did there")
+            if out[-1] == f"file: {file}":
+                print(f"look: {path}: {file} is gone, and what the change did there")
+                out.pop()
         elif old is not None:
             old2, new2 = block(commit, f"crates/{crate}/{file}", "\n".join(old), "\n".join(new), words, learned)
             out.extend(f"old: {line}" for line in old2.split("\n"))
