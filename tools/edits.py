@@ -129,8 +129,8 @@ def same(x, y):
     return x.replace("getd", "getor") == y
 
 
-# names of the kit that only edits use
-STD = {"and-zero-r": "and_zero_r"}
+# names that stand in wrong versions alone, of the kit or their own
+STD = {"and-zero-r": "and_zero_r", "startSeen": "start_seen"}
 
 # ---- the rules
 
