@@ -21,13 +21,11 @@ def changed(text, old, new):
 
 def applied(edit):
     """The files that the edit changes, by their paths below the root, with their new text."""
-    crate = edit.parent
-    while crate.name != "must-fail":
-        crate = crate.parent
+    crate = ROOT / "crates" / edit.relative_to(ROOT / "crates").parts[0]
     files, path, old = {}, None, None
     for line in edit.read_text().split("\n"):
         if line.startswith("file: "):
-            path = (crate.parent / line[len("file: "):]).relative_to(ROOT)
+            path = (crate / line[len("file: "):]).relative_to(ROOT)
             if not (ROOT / path).is_file():
                 raise Fault(f"no file {path}")
             files.setdefault(path, (ROOT / path).read_text())
@@ -50,8 +48,13 @@ def fault(edit):
     return None
 
 
+def edits_of(crate):
+    """Its wrong versions, those that the gate tries (right in must-fail/) and the others."""
+    return sorted(path for path in crate.rglob("*.edit") if path.relative_to(crate).parts[0] != "out")
+
+
 def main():
-    edits = sorted(ROOT.glob("crates/*/must-fail/**/*.edit"))
+    edits = [edit for crate in sorted((ROOT / "crates").iterdir()) for edit in edits_of(crate)]
     bad = [(edit, why) for edit in edits if (why := fault(edit))]
     for edit, why in bad:
         print(f"{edit.relative_to(ROOT)}: {why}")

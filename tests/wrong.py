@@ -1,6 +1,6 @@
 #!/usr/bin/env python3
 """tests/wrong.py [CRATE..]: tries every wrong version of the crates, those that the gate leaves out too
-(crates/*/must-fail/more), with `rt must-fail` on a copy of the tree where all stand right in must-fail/: some seconds
+(those not right in must-fail/), with `rt must-fail` on a copy of the tree where all stand right in must-fail/: some seconds
 each, over what `rt check` kept in out/. The prover must refuse each because a fact fails. What was tried before and
 stands on nothing that changed is not tried again. The last line counts."""
 import re
@@ -10,7 +10,7 @@ import sys
 import tempfile
 from pathlib import Path
 
-from edits_apply import ROOT
+from edits_apply import ROOT, edits_of
 
 TRIED = re.compile(r"^(?:rt: )?must-fail (\S+\.edit): (refused|NOT REFUSED|BAD EDIT|NOT TRIED)")
 
@@ -24,15 +24,17 @@ def copy_of_tree(where):
         elif source.exists():
             shutil.copy(source, where / part)
     counts = {}
-    for edits in sorted(where.glob("crates/*/must-fail")):
-        for edit in sorted(edits.glob("*/*.edit")):
-            to = edits / edit.name
-            if to.exists():
-                sys.exit(f"two wrong versions are called {to.relative_to(where)}")
-            edit.rename(to)
-        for folder in [path for path in edits.iterdir() if path.is_dir()]:
-            shutil.rmtree(folder)
-        counts[edits.parent.name] = len(list(edits.glob("*.edit")))
+    for crate in sorted((where / "crates").iterdir()):
+        edits, place = edits_of(crate), crate / "must-fail"
+        texts = {edit.name: edit.read_bytes() for edit in edits}
+        if len(texts) != len(edits):
+            sys.exit(f"two wrong versions of {crate.name} have one name")
+        shutil.rmtree(place, ignore_errors=True)
+        if edits:
+            place.mkdir()
+            counts[crate.name] = len(edits)
+        for name, text in texts.items():
+            (place / name).write_bytes(text)
     return counts
 
 

@@ -1,17 +1,18 @@
 #!/usr/bin/env python3
-"""Brings the wrong versions to the present text of the files that they change: crates/*/must-fail/**/*.edit.
+"""Brings the wrong versions to the present text of the files that they change: the edits of crates/ (*.edit) and the
+wrong definitions (tests/wrong_definitions/*.change).
 
-usage: tools/edits.py [--dry] [--all] [--old COMMIT] [NAME..]    NAME: a part of a path
+usage: tools/edits.py [--dry] [--words] [--old COMMIT] [NAME..]    NAME: a part of a path, for those alone
 
-The kit's port.py turns no edit. Each edit is read as it was at COMMIT (955d666, the last one in the old spelling), with
-the file that it changes then and now. The old text's line is found again in the present file, by an alignment of both;
-the old text and the new one are turned by the same rules, which are those of port.py as far as an edit needs them, and
-by the words that changed, learned from all files of the crates then and now. The turned old text must stand on the
-line that it is aligned with, and once in the file; else the edit is named ("by hand") and left as it is. An edit that
-names a word which its file then had and now has not (an import that is gone) is named too ("look").
-
-Without --all an edit that applies as it stands is left alone where the rules give the same text. BY_HAND names those
-that were written by hand: the rules never write them.
+The kit's port.py turns no edit. Each is read as it was at COMMIT (the last one in the old spelling), with the file that
+it changes then and now. Its old text and its new one are turned by the same rules, which are those of port.py as far as
+an edit needs them (clauses, borrows, projections, paths, operators), and by the words that changed, which are learned
+from all files of the crates then and now (--words prints them). Code outside clauses stays as it is. An edit's turned
+old text must stand on the line that the old line became, by an alignment of the file then and now, and once in the file;
+a wrong definition's once in the file. Else it is named ("by hand") and left as it is. An import that now stands in a line
+with others gets the names that the change adds, or loses the one that it takes away. A word of a new text that its file
+has nowhere is named ("look"): it must be in scope by a path or a field. So the script can be run again whenever the
+present text has changed. BY_HAND names what was written by hand, which it never writes.
 """
 import argparse
 import difflib
@@ -128,8 +129,8 @@ def same(x, y):
     return x.replace("getd", "getor") == y
 
 
-# names of the kit that only edits use
-STD = {"and-zero-r": "and_zero_r"}
+# names that stand in wrong versions alone, of the kit or their own
+STD = {"and-zero-r": "and_zero_r", "startSeen": "start_seen"}
 
 # ---- the rules
 
@@ -410,7 +411,9 @@ def changed(commit, path, words, learned):
         place = ROOT / "crates" / str(crate) / str(file)
         if re.fullmatch(r"proofs/.*/Proof\.antt", str(file)) and not place.is_file():
             # a function's own proof, which is found or written otherwise now: what judges a change reads none
-            print(f"look: {path}: {file} is gone, and what the change did there")
+            if out[-1] == f"file: {file}":
+                print(f"look: {path}: {file} is gone, and what the change did there")
+                out.pop()
         elif old is not None:
             old2, new2 = block(commit, f"crates/{crate}/{file}", "\n".join(old), "\n".join(new), words, learned)
             out.extend(f"old: {line}" for line in old2.split("\n"))
@@ -459,8 +462,17 @@ def gone(path, text):
     return found
 
 
+def where(path):
+    """Where the edit is now: an edit may have moved within its crate."""
+    crate = ROOT / "/".join(path.split("/")[:2])
+    found = [ROOT / path] if (ROOT / path).is_file() else list(crate.rglob(path.split("/")[-1]))
+    if len(found) != 1:
+        sys.exit(f"{len(found)} files for {path}")
+    return found[0]
+
+
 def main():
-    parser = argparse.ArgumentParser(usage=__doc__)
+    parser = argparse.ArgumentParser(description=__doc__, formatter_class=argparse.RawDescriptionHelpFormatter)
     parser.add_argument("--dry", action="store_true")
     parser.add_argument("--old", default=OLD)
     parser.add_argument("--words", action="store_true", help="print the words that changed")
@@ -486,10 +498,10 @@ def main():
             continue
         if path.endswith(".edit") and (lost := gone(path, text)):
             print(f"look: {path}: its file has no {', '.join(lost)}")
-        if text != now(path):
+        if text != (place := where(path)).read_text():
             count += 1
             if not asked.dry:
-                (ROOT / path).write_text(text)
+                place.write_text(text)
     print(f"{count} edits written, {hand} by hand")
     return 0
 

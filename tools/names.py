@@ -19,7 +19,7 @@ CODE = [str(path.relative_to(edits.ROOT)) for folder, ends in (("rust", ".rs"), 
         ("tests", ".sh"), ("tests", ".c"), ("tests", ".awk"), ("include", ".h"))
         for path in sorted((edits.ROOT / folder).rglob("*" + ends)) if "target" not in path.parts]
 CHANGES = sorted(str(path.relative_to(edits.ROOT)) for path in (edits.ROOT / "tests").rglob("*.change"))
-EDITS = sorted(str(path.relative_to(edits.ROOT)) for path in (edits.ROOT / "crates").glob("*/must-fail/**/*.edit"))
+EDITS = sorted(str(path.relative_to(edits.ROOT)) for path in (edits.ROOT / "crates").glob("*/**/*.edit") if "out" not in path.parts)
 BUT = {"docs/PORT.md"}
 
 COMMENT = {".rs": r"//.*", ".c": r"//.*|/\*.*\*/", ".h": r"//.*|/\*.*\*/", ".py": r"#.*|\"\"\".*", ".sh": r"#.*", ".awk": r"#.*"}
@@ -64,7 +64,7 @@ def comments(text, words, form):
 
 
 def main():
-    parser = argparse.ArgumentParser(usage=__doc__)
+    parser = argparse.ArgumentParser(description=__doc__, formatter_class=argparse.RawDescriptionHelpFormatter)
     parser.add_argument("--dry", action="store_true")
     parser.add_argument("--old", default=edits.OLD)
     asked = parser.parse_args()
