@@ -57,7 +57,7 @@ returns-then-found-ne0 c =
     ap (λ (s : Settled). s.refusal) settled.ensures
     ∙ settled-some lent.request (rw settled.ensures at c.if-found-ne0.true) in
     refused-before (lent_at) c.refused.result
-    (rw (stopped) c.before c.if-found-ne0.true) (rw (stopped) c.before c.refused.ensures)
+    (rw (stopped) at c.if-found-ne0.true) (rw (stopped) at c.refused.ensures)
 
 pub returns-then-modules-masters : goal.returns-then-modules-masters
 returns-then-modules-masters c =
@@ -104,8 +104,8 @@ refused-requires-then-found-ne0-2 c =
     })
     (record {
       table = c.rehearse-done.result.modules;
-      carried = c.rehearse-done.new.1.1.1.1.1.0;
-      levels = c.rehearse-done.new.1.1.1.1.1.1.0;
+      carried = c.rehearse-done.new.carried;
+      levels = c.rehearse-done.new.levels;
     })
     c.rehearse-done.result.reply =
     rw c.power_up-table.ensures at c.rehearse-done.ensures in
@@ -140,8 +140,8 @@ returns-then-found-ne0-2 c =
     })
     (record {
       table = c.rehearse-done.result.modules;
-      carried = c.rehearse-done.new.1.1.1.1.1.0;
-      levels = c.rehearse-done.new.1.1.1.1.1.1.0;
+      carried = c.rehearse-done.new.carried;
+      levels = c.rehearse-done.new.levels;
     })
     c.rehearse-done.result.reply =
     rw c.power_up-table.ensures at c.rehearse-done.ensures in
@@ -179,8 +179,8 @@ put_modules-requires c =
     })
     (record {
       table = c.rehearse-done.result.modules;
-      carried = c.rehearse-done.new.1.1.1.1.1.0;
-      levels = c.rehearse-done.new.1.1.1.1.1.1.0;
+      carried = c.rehearse-done.new.carried;
+      levels = c.rehearse-done.new.levels;
     })
     c.rehearse-done.result.reply =
     rw c.power_up-table.ensures at c.rehearse-done.ensures in
@@ -224,8 +224,8 @@ put_seats-requires c =
     })
     (record {
       table = c.rehearse-done.result.modules;
-      carried = c.rehearse-done.new.1.1.1.1.1.0;
-      levels = c.rehearse-done.new.1.1.1.1.1.1.0;
+      carried = c.rehearse-done.new.carried;
+      levels = c.rehearse-done.new.levels;
     })
     c.rehearse-done.result.reply =
     rw c.power_up-table.ensures at c.rehearse-done.ensures in
@@ -269,8 +269,8 @@ reply-requires c =
     })
     (record {
       table = c.rehearse-done.result.modules;
-      carried = c.rehearse-done.new.1.1.1.1.1.0;
-      levels = c.rehearse-done.new.1.1.1.1.1.1.0;
+      carried = c.rehearse-done.new.carried;
+      levels = c.rehearse-done.new.levels;
     })
     c.rehearse-done.result.reply =
     rw c.power_up-table.ensures at c.rehearse-done.ensures in
@@ -305,8 +305,8 @@ returns c =
     })
     (record {
       table = c.rehearse-done.result.modules;
-      carried = c.rehearse-done.new.1.1.1.1.1.0;
-      levels = c.rehearse-done.new.1.1.1.1.1.1.0;
+      carried = c.rehearse-done.new.carried;
+      levels = c.rehearse-done.new.levels;
     })
     c.rehearse-done.result.reply =
     rw c.power_up-table.ensures at c.rehearse-done.ensures in
