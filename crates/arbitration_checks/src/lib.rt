@@ -1,5 +1,7 @@
 // What a request decides before a run: refusals 12 to 16, the least message, how many bytes the bus will carry and how
 // many levels it will record.
+#![tactic(auto)]
+
 ghost use Rattle.std.specs.Prelude.{◌≡◌, ◌≤◌, length};
 ghost use Rattle.arbitration_rules.specs.Reply.{asked};
 ghost use Rattle.arbitration_messages.specs.Marks.{max_sent};

@@ -6,7 +6,6 @@ use mathlib.Core.List.{List}
 use native.Mathlib.Omega.{arith}
 use borrow.Author.Tests.{lt-ltb, le-ltb, ltb-true, ltb-false}
 use lib.Dec.{ltb}
-use lib.ListN.{length}
 use Rattle.laws.specs.Search.{any}
 use Rattle.arbitration_rules.specs.Limits.{max_length}
 use Rattle.arbitration_rules.specs.Reply.{is_empty, total, bad_message}

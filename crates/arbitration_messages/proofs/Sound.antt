@@ -2,17 +2,17 @@
 -- the messages send.
 use Prim.Native.Nat.{ℕ, zero, suc, ◌+◌, ◌-◌, ◌*◌, ◌<◌, ◌≤◌}
 use mathlib.Core.Path.{◌≡◌, refl, sym, ap, ap₂, ◌∙◌}
-use mathlib.Core.Bool.{Bool, false, not, ◌||◌, false≢true}
+use mathlib.Core.Bool.{Bool, false, ◌||◌, false≢true}
 use mathlib.Core.List.{List, [], ◌∷◌, ◌++◌, map, zip_with, append_assoc}
 use native.Mathlib.Omega.{arith}
 use lib.Dec.{ltb}
 use borrow.Author.Tests.{eqb-false, ltb-false}
-use lib.ListN.{length, get_or, take, drop, set, replicate, length-drop, length-append, length-replicate, take-append-drop}
+use lib.ListN.{length, get_or, take, drop, set, replicate, length-drop, take-append-drop}
 use lib.Seq.{take_at, drop_at, length-take-le}
 use Rattle.laws.specs.Search.{any}
 use Rattle.laws.specs.Everyone.{Everyone, nobody, also}
 use Rattle.laws.proofs.Bools.{neither}
-use Rattle.laws.proofs.Lists.{everyone-append, zip_with-length}
+use Rattle.laws.proofs.Lists.{zip_with-length}
 use Rattle.arbitration_rules.specs.Limits.{max_length}
 use Rattle.arbitration_rules.specs.Reply.{cut, total, is_empty, itself, bad_message, marks_after, marks_of, all_marks}
 use Rattle.arbitration_rules.proofs.Pieces.{marks-length, all-length, split-total}

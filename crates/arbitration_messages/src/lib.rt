@@ -1,4 +1,6 @@
 // The messages of a request, gathered from lent slices: what each sends, one after the other, and their lengths.
+#![tactic(auto)]
+
 ghost use Rattle.std.specs.Prelude.{◌≡◌, []};
 ghost use Rattle.laws.specs.Refusals.{refused_at};
 ghost use Rattle.arbitration_rules.specs.Reply.{asked};

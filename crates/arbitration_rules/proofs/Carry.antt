@@ -1,13 +1,13 @@
 -- The bus carries the least message, byte by byte with the restarts before them, until a byte of it is not acknowledged
 -- or all of it is sent.
-use Prim.Native.Nat.{ℕ, suc, ◌+◌, ◌*◌, ◌%◌, ◌≤◌, ◌<◌}
+use Prim.Native.Nat.{ℕ, ◌+◌, ◌*◌, ◌≤◌, ◌<◌}
 use native.Mathlib.Omega.{arith}
 use mathlib.Core.Path.{◌≡◌, refl, ap, ap₂, sym, subst, ◌∙◌}
 use mathlib.Core.Bool.{Bool, cond, true, false, not, ◌&&◌, false≢true}
 use mathlib.Core.List.{List, [], ◌∷◌, ◌++◌, map, map-append, append-nil, append_assoc}
 use lib.Dec.{eqb, leb}
 use lib.ListN.{length, drop, length-append, length-drop}
-use lib.Seq.{drop-append_seam, drop-drop, get_or-append_seam, get_or-drop}
+use lib.Seq.{drop-drop, get_or-append_seam, get_or-drop}
 use borrow.Author.Tests.{le-leb, lt-leb}
 use Rattle.encode.specs.Encode.{draw_event, draw_events}
 use Rattle.encode.proofs.EventLists.{draw-append}
@@ -24,7 +24,7 @@ use Rattle.arbitration_rules.proofs.Pause.{Pause, after_start, after_byte, is_in
 use Rattle.arbitration_rules.proofs.Pause.{taken_at}
 use Rattle.arbitration_rules.proofs.Round.{waits, ninth_bit, byte-turn}
 use Rattle.arbitration_rules.proofs.Restart.{restart-is}
-use Rattle.arbitration_rules.proofs.Follows.{Follows, Goes, follows-goes, follows_on}
+use Rattle.arbitration_rules.proofs.Follows.{Follows, follows-goes, follows_on}
 use Rattle.arbitration_rules.proofs.Against.{against, owner-in, against-next, in-before}
 use Rattle.arbitration_rules.proofs.Drawing.{byte-drawn}
 

@@ -2,30 +2,29 @@
 -- writes; never AL or STP (02: Ask 12).
 use Prim.Native.Nat.{ℕ, zero, suc, ◌≤◌, ◌<◌}
 use native.Mathlib.Omega.{arith}
-use mathlib.Core.Path.{◌≡◌, refl, ap, ap₂, sym, ◌∙◌}
+use mathlib.Core.Path.{◌≡◌, refl, ap, sym, ◌∙◌}
 use mathlib.Core.Bool.{Bool, cond, true, false, not, ◌||◌, false≢true}
-use mathlib.Core.List.{List, [], ◌∷◌, ◌++◌, map, append-nil, append_assoc}
+use mathlib.Core.List.{List, [], ◌∷◌, ◌++◌, map, append-nil}
 use mir.Val.{bool_byte}
 use lib.Bits.{bit_or, or_comm}
 use lib.Dec.{eqb}
 use lib.ListN.{length, take}
 use Rattle.laws.specs.Everyone.{Everyone, also}
 use Rattle.laws.proofs.Lists.{everyone, everyone-so}
-use Rattle.encode.specs.Encode.{draw_event, draw_events}
-use Rattle.arbitration_rules.specs.Outcome.{byte_of, restarts, sent_at, least, carried_count, restart_events}
+use Rattle.encode.specs.Encode.{draw_events}
+use Rattle.arbitration_rules.specs.Outcome.{byte_of, restarts, sent_at, least, carried_count}
 use Rattle.arbitration_rules.specs.Outcome.{sent_events, carried_events}
 use Rattle.arbitration_rules.specs.Run.{Bus, Instant, perform, powered, set_up, start, byte_turn, stop, turn_of}
 use Rattle.arbitration_rules.specs.Run.{restart, through, restarting, bytes, bytes_script, script}
 use Rattle.arbitration_rules.specs.Cleared.{cleared_over, cleared_by}
 use Rattle.arbitration_rules.proofs.Phases as phases
 use Rattle.arbitration_rules.proofs.Phases.{perform-append}
-use Rattle.arbitration_rules.proofs.Wire.{bus_of}
 use Rattle.arbitration_rules.proofs.Standing.{Standing}
 use Rattle.arbitration_rules.proofs.Pause.{Pause, after_start, after_byte, is_in, pull_at, level_at, taken_at}
 use Rattle.arbitration_rules.proofs.Round.{waits, ninth_bit}
 use Rattle.arbitration_rules.proofs.Against.{against, out_at}
 use Rattle.arbitration_rules.proofs.Carry.{Contest, Between, byte-below, paused, leader-in, all-go-on, leader}
-use Rattle.arbitration_rules.proofs.Carry.{agreed, pause_after, carry-at, contest-on, all-sent, more-to-send}
+use Rattle.arbitration_rules.proofs.Carry.{agreed, carry-at, contest-on, all-sent, more-to-send}
 use Rattle.arbitration_rules.proofs.Loop as loop
 use Rattle.arbitration_rules.proofs.Loop.{Carried, longer}
 use Rattle.arbitration_rules.proofs.Demand.{Sendable, Arbitration, winner-in, contest, least-sendable}

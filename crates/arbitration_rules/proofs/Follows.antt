@@ -5,13 +5,13 @@ use native.Mathlib.Omega.{arith}
 use mathlib.Core.Path.{◌≡◌, refl, ap, sym, ◌∙◌}
 use mathlib.Core.Bool.{Bool, cond, true, false, not, ◌&&◌, beq, false≢true}
 use mathlib.Core.List.{List, [], ◌∷◌}
-use lib.Dec.{eqb, ltb}
+use lib.Dec.{eqb}
 use lib.ListN.{length, get_or, drop}
-use borrow.Author.Tests.{eq-eqb, eqb-true, ltb-true, ltb-false, lt-ltb, le-ltb, not-false}
-use Rattle.laws.specs.Everyone.{Everyone, nobody, also}
+use borrow.Author.Tests.{eq-eqb, eqb-true, ltb-true, ltb-false, not-false}
+use Rattle.laws.specs.Everyone.{Everyone, also}
 use Rattle.laws.proofs.Bools.{alike}
-use Rattle.arbitration_rules.specs.Outcome.{byte_of, restarts, sent_at, byte_at, at_most, ending_differs}
-use Rattle.arbitration_rules.proofs.LeastMessage.{AtMost, ends, restarts-first, by_first, by-rest}
+use Rattle.arbitration_rules.specs.Outcome.{byte_of, restarts, sent_at, byte_at, ending_differs}
+use Rattle.arbitration_rules.proofs.LeastMessage.{AtMost}
 use Rattle.arbitration_rules.proofs.LeastMessage.{first-at-most, rest-at-most}
 
 -- what is sent is a byte, or 256 and a byte

@@ -1,10 +1,10 @@
 -- The messages of a request, cut from what all of them send: each is its own bytes, marked by its own parts.
-use Prim.Native.Nat.{ℕ, zero, suc, ◌+◌, ◌≤◌, ◌<◌, max}
+use Prim.Native.Nat.{ℕ, zero, suc, ◌+◌, ◌≤◌, ◌<◌}
 use native.Mathlib.Omega.{arith}
 use mathlib.Core.Path.{◌≡◌, refl, ap, ap₂, sym, ◌∙◌}
-use mathlib.Core.Bool.{Bool, true, false, ◌||◌, false≢true}
+use mathlib.Core.Bool.{false, ◌||◌, false≢true}
 use mathlib.Core.List.{List, [], ◌∷◌, ◌++◌, map, zip_with}
-use lib.Dec.{eqb, ltb}
+use lib.Dec.{ltb}
 use lib.ListN.{length, take, drop, replicate, length-append, length-replicate, length-take, length-drop}
 use borrow.Author.Tests.{eqb-false, ltb-false, le-ltb}
 use Rattle.laws.specs.Everyone.{Everyone, nobody, also}
@@ -13,7 +13,7 @@ use Rattle.laws.proofs.Bools.{neither}
 use Rattle.laws.proofs.Lists.{everyone-append, zip_with-length}
 use Rattle.arbitration_rules.specs.Outcome.{restarts, sent_at}
 use Rattle.arbitration_rules.specs.Reply.{Request, cut, total, parts_of, lengths_of, marks_after, marks_of, all_marks}
-use Rattle.arbitration_rules.specs.Reply.{sent_of, messages_of, is_empty, bad_message, itself, longest}
+use Rattle.arbitration_rules.specs.Reply.{messages_of, is_empty, bad_message, itself}
 use Rattle.arbitration_rules.specs.Limits.{max_length}
 use Rattle.arbitration_rules.proofs.Follows.{Sent}
 

@@ -11,7 +11,7 @@ use Rattle.usi_i2c.specs.Rules.{condition_flags, condition_count}
 use Rattle.usi.specs.declared.Usi.{Usi}
 use Rattle.usi.specs.Module.{pulls_scl, pulls_sda}
 use Rattle.usi.specs.Step.{followed, settled, write_byte, edged, fallen, risen, sample}
-use Rattle.arbitration_rules.specs.Masters.{Master, with_usi, losers, applied}
+use Rattle.arbitration_rules.specs.Masters.{with_usi, losers, applied}
 use Rattle.arbitration_rules.proofs.Phases.{writes, writes_by, recorded, bit_turn, restarted}
 use Rattle.arbitration_rules.specs.Run.{Bus}
 use Rattle.laws.specs.Everyone.{Someone}

@@ -8,8 +8,8 @@ use mathlib.Core.List.{List, [], ◌∷◌}
 use mathlib.Core.Logic.{◌⊎◌, inl, inr}
 use mathlib.Core.Option.{none, some}
 use lib.Dec.{eqb, eqb-suc-zero}
-use lib.ListN.{length, get_or, take, drop}
-use borrow.Author.Tests.{eq-eqb, eqb-true, eqb-false, not-true}
+use lib.ListN.{get_or, take, drop}
+use borrow.Author.Tests.{eq-eqb, eqb-true}
 use Rattle.laws.specs.Everyone.{Everyone, nobody, also}
 use Rattle.laws.proofs.Bools.{both}
 use Rattle.laws.proofs.Lists.{everyone-so}

@@ -1,6 +1,8 @@
 // I2C arbitration as document 01 rules it (01: the clash runner): the limits, and what arbitrate replies. The rules
 // are definitions in specs/, the theorems about them in proofs/; crates arbitration_checks, arbitration_run and
 // arbitration are the code.
+#![tactic(auto)]
+
 use laws::Refusal;
 
 // The most masters that start together, and the most bytes of a message.

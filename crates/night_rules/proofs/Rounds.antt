@@ -9,7 +9,7 @@ use lib.Dec.{eqb, leb}
 use lib.ListN.{length, get_or}
 use borrow.Author.Tests.{eq-eqb, ne_eqb, eqb-true, eqb-false, leb-true, leb-false, le-leb, lt-leb}
 use Rattle.usi.specs.declared.Usi.{Usi}
-use Rattle.laws.specs.Everyone.{Everyone, Someone}
+use Rattle.laws.specs.Everyone.{Everyone}
 use Rattle.laws.specs.Search.{any}
 use Rattle.laws.proofs.Lists.{everyone, everyone-so, everyone-both, everyone-map, someone-so, someone-map, map-alike}
 use Rattle.laws.proofs.Lists.{any-one, any_none, someone-length}

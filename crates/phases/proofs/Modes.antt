@@ -1,10 +1,10 @@
 -- The modes as statements about whole replies: unchecked is the reader as it was, and what encode draws is read back in
 -- a mode exactly when its gap is wide enough.
-use Prim.Native.Nat.{ℕ, zero, suc, ◌+◌, ◌*◌, ◌-◌, ◌≤◌, ◌<◌}
+use Prim.Native.Nat.{ℕ, suc, ◌+◌, ◌*◌, ◌≤◌, ◌<◌}
 use native.Mathlib.Omega.{arith}
 use mathlib.Core.Logic.{◌⊎◌, inl, inr, ⊎_elim}
 use mathlib.Core.Path.{◌≡◌, refl, sym, ap, ap₂, ◌∙◌}
-use mathlib.Core.Bool.{Bool, true, false, cond}
+use mathlib.Core.Bool.{Bool, true, false}
 use mathlib.Core.List.{List, [], ◌∷◌, ◌++◌}
 use mir.Val.{bool_byte}
 use lib.Dec.{eqb, ltb}
@@ -21,8 +21,8 @@ use Rattle.trace.proofs.Pairs.{rising}
 use Rattle.trace.proofs.Checked.{Checked, checked, to-checks}
 use Rattle.encode.specs.declared.Encoded.TheVariants.{Drawn}
 use Rattle.encode.specs.declared.Position.TheVariants.{Between}
-use Rattle.encode.specs.Complete.{complete, Completes, ended, start, first}
-use Rattle.encode.specs.Encode.{bits_below, byte_bits, draw_bits, draw_event, draw_events, drawing, sample_count, stamps_from}
+use Rattle.encode.specs.Complete.{Completes, ended, start, first}
+use Rattle.encode.specs.Encode.{bits_below, byte_bits, draw_bits, draw_event, draw_events, drawing, stamps_from}
 use Rattle.encode.specs.EncodeReply.{encoded, stamps_after, levels_after}
 use Rattle.encode.proofs.Grammar.{completes}
 use Rattle.encode.proofs.Samples.{drawing-length}

@@ -14,10 +14,10 @@ use Rattle.trace.proofs.Checked.{trace-numbered}
 use Rattle.decode.specs.declared.Decoded.{Decoded}
 use Rattle.decode.specs.declared.Decoded.TheVariants.{Events, Refused}
 use Rattle.decode.specs.Decode.{events, final}
-use Rattle.decode.specs.DecodeReply.{decode_checks, decoded}
+use Rattle.decode.specs.DecodeReply.{decoded}
 use Rattle.phases.specs.declared.Mode.{Mode}
 use Rattle.phases.specs.Phases.{first_short}
-use Rattle.phases.specs.DecodedIn.{phase_check, checks_in, decoded_in}
+use Rattle.phases.specs.DecodedIn.{phase_check, decoded_in}
 
 -- a check that does not apply may be left out
 left_out : (checks more : List Check) (c : Check) → c.applies ≡ false

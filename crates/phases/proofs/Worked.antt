@@ -8,7 +8,7 @@ use Rattle.decode.specs.declared.Decoded.{Decoded}
 use Rattle.decode.specs.declared.Decoded.TheVariants.{Events, Refused}
 use Rattle.decode.specs.Decode as decode
 use Rattle.phases.specs.declared.Mode.{Mode}
-use Rattle.phases.specs.declared.Mode.TheVariants.{Unchecked, Standard, Fast}
+use Rattle.phases.specs.declared.Mode.TheVariants.{Standard, Fast}
 use Rattle.phases.specs.Phases.{next, ends_short}
 use Rattle.phases.specs.DecodedIn.{decoded_in}
 

@@ -1,4 +1,6 @@
 // Reading in a mode: a trace with a whole SCL phase too short to be real is refused with 18.
+#![tactic(auto)]
+
 ghost use Rattle.std.specs.Prelude.{◌≡◌, length};
 ghost use Rattle.decode.specs.DecodeReply.{events_after};
 ghost use Rattle.phases.specs.DecodedIn.{decoded_in};

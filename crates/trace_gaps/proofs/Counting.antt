@@ -6,13 +6,13 @@ use Prim.Native.Nat.{ℕ, suc, ◌+◌, ◌-◌, ◌*◌, ◌/◌, ◌^◌, ◌�
 use native.Mathlib.Nat.{div-eq_of_lt}
 use native.Mathlib.Numerals.{add-one}
 use native.Mathlib.Omega.{arith}
-use lib.Dec.{eqb, ltb, leb}
+use lib.Dec.{ltb}
 use lib.ListN.{length, get_or, drop, drop_of_length-le}
 use lib.Seq.{drop-cons}
 use borrow.Author.Tests.{eq-eqb, le-leb, le-ltb}
 use Rattle.decode.specs.declared.Decoder.{Decoder}
 use Rattle.decode.specs.Decode.{idle, next}
-use Rattle.decode.specs.Stepping.{Sound, is_sound, sounded}
+use Rattle.decode.specs.Stepping.{Sound, sounded}
 use Rattle.decode.proofs.Sound.{idle-sound, next-sound}
 use Rattle.trace_gaps.specs.declared.Tally.{Tally}
 use Rattle.trace_gaps.specs.Gaps.{gaps_inside, inside, up_to, total, tally_of, with_gap}

@@ -1,5 +1,5 @@
 -- The gaps of a trace, from sample to sample.
-use Rattle.std.specs.Prelude.{Bool, true, cond, ◌&&◌, List, [], ◌∷◌, ℕ, ◌+◌, ◌-◌, ◌*◌, ◌/◌, eqb, ltb, leb, length, get_or, drop}
+use Rattle.std.specs.Prelude.{Bool, true, cond, ◌&&◌, List, [], ◌∷◌, ℕ, ◌+◌, ◌-◌, ◌*◌, ◌/◌, eqb, ltb, length, get_or, drop}
 use Rattle.decode.specs.declared.Decoder.{Decoder}
 use Rattle.decode.specs.Decode.{idle, next}
 use Rattle.trace_gaps.specs.declared.Tally.{Tally}

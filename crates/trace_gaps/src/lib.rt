@@ -1,4 +1,6 @@
 // The gaps of a trace, from sample to sample: whether all are alike, and which are so long that samples may be lost.
+#![tactic(auto)]
+
 ghost use Rattle.std.specs.Prelude.{◌≡◌, ◌-◌, ◌*◌, ◌≤◌, ltb, length, drop};
 ghost use Rattle.trace_gaps.specs.Gaps.{max_gaps, all_apart, even_gap, inside, up_to, tally_of, with_gap};
 ghost use Rattle.trace_gaps.specs.Gaps.{average as average_of, fourfold as fourfold_of, usual_gap};

@@ -1,9 +1,9 @@
 -- The loops over a capture that keep what changes a level: what holds before each sample, and what a turn does.
-use Prim.Native.Nat.{ℕ, suc, ◌+◌, ◌≤◌, ◌<◌}
+use Prim.Native.Nat.{ℕ, ◌+◌, ◌≤◌, ◌<◌}
 use native.Mathlib.Numerals.{add-one}
 use native.Mathlib.Omega.{arith}
-use mathlib.Core.Path.{◌≡◌, refl, sym, ap, ◌∙◌}
-use mathlib.Core.Bool.{Bool, true, false, cond, not, false≢true}
+use mathlib.Core.Path.{◌≡◌, refl, ap, ◌∙◌}
+use mathlib.Core.Bool.{Bool, true, false, cond, not}
 use mathlib.Core.List.{List, [], ◌∷◌, ◌++◌, map, map-append}
 use mir.Val.{bool_byte}
 use lib.Dec.{eqb}
@@ -13,12 +13,12 @@ use borrow.Author.Tests.{ne_eqb, ltb-false}
 use Rattle.laws.specs.Buffer.{filled}
 use Rattle.laws.specs.Search.{any}
 use Rattle.laws.proofs.Bools.{neither}
-use Rattle.laws.proofs.Buffer.{Progress, progress-none, progress-more, progress-done}
-use Rattle.laws.proofs.Buffer.{Writing, writing-none, writing-long, writing-room, writing_more, writing-done}
+use Rattle.laws.proofs.Buffer.{Progress, progress-more}
+use Rattle.laws.proofs.Buffer.{Writing, writing-long, writing-room, writing_more, writing-done}
 use Rattle.levels.specs.Levels.{max_level}
 use Rattle.trace.specs.Samples.{samples, levels_of}
 use Rattle.trace.specs.Trace.{bad_level}
-use Rattle.trace.proofs.Samples.{samples-drop, samples-length, levels-again}
+use Rattle.trace.proofs.Samples.{samples-drop, samples-length}
 use Rattle.trace.specs.Changes.{kept, changes_from, thinned}
 
 -- one sample is kept, or none

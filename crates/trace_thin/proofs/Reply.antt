@@ -1,9 +1,9 @@
 -- What thin answers in each case: the capture's refusal, 6, 8, or how many samples are left.
 use Prim.Native.Nat.{ℕ}
 use native.Mathlib.Omega.{arith}
-use mathlib.Core.Path.{◌≡◌, refl, sym, ap, ◌∙◌}
-use mathlib.Core.Bool.{Bool, true, false, cond, not, ◌||◌}
-use mathlib.Core.List.{List, [], ◌∷◌}
+use mathlib.Core.Path.{◌≡◌, sym, ap, ◌∙◌}
+use mathlib.Core.Bool.{true, false, cond, not, ◌||◌}
+use mathlib.Core.List.{List}
 use lib.Dec.{eqb, ltb}
 use lib.ListN.{length}
 use borrow.Author.Tests.{eqb-true, not-false, eq-eqb, ne_eqb}
@@ -19,7 +19,7 @@ use Rattle.trace.proofs.Samples.{levels-again}
 use Rattle.trace_thin.specs.declared.Thinned.{Thinned}
 use Rattle.trace_thin.specs.declared.Thinned.TheVariants.{Left, Refused}
 use Rattle.trace.specs.Changes.{changes_from, thinned}
-use Rattle.trace_thin.specs.ThinReply.{capture_checks, count_left, left_checks, thin_checks, thin_answer}
+use Rattle.trace_thin.specs.ThinReply.{capture_checks, count_left, left_checks, thin_answer}
 use Rattle.trace_thin.proofs.Keeping.{thinned-from}
 
 pub capture-numbered : (stamps levels : List ℕ) → Numbered (capture_checks stamps levels)

@@ -1,6 +1,6 @@
 -- A sample that changes no level changes nothing that the decoder knows, and lists nothing.
 use Prim.Native.Nat.{ℕ}
-use mathlib.Core.Path.{◌≡◌, refl, sym, ap, ap₂, ◌∙◌}
+use mathlib.Core.Path.{◌≡◌, refl, sym, ap, ◌∙◌}
 use mathlib.Core.Bool.{Bool, true, false, cond, not, ◌&&◌}
 use mathlib.Core.List.{List, [], ◌∷◌, ◌++◌}
 use lib.Dec.{eqb}
@@ -9,7 +9,7 @@ use Rattle.laws.proofs.Bools.{both}
 use Rattle.levels.specs.Levels.{scl, sda, starts, stops}
 use Rattle.trace.specs.Samples.{levels_of}
 use Rattle.decode.specs.declared.Decoder.{Decoder}
-use Rattle.decode.specs.Decode.{idle, takes, ninth, conditioned, with_bit, seen, next, cut, lists, after, listed}
+use Rattle.decode.specs.Decode.{idle, takes, ninth, conditioned, with_bit, seen, next, lists, after, listed}
 use Rattle.decode.specs.Decode.{events, final}
 use Rattle.decode.proofs.Sample.{Sampled, started, stopped, ignored, bit-taken, byte-taken, remembered}
 use Rattle.decode.proofs.Sample.{bit_taken, byte_taken, sampled}

@@ -1,9 +1,9 @@
 -- Worked captures, each of the reply and of both lent slices.
 use mathlib.Core.Path.{◌≡◌, refl}
 use mathlib.Core.Bool.{true}
-use mathlib.Core.List.{List, [], ◌∷◌, ◌++◌}
+use mathlib.Core.List.{List, [], ◌∷◌}
 use Prim.Native.Nat.{ℕ, zero, suc}
-use lib.ListN.{length, replicate}
+use lib.ListN.{replicate}
 use Rattle.decode.specs.declared.Decoded.TheVariants.{Events}
 use Rattle.decode.specs.Decode.{takes, next, cut, lists}
 use Rattle.decode.specs.DecodeReply.{decoded}

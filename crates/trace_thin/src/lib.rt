@@ -1,4 +1,6 @@
 // The samples of a capture that change no level dropped, so that a long capture fits a trace.
+#![tactic(auto)]
+
 ghost use Rattle.std.specs.Prelude.{◌≡◌, length};
 ghost use Rattle.laws.specs.Refusals.{given};
 ghost use Rattle.trace_thin.specs.ThinReply.{capture_checks, thin_answer, stamps_after, levels_after};

@@ -1,4 +1,6 @@
 // A USI module as text: its registers, its hidden state and the lines that it pulls low or, in SPI, drives.
+#![tactic(auto)]
+
 ghost use Rattle.std.specs.Prelude.{◌≡◌};
 ghost use Rattle.text.specs.Output.{Put};
 ghost use Rattle.usi_text.specs.Module.{flag_byte, lines_byte, driven_byte, spaced_text, flag_text};

@@ -1,10 +1,9 @@
 -- What is decided of those still in: all have the winner's message, or two differ.
-use Prim.Native.Nat.{ℕ, ◌<◌}
+use Prim.Native.Nat.{ℕ}
 use mathlib.Core.Path.{◌≡◌, refl, sym, ap, ◌∙◌}
 use mathlib.Core.Bool.{Bool, cond, true, false, false≢true}
 use mathlib.Core.List.{List, [], ◌∷◌}
 use native.Mathlib.Omega.{arith}
-use lib.ListN.{length}
 use Rattle.laws.specs.Everyone.{Everyone, nobody, also, Someone, this, another}
 use Rattle.laws.specs.Search.{all}
 use Rattle.laws.proofs.Lists.{everyone-so, someone-length, someone-both}

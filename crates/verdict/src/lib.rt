@@ -1,4 +1,6 @@
 // The verdict of a load: from arbitrate's reply, the messages and the acknowledges.
+#![tactic(auto)]
+
 ghost use Rattle.std.specs.Prelude.{◌≡◌};
 ghost use Rattle.arbitration_rules.specs.Reply.{asked, cut};
 ghost use Rattle.verdict.specs.Verdict.{contenders as contenders_of, decided, verdict_for};

@@ -26,8 +26,11 @@ returns-then-place-levels c =
     let args = c.args in
     let found = c.first_short-place in
     let short : first_short args.mode args.stamps.now args.levels.now < length args.levels.now =
-    rw found.ensures at c.if-place-levels.true in record { answer = ap (λ (place : ℕ). Refused 18 place) found.ensures
-          ∙ short-refused _ _ _ _ c.check-refusal.result c.check-refusal.ensures c.if-refusal-ne0.false short; buffer = refl }
+    rw found.ensures at c.if-place-levels.true in record {
+      answer = ap (λ (place : ℕ). Refused 18 place) found.ensures
+          ∙ short-refused _ _ _ _ c.check-refusal.result c.check-refusal.ensures c.if-refusal-ne0.false short;
+      buffer = refl;
+    }
 
 pub returns : goal.returns
 returns c =

@@ -1,5 +1,4 @@
 use mathlib.Core.Path.{refl, sym, ◌∙◌}
-use Prim.Native.Nat.{◌-◌}
 use Rattle.trace_gaps.proofs.Alike.{apart_more, apart_other, apart-all}
 use Rattle.trace_gaps.proofs.all_apart.Goals as goal
 

@@ -10,8 +10,12 @@ use Rattle.trace_thin.proofs.thin.Goals as goal
 pub returns-then-refusal-ne0 : goal.returns-then-refusal-ne0
 returns-then-refusal-ne0 c =
     let args = c.args in
-    let check = c.check-refusal in record { answer = capture-refused args.stamps.now args.levels.now (length args.thin_stamps.now) (length args.thin_levels.now)
-          check.result check.ensures c.if-refusal-ne0.true; stamp_buffer = rw (ne_eqb _ 0 c.if-refusal-ne0.true); level_buffer = rw (ne_eqb _ 0 c.if-refusal-ne0.true) }
+    let check = c.check-refusal in record {
+      answer = capture-refused args.stamps.now args.levels.now (length args.thin_stamps.now) (length args.thin_levels.now)
+          check.result check.ensures c.if-refusal-ne0.true;
+      stamp_buffer = rw (ne_eqb _ 0 c.if-refusal-ne0.true);
+      level_buffer = rw (ne_eqb _ 0 c.if-refusal-ne0.true);
+    }
 
 pub count-count-requires : goal.count-count-requires
 count-count-requires c =
@@ -29,8 +33,12 @@ returns-then-count-gt-MAX_SAMPLES c =
     let levels = args.levels.now in
     let check = c.check-refusal in
     let none = c.if-refusal-ne0.false in
-    let count = c.count-count in record { answer = many-refused stamps levels (length args.thin_stamps.now) (length args.thin_levels.now) check.result
-          check.ensures none count.result count.ensures (lt-ltb _ _ c.if-count-gt-MAX_SAMPLES.true); stamp_buffer = refl; level_buffer = refl }
+    let count = c.count-count in record {
+      answer = many-refused stamps levels (length args.thin_stamps.now) (length args.thin_levels.now) check.result
+          check.ensures none count.result count.ensures (lt-ltb _ _ c.if-count-gt-MAX_SAMPLES.true);
+      stamp_buffer = refl;
+      level_buffer = refl;
+    }
 
 pub returns-then-thin_stamps-count : goal.returns-then-thin_stamps-count
 returns-then-thin_stamps-count c =
@@ -39,8 +47,12 @@ returns-then-thin_stamps-count c =
     let levels = args.levels.now in
     let check = c.check-refusal in
     let none = c.if-refusal-ne0.false in
-    let count = c.count-count in record { answer = room-refused stamps levels (length args.thin_stamps.now) (length args.thin_levels.now) check.result
-          check.ensures none count.result count.ensures (le-ltb _ _ c.if-count-gt-MAX_SAMPLES.false) c.if-thin_stamps-count.true; stamp_buffer = refl; level_buffer = refl }
+    let count = c.count-count in record {
+      answer = room-refused stamps levels (length args.thin_stamps.now) (length args.thin_levels.now) check.result
+          check.ensures none count.result count.ensures (le-ltb _ _ c.if-count-gt-MAX_SAMPLES.false) c.if-thin_stamps-count.true;
+      stamp_buffer = refl;
+      level_buffer = refl;
+    }
 
 pub write-requires : goal.write-requires
 write-requires c =
@@ -67,5 +79,9 @@ returns c =
     let none = c.if-refusal-ne0.false in
     let count = c.count-count in
     let wrote = c.write.ensures in
-    let left = left_is stamps levels (capture stamps levels 0 0 check.result check.ensures none) in record { answer = left-all stamps levels (length args.thin_stamps.now) (length args.thin_levels.now) check.result
-          check.ensures none count.result count.ensures (le-ltb _ _ c.if-count-gt-MAX_SAMPLES.false) c.if-thin_stamps-count.false; stamp_buffer = wrote.stamps_stored ∙ rw left; level_buffer = wrote.levels_stored ∙ rw left }
+    let left = left_is stamps levels (capture stamps levels 0 0 check.result check.ensures none) in record {
+      answer = left-all stamps levels (length args.thin_stamps.now) (length args.thin_levels.now) check.result
+          check.ensures none count.result count.ensures (le-ltb _ _ c.if-count-gt-MAX_SAMPLES.false) c.if-thin_stamps-count.false;
+      stamp_buffer = wrote.stamps_stored ∙ rw left;
+      level_buffer = wrote.levels_stored ∙ rw left;
+    }

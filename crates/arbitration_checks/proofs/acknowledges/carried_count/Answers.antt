@@ -1,5 +1,4 @@
 use native.Mathlib.Omega.{arith}
-use Prim.Native.Nat.{◌-◌}
 use lib.ListN.{length}
 use Rattle.laws.proofs.Bools.{below_both, past-either}
 use Rattle.arbitration_checks.proofs.Carried.{carried-start, carried-all, carried-last, carried-more}

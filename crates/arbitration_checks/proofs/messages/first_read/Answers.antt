@@ -1,5 +1,4 @@
 use native.Mathlib.Omega.{arith}
-use Prim.Native.Nat.{◌-◌}
 use mathlib.Core.Path.{sym, ◌∙◌}
 use Rattle.arbitration_rules.specs.Reply.{reads}
 use Rattle.arbitration_checks.proofs.SearchedMessages.{searched-start, searched-more, searched-first}

@@ -1,5 +1,5 @@
 use native.Mathlib.Omega.{arith}
-use Prim.Native.Nat.{◌<◌, ◌-◌}
+use Prim.Native.Nat.{◌<◌}
 use lib.ListN.{length}
 use Rattle.arbitration_checks.proofs.Alike.{shared_start, shared-more, shared-end, shared-stop}
 use Rattle.arbitration_checks.proofs.Alike.{shared-other-end, shared-differ}

@@ -1,5 +1,4 @@
 use native.Mathlib.Omega.{arith}
-use Prim.Native.Nat.{◌-◌}
 use Rattle.arbitration_messages.proofs.Sums.{summed-more, summed-all}
 use borrow.Author.Rules.{rules}
 use Rattle.arbitration_messages.proofs.lengths.total.Goals as goal

@@ -1,5 +1,4 @@
 use native.Mathlib.Omega.{arith}
-use Prim.Native.Nat.{◌-◌}
 use Rattle.arbitration_messages.proofs.Marking.{marked_start, marked-room, marked-fits, marked_more}
 use Rattle.arbitration_messages.proofs.Marking.{marked-done}
 use Rattle.arbitration_messages.proofs.marks.part_marks.Goals as goal

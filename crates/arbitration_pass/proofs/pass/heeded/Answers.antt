@@ -1,5 +1,4 @@
 -- Who lost clears the repeated START's flag.
-use Rattle.arbitration_pass.proofs.Cases.{heedless}
 use Rattle.arbitration_pass.specs.Pass.{written}
 use Rattle.usi_registers.specs.Registers.{USICNT}
 use mathlib.Core.Path.{ap, ◌∙◌}

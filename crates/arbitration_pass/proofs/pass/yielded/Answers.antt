@@ -1,5 +1,4 @@
 -- Who lost lets go after the byte.
-use Rattle.arbitration_pass.proofs.Cases.{keeps_on}
 use Rattle.arbitration_pass.specs.Pass.{written}
 use Rattle.usi_registers.specs.Registers.{USICNT}
 use mathlib.Core.Path.{ap, ◌∙◌}

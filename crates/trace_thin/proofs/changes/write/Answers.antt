@@ -1,4 +1,4 @@
-use Prim.Native.Nat.{◌≤◌, ◌<◌, ◌-◌}
+use Prim.Native.Nat.{◌≤◌, ◌<◌}
 use native.Mathlib.Omega.{arith}
 use lib.ListN.{length}
 use Rattle.laws.proofs.Buffer.{writing-none}
@@ -62,6 +62,9 @@ returns c =
     let args = c.args in
     let stamps = args.stamps.now in
     let levels = args.levels.now in
-    let end : length stamps ≤ head.i = omega arith in record { stamps_stored = keeping-done stamps levels c.requires.0 (λ s. s.0) args.thin_stamps.now c.requires.1 head.thin_stamps head.last
-          head.found head.i head.invariant.1 end; levels_stored = keeping-done stamps levels c.requires.0 (λ s. s.1) args.thin_levels.now c.requires.2 head.thin_levels head.last
-          head.found head.i head.invariant.2 end }
+    let end : length stamps ≤ head.i = omega arith in record {
+      stamps_stored = keeping-done stamps levels c.requires.0 (λ s. s.0) args.thin_stamps.now c.requires.1 head.thin_stamps head.last
+          head.found head.i head.invariant.1 end;
+      levels_stored = keeping-done stamps levels c.requires.0 (λ s. s.1) args.thin_levels.now c.requires.2 head.thin_levels head.last
+          head.found head.i head.invariant.2 end;
+    }
