@@ -1,6 +1,8 @@
 // rig_clash, run by `rig clash`: rehearses each load of the files, where boards start to send at once; by `rig night`
 // until every message is carried; by `rig draw` to draw one load. The last line of output says how it went: `ok`,
 // `look`, `refused` with a number, or `error`.
+#![tactic(auto)]
+
 mod arguments; // arguments.rt: the words of the command line
 mod block; // block.rt: the block of a load
 mod board; // board.rt: a board in the block of a load
