@@ -1,12 +1,5 @@
-pub mod Walk
-pub mod Lent
-pub mod Args
-pub mod Handed
-pub mod Params
-pub mod Module
-pub mod TableLoop
 pub mod PassLaws
-pub mod PassLoop
 pub mod Given
 pub mod Preparing
 pub mod Contract
+pub mod RunLoop

@@ -124,3 +124,34 @@ module _ (pass : Pass) (table : List Usi) where
   pub seen_none : unseen ≡ seen 0 (passed 0 pass table)
   unfolding seen
   seen_none = refl
+
+-- what the loop over the first modules keeps: i of them have made the pass, and what they show is noted
+pub record AfterTurns (pass : Pass) (table₀ : List Usi) (count i : ℕ) (table : List Usi) (shown : Seen) : Type 0 where
+  pub within : i ≤ count
+  pub stands : table ≡ passed i pass table₀
+  pub noted_so : shown ≡ seen i table
+
+module _ (pass : Pass) (table₀ : List Usi) (count : ℕ) where
+  pub after_none : (shown : Seen) → shown ≡ unseen → AfterTurns pass table₀ count 0 table₀ shown
+  after_none shown is =
+      record {
+        within = omega arith;
+        stands = sym (passed_none pass table₀);
+        noted_so = is ∙ seen_none pass table₀ ∙ ap (seen 0) (passed_none pass table₀);
+      }
+
+  pub after_more : {i : ℕ} {table : List Usi} {shown : Seen} → AfterTurns pass table₀ count i table shown → i < count
+      → count ≤ max_masters → count ≤ length table₀ → (empty usi : Usi) (next : Seen)
+      → usi ≡ applied pass i (get_or table i empty) → next ≡ noted shown i usi
+      → AfterTurns pass table₀ count (i + 1) (set table i usi) next
+  after_more {i} {table} {shown} turns less most enough empty usi next made shows =
+      let near : i < length table₀ = omega arith in
+      let few : i < max_masters = omega arith in
+      let stood = passed-more pass table₀ i empty near in
+      record {
+        within = omega arith;
+        stands = rw (made, turns.stands) stood;
+        noted_so =
+            rw (shows, turns.noted_so, made, turns.stands)
+            (seen_more pass table₀ i empty near few ∙ ap (seen (i + 1)) (sym stood));
+      }

@@ -26,8 +26,8 @@ pub fn arbitrate(
 ) -> Arbitrated
     ensures { Arbitrates
         (asked bytes.now parts.now counts.now acks.now)
-        (record { table = table.entry.now; carried = carried.old; levels = levels.old })
-        (record { table = table.exit.now; carried = carried.new; levels = levels.new }) result }
+        (record { table = table.old; carried = carried.old; levels = levels.old })
+        (record { table = table.new; carried = carried.new; levels = levels.new }) result }
 {
     let prepared = prepare::prepare(
         bytes,

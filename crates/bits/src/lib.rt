@@ -1,4 +1,6 @@
 // Bits of a byte by position, as functions; the laws that other crates cite are in proofs/.
+#![tactic(auto)]
+
 ghost use Rattle.std.specs.Prelude.{◌≡◌};
 ghost use Rattle.bits.specs.Positions.{is_set, shift_in};
 

@@ -1,4 +1,6 @@
 // Tonight's corrections over the standing catalogue: which part of the caller's bytes is a board's message.
+#![tactic(auto)]
+
 ghost use Rattle.std.specs.Prelude.{◌≡◌};
 ghost use Rattle.catalogue.specs.Catalogue.{lent, located, message_of, number_of};
 

@@ -1,6 +1,6 @@
 -- One sample by the cases of SCL.
 use Prim.Native.Nat.{ℕ, ◌+◌, ◌*◌}
-use mathlib.Core.Path.{◌≡◌, refl, sym, ◌∙◌}
+use mathlib.Core.Path.{◌≡◌, refl}
 use mathlib.Core.Bool.{Bool, true, false, not, ◌&&◌, and-false, and-not_self, not-and_self}
 use mathlib.Core.List.{[], ◌∷◌, ◌++◌}
 use mir.Val.{bool_byte}

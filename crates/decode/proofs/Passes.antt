@@ -10,7 +10,7 @@ use Rattle.decode.specs.declared.Decoder.{Decoder}
 use Rattle.decode.specs.declared.Listed.{Listed}
 use Rattle.decode.specs.declared.Listed.TheVariants.{Nothing, One, Two}
 use Rattle.decode.specs.declared.Stepped.{Stepped}
-use Rattle.decode.specs.Decode.{idle, next, lists, after, listed, final}
+use Rattle.decode.specs.Decode.{idle, after, listed, final}
 use Rattle.decode.specs.Stepping.{Sound, Steps, list_of}
 use Rattle.decode.proofs.Sound.{idle-sound, next-sound}
 

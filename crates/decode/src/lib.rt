@@ -1,4 +1,6 @@
 // What a bus trace holds: the decoder, stepped by one sample, and the events of a whole trace.
+#![tactic(auto)]
+
 ghost use Rattle.std.specs.Prelude.{◌≡◌, length};
 ghost use Rattle.decode.specs.DecodeReply.{decoded, events_after};
 

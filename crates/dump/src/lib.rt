@@ -1,4 +1,6 @@
 // A trace drawn as a Value Change Dump: the whole text, or a piece of it from any byte on.
+#![tactic(auto)]
+
 ghost use Rattle.std.specs.Prelude.{◌≡◌, length, drop};
 ghost use Rattle.text.specs.Output.{Put};
 ghost use Rattle.dump.specs.Text.{dump_text};

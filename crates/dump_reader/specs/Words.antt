@@ -1,5 +1,5 @@
 -- Words of a text, each with its place.
-use Rattle.std.specs.Prelude.{ℕ, zero, suc, ◌+◌, ◌-◌, Bool, true, false, cond, not, ◌&&◌, ◌||◌, List, [], ◌∷◌, eqb, ltb, length, get_or, take, drop}
+use Rattle.std.specs.Prelude.{ℕ, zero, suc, ◌+◌, ◌-◌, Bool, cond, not, ◌||◌, List, [], ◌∷◌, eqb, ltb, length, get_or, take, drop}
 use Rattle.text.specs.Words.{run_length}
 use Rattle.text.specs.Numbers.{between}
 use Rattle.dump_reader.specs.declared.words.Run.{Run}

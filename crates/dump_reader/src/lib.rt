@@ -1,4 +1,6 @@
 // A Value Change Dump (IEEE 1364) with two one-bit wires, SCL declared first, read as a trace.
+#![tactic(auto)]
+
 ghost use Rattle.std.specs.Prelude.{◌≡◌, length};
 ghost use Rattle.laws.specs.Refusals.{given, refused_at};
 ghost use Rattle.dump_reader.specs.DumpRead.{closed, may_end, refusal_of, text_checks};

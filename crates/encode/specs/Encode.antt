@@ -1,5 +1,5 @@
 -- How an event list is drawn: its levels, their number, and the stamps.
-use Rattle.std.specs.Prelude.{ℕ, zero, suc, ◌+◌, ◌*◌, ◌-◌, ◌/◌, ◌%◌, ◌^◌, Bool, cond, List, [], ◌∷◌, ◌++◌, eqb}
+use Rattle.std.specs.Prelude.{ℕ, zero, suc, ◌+◌, ◌*◌, ◌-◌, Bool, cond, List, [], ◌∷◌, ◌++◌, eqb}
 use mir.Val.{bool_byte}
 use Rattle.bits.specs.Positions.{is_set}
 use Rattle.trace.specs.Events.{is_byte, start_event, repeated_start_event, stop_event}

@@ -1,4 +1,6 @@
 // The drawing of event lists as traces, 01's wire writer.
+#![tactic(auto)]
+
 ghost use Rattle.std.specs.Prelude.{◌≡◌, length};
 ghost use Rattle.encode.specs.EncodeReply.{encoded, stamps_after, levels_after};
 

@@ -1,23 +1,22 @@
 -- Which byte of a message, and which bit of a byte.
-use Prim.Native.Nat.{ℕ, zero, suc, ◌+◌, ◌*◌, ◌-◌, ◌/◌, ◌%◌, ◌^◌, ◌≤◌, ◌<◌}
+use Prim.Native.Nat.{ℕ, zero, suc, ◌+◌, ◌*◌, ◌%◌, ◌^◌, ◌≤◌, ◌<◌}
 use native.Mathlib.Nat.{pow-suc, mul_comm}
 use native.Mathlib.Numerals.{add-one}
 use native.Mathlib.Omega.{arith}
-use mathlib.Core.Path.{◌≡◌, refl, sym, ap, ◌∙◌}
-use mathlib.Core.Bool.{Bool, true, false, cond, ◌&&◌}
+use mathlib.Core.Path.{◌≡◌, refl, sym, ◌∙◌}
+use mathlib.Core.Bool.{Bool, true, false, cond}
 use mathlib.Core.List.{List, [], ◌∷◌, ◌++◌}
 use lib.Arith.{mod-mul}
-use lib.Dec.{eqb, ltb}
+use lib.Dec.{eqb}
 use lib.ListN.{length, get_or, take}
 use lib.Pow.{pow_pos}
 use lib.Seq.{take-suc}
-use borrow.Author.Tests.{eq-eqb, ne_eqb, eqb-true, eqb-false, ltb-true, lt-ltb}
+use borrow.Author.Tests.{eq-eqb, ne_eqb, eqb-true, eqb-false, ltb-true}
 use Rattle.bits.specs.Positions.{digit}
 use Rattle.laws.specs.Search.{all}
 use Rattle.laws.proofs.Bools.{both}
 use Rattle.trace.specs.Events.{is_byte, start_event}
-use Rattle.event_match.specs.declared.Part.{Part}
-use Rattle.event_match.specs.declared.Part.TheVariants.{Other, Bit, Acknowledge}
+use Rattle.event_match.specs.declared.Part.TheVariants.{Bit, Acknowledge}
 use Rattle.event_match.specs.Match.{byte_after, byte_from, first_bit}
 
 -- ---- bytes

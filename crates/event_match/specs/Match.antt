@@ -1,5 +1,5 @@
 -- The first difference of two lists of events: what was rehearsed, and what was seen (ours).
-use Rattle.std.specs.Prelude.{ℕ, zero, suc, Bool, cond, ◌&&◌, List, [], ◌∷◌, eqb, ltb, length, get_or, take}
+use Rattle.std.specs.Prelude.{ℕ, zero, suc, cond, ◌&&◌, List, [], ◌∷◌, eqb, ltb, length, get_or, take}
 use Rattle.bits.specs.Positions.{digit}
 use Rattle.laws.specs.Same.{same}
 use Rattle.trace.specs.Events.{is_byte, start_event}

@@ -1,4 +1,6 @@
 // Two lists of events compared: what was rehearsed, and what was seen on the bus.
+#![tactic(auto)]
+
 ghost use Rattle.std.specs.Prelude.{◌≡◌};
 ghost use Rattle.event_match.specs.Match.{compared};
 

@@ -1,4 +1,6 @@
 // The frames of a capture held against the loads of a rehearsal, in their order.
+#![tactic(auto)]
+
 mod book; // book.rt: the loads and boards of the rehearsal, as they are kept
 mod frames; // frames.rt: the frames of the capture
 mod rows; // rows.rt: rows looked for

@@ -1,5 +1,6 @@
 // What every crate builds on: refusals as a table of checks, searches from the front of a list, buffers filled from
 // their start, claims about everyone in a list, and the rules by which proofs take a branch.
+#![tactic(auto)]
 
 // A refusal: its number and its place in the input; 0 and 0 where nothing is refused.
 #[derive(Clone, Copy)]

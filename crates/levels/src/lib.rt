@@ -1,4 +1,6 @@
 // Both lines in one level byte, SCL + 2·SDA, and the conditions of the bus between one sample and the next.
+#![tactic(auto)]
+
 ghost use Rattle.std.specs.Prelude.{◌≡◌};
 ghost use Rattle.levels.specs.Levels as levels;
 

@@ -5,6 +5,5 @@ pub mod Contests
 pub mod Entering
 pub mod Nights
 pub mod Rehearsed
-pub mod Values
 pub mod Placed
 pub mod Lending

@@ -3,7 +3,7 @@
 -- so both hold of a device with registers for in and out apart (02: Ask 7).
 use Prim.Native.Nat.{ℕ, zero, suc, ◌+◌, ◌-◌, ◌*◌, ◌/◌, ◌%◌, ◌^◌, ◌<◌, ◌≤◌}
 use mathlib.Core.Path.{◌≡◌, refl, sym, ◌∙◌, ap, ap₂}
-use mathlib.Core.Bool.{Bool, true, false, cond}
+use mathlib.Core.Bool.{Bool, true, false}
 use mathlib.Core.List.{List, [], ◌∷◌, ◌++◌, append-nil, append_assoc}
 use native.Mathlib.Nat.{pow-suc, add_comm, mod-lt}
 use native.Mathlib.Numerals.{add-one}
@@ -14,7 +14,7 @@ use lib.Pow.{pow_pos, shr-shr, field, mod-mod-pow}
 use lib.Dec.{eqb}
 use borrow.Author.Tests.{eq-eqb, ne_eqb}
 use mir.Val.{bool_byte}
-use Rattle.bits.specs.Positions.{digit, is_set}
+use Rattle.bits.specs.Positions.{is_set}
 use Rattle.shift.specs.Shift.{outgoing, shifted, downwards, upwards, in_order, first_sent, newest, shifted_by, sent_by}
 
 -- a bit by what is left when the bits below it are gone

@@ -1,8 +1,7 @@
 -- Worked numbers of the register: A5h and 1234h, both ways.
-use Prim.Native.Nat.{ℕ}
 use mathlib.Core.Path.{◌≡◌, refl}
-use mathlib.Core.Bool.{Bool, true, false}
-use mathlib.Core.List.{List, [], ◌∷◌}
+use mathlib.Core.Bool.{true, false}
+use mathlib.Core.List.{[], ◌∷◌}
 use Rattle.shift.specs.Shift.{top_of, outgoing, shifted, downwards, upwards, in_order}
 
 -- A5h is 1010 0101

@@ -1,4 +1,6 @@
 // The shift register of a serial module: 16 bits wide or 8, the lowest bit leaving first or the highest.
+#![tactic(auto)]
+
 ghost use Rattle.std.specs.Prelude.{◌≡◌, suc, ◌+◌, ◌*◌, ◌/◌, ◌%◌, ◌^◌};
 ghost use mir.Val.{bool_byte};
 ghost use Rattle.shift.specs.Shift.{top_of, outgoing as outgoing_rule, shifted as shifted_rule};

@@ -1,10 +1,10 @@
 -- CNT and IFG as bits are counted down: one less, and IFG=1 where nothing is left.
 use Prim.Native.Nat.{ℕ, suc, ◌-◌, ◌<◌}
-use mathlib.Core.Path.{◌≡◌, refl, sym, ◌∙◌, ap}
-use mathlib.Core.Bool.{Bool, true, false, cond, not, ◌||◌}
+use mathlib.Core.Path.{◌≡◌, refl, ◌∙◌, ap}
+use mathlib.Core.Bool.{Bool, true, false, not, ◌||◌}
 use native.Mathlib.Omega.{arith}
 use lib.Dec.{eqb, ltb}
-use borrow.Author.Tests.{eqb-true, eqb-false, ne_eqb, eq-eqb, ltb-true}
+use borrow.Author.Tests.{eqb-true, ne_eqb, eq-eqb, ltb-true}
 use Rattle.laws.proofs.Search.{all-below}
 use Rattle.bits.specs.Positions.{is_set, on, raise}
 use Rattle.bits.proofs.Masks.{on_bit, is_set-or}

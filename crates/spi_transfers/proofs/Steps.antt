@@ -1,5 +1,5 @@
 -- One sample or tick of a transfer under way: what it does to the register, to CNT and to what is driven.
-use Prim.Native.Nat.{ℕ, zero, suc, ◌+◌, ◌-◌, ◌*◌, ◌/◌, ◌%◌, ◌^◌, ◌<◌}
+use Prim.Native.Nat.{ℕ, zero, suc, ◌+◌, ◌-◌, ◌*◌, ◌/◌, ◌%◌, ◌<◌}
 use mathlib.Core.Path.{◌≡◌, refl, sym, ◌∙◌, ap, ap₂, subst}
 use mathlib.Core.Bool.{Bool, true, false, cond, not, ◌&&◌, beq, true≢false}
 use native.Mathlib.Omega.{arith}
@@ -7,18 +7,18 @@ use lib.Dec.{eqb, ltb}
 use borrow.Author.Tests.{eqb-false, not-true}
 use mir.Val.{bool_byte}
 use Rattle.laws.proofs.Bools.{bool-byte}
-use Rattle.bits.specs.Positions.{is_set, on, off}
+use Rattle.bits.specs.Positions.{on}
 use Rattle.bits.proofs.Masks.{on_bit, off-bit, and-true}
 use Rattle.shift.specs.Shift as shift
 use Rattle.levels.specs.Levels as levels
-use Rattle.usi_registers.specs.Registers.{USIGE, USICKPH, USIIFG}
+use Rattle.usi_registers.specs.Registers.{USIIFG}
 use Rattle.usi_registers.specs.Rules.{bit_count, counting, output_enable, transparent}
 use Rattle.usi_i2c.specs.Rules as rules
 use Rattle.usi_spi.specs.Rules as spi
 use Rattle.usi.specs.declared.Usi.{Usi}
 use Rattle.usi.specs.Module.{fits_spi, with_latch, with_levels, with_phase}
 use Rattle.usi.specs.Spi.{register, outgoing, latched, followed, captured, changed, at_edge, edged, sampled, ticked}
-use Rattle.usi.specs.Step.{module_of, sample, tick}
+use Rattle.usi.specs.Step.{sample, tick}
 use Rattle.usi.proofs.SpiSetUp.{Alike, same, then, alike-fits, captured-alike, followed-alike, recorded-alike}
 use Rattle.usi.proofs.SpiSetUp.{phased-alike}
 use Rattle.spi_transfers.specs.Transfer.{Act, Sample, Tick, acted, sclk_then, sdi_of}

@@ -13,11 +13,11 @@ use Rattle.usi_spi.specs.Rules as spi
 use Rattle.usi.specs.declared.Usi.{Usi}
 use Rattle.usi.specs.declared.SpiLines.{SpiLines}
 use Rattle.usi.specs.declared.Step.{Step}
-use Rattle.usi.specs.declared.Step.TheVariants.{Next, Refused}
-use Rattle.usi.specs.Module.{power_up, at_rest, lines, spi_lines}
+use Rattle.usi.specs.declared.Step.TheVariants.{Refused}
+use Rattle.usi.specs.Module.{power_up, lines, spi_lines}
 use Rattle.usi.specs.Spi as steps
 use Rattle.usi.specs.Step.{refusal, module_of, followed, settled, write_byte, edged, sample, tick}
-use Rattle.spi_transfers.specs.Transfer.{Act, Sample, acted, after, sent}
+use Rattle.spi_transfers.specs.Transfer.{Act, Sample, after, sent}
 
 -- the replies as they compute: all that each is made of unfolds with it
 unfoldable pub written : List (ℕ × ℕ) → Usi → Usi

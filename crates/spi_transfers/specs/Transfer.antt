@@ -1,5 +1,5 @@
 -- A transfer in SPI (02: Ask 1): any list of samples and ticks, nothing written, in which SCLK makes whole periods.
-use Rattle.std.specs.Prelude.{ℕ, ◌+◌, Bool, true, false, cond, List, [], ◌∷◌, ltb}
+use Rattle.std.specs.Prelude.{ℕ, ◌+◌, Bool, false, cond, List, [], ◌∷◌, ltb}
 use mir.Val.{bool_byte}
 use Rattle.levels.specs.Levels as levels
 use Rattle.usi_spi.specs.declared.Driven.{Driven}

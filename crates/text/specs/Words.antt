@@ -1,5 +1,5 @@
 -- What a line and a word of a text are: runs of bytes that pass a test.
-use Rattle.std.specs.Prelude.{Bool, true, false, not, cond, ◌||◌, List, [], ◌∷◌, ℕ, suc, eqb, take, drop}
+use Rattle.std.specs.Prelude.{Bool, not, cond, ◌||◌, List, [], ◌∷◌, ℕ, suc, eqb, take, drop}
 use Rattle.text.specs.declared.words.Run.{Run}
 use Rattle.text.specs.declared.words.Run.TheVariants.{Line, Blanks, Word}
 

@@ -1,4 +1,6 @@
 // Lines, words and numbers of a text, and text put into a lent buffer. Every function is total: none has a `requires`.
+#![tactic(auto)]
+
 mod numbers;
 mod output;
 mod words;

@@ -1,4 +1,6 @@
 // Bus traces: stamps and levels, one each per sample; their limits, and the numbers of the events that they hold.
+#![tactic(auto)]
+
 ghost use Rattle.std.specs.Prelude.{◌≡◌};
 ghost use Rattle.laws.specs.Refusals.{given, refused_at};
 ghost use Rattle.trace.specs.Trace.{trace_checks};

@@ -1,9 +1,9 @@
 -- A complete list that decode gives takes no more samples to draw than the trace had, so 6 never applies to it.
 use Prim.Native.Nat.{ℕ, ◌+◌, ◌≤◌}
 use native.Mathlib.Omega.{arith}
-use mathlib.Core.Path.{◌≡◌, refl, sym, ◌∙◌, ap}
+use mathlib.Core.Path.{◌≡◌, refl}
 use mathlib.Core.Bool.{true, false}
-use mathlib.Core.List.{List, [], ◌∷◌, ◌++◌, append_assoc}
+use mathlib.Core.List.{List, [], ◌∷◌, ◌++◌}
 use lib.ListN.{length, length-append}
 use Rattle.decode.specs.declared.Decoder.{Decoder}
 use Rattle.encode.specs.declared.Position.{Position}
@@ -12,7 +12,7 @@ use Rattle.trace.specs.Limits.{max_samples}
 use Rattle.levels.specs.Levels.{starts, stops}
 use Rattle.decode.specs.Decode.{idle, takes, next, lists, listed, events}
 use Rattle.encode.specs.Complete.{complete_from, complete}
-use Rattle.encode.specs.Encode.{draw_event, draw_events, sample_count}
+use Rattle.encode.specs.Encode.{draw_events, sample_count}
 use Rattle.decode.specs.Stepping.{Sound}
 use Rattle.decode.proofs.Sound.{idle-sound, next-sound}
 use Rattle.encode.proofs.EventLists.{draw-append}

@@ -1,6 +1,6 @@
 -- While neither set-up fits the hidden state rests, after power-up and after every step; a refused step changes nothing.
 -- (That reading changes nothing follows from the types: a read answers a `Read`, which holds no module.)
-use mathlib.Core.Path.{◌≡◌, refl, ◌∙◌, sym, ap, subst}
+use mathlib.Core.Path.{◌≡◌, refl, ◌∙◌, sym, subst}
 use mathlib.Core.Bool.{Bool, true, false, cond, true≢false}
 use Prim.Native.Nat.{ℕ, ◌+◌, ◌/◌, ◌%◌}
 use lib.Dec.{eqb, ltb}

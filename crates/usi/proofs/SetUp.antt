@@ -14,7 +14,7 @@ use Rattle.levels.specs.Levels as levels
 use Rattle.usi_i2c.specs.Rules as rules
 use Rattle.usi.specs.declared.Usi.{Usi}
 use Rattle.usi.specs.Module.{fits, with_phase}
-use Rattle.usi.specs.Step.{conditioned, arbitrated, clocked, bit_taken, risen, fallen, edged, stretched}
+use Rattle.usi.specs.Step.{conditioned, bit_taken, risen, fallen, edged, stretched}
 use Rattle.usi.specs.Step.{recorded, followed, latched, sampled, ticked}
 
 -- bits of USICTL1 below I2C may be set

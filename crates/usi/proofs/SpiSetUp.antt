@@ -6,9 +6,9 @@ use Prim.Native.Nat.{ℕ, ◌-◌, ◌<◌, ◌^◌}
 use native.Mathlib.Omega.{arith}
 use lib.Dec.{eqb}
 use lib.Bits.{and_le_r}
-use Rattle.bits.specs.Positions.{is_set, on, off, raise, clear}
+use Rattle.bits.specs.Positions.{on, off, raise, clear}
 use Rattle.bits.proofs.Masks.{on-raised, off-raised, on-cleared, small-unset}
-use Rattle.usi_registers.specs.Registers.{USIPE7, USIPE6, USIPE5, USISWRST, USICKPH, USII2C, USI16B, USICNTx, USIIFG}
+use Rattle.usi_registers.specs.Registers.{USIPE7, USIPE6, USIPE5, USISWRST, USICKPH, USII2C, USICNTx, USIIFG}
 use Rattle.usi_registers.specs.Rules as set_up
 use Rattle.usi_i2c.specs.Rules as rules
 use Rattle.usi_spi.specs.Rules as spi

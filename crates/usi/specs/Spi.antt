@@ -1,5 +1,5 @@
 -- SPI on the module (02: Ask 1): the output latch, a sample's edge, a tick.
-use Rattle.std.specs.Prelude.{ℕ, Bool, cond, ◌&&◌}
+use Rattle.std.specs.Prelude.{ℕ, Bool, cond}
 use Rattle.usi_registers.specs.Rules as set_up
 use Rattle.usi_i2c.specs.Rules as rules
 use Rattle.usi_spi.specs.Rules as spi

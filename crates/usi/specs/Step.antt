@@ -1,5 +1,5 @@
 -- The three kinds of step, register access and their answers: 01's rules composed over the module.
-use Rattle.std.specs.Prelude.{ℕ, ◌+◌, ◌*◌, ◌/◌, ◌%◌, Bool, cond, true, false, not, ◌&&◌, eqb, ltb}
+use Rattle.std.specs.Prelude.{ℕ, ◌+◌, ◌*◌, ◌/◌, ◌%◌, Bool, cond, not, ◌&&◌, eqb, ltb}
 use Rattle.usi_registers.specs.Registers.{USICTL0, USICTL1, USICKCTL, USICNT, USISRL, USISRH}
 use Rattle.usi_registers.specs.Rules as set_up
 use Rattle.levels.specs.Levels as levels

@@ -1,4 +1,6 @@
 // The USI module in I2C mode and in SPI: six register bytes and a hidden state, stepped by writes, samples and ticks.
+#![tactic(auto)]
+
 ghost use Rattle.std.specs.Prelude.{◌≡◌};
 ghost use Rattle.usi.specs.Module.{power_up, fits as fits_rule, fits_spi};
 ghost use Rattle.usi.specs.Step.{refusal as refusal_of, module_of};

@@ -1,5 +1,7 @@
 // The rules of I2C mode: what a sample's edges and a tick do, and which lines are pulled, one function to a rule of
 // document 01 on register bytes and hidden bits.
+#![tactic(auto)]
+
 ghost use Rattle.std.specs.Prelude.{◌≡◌};
 ghost use Rattle.usi_i2c.specs.Rules.{condition_flags, condition_count, takes_bit, loses as loses_rule, loss_control};
 ghost use Rattle.usi_i2c.specs.Rules.{loss_flags};

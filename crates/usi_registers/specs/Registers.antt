@@ -1,6 +1,6 @@
 -- The USI's register table (01, "The module's registers"; TI's names): address, value after power-up, and the bits by
 -- position.
-use Rattle.std.specs.Prelude.{ℕ, ◌+◌, ◌*◌}
+use Rattle.std.specs.Prelude.{ℕ, ◌+◌}
 use Rattle.bits.specs.Positions.{bit, lowest}
 
 -- | 078h | USICTL0 | 01h | PE7 PE6 PE5 LSB MST GE OE SWRST |

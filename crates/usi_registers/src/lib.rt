@@ -1,5 +1,7 @@
 // The USI's registers: their bits and fields by position, the set-up, and what a write to USICNT does to the flags.
 // Crates usi_i2c and usi_spi have the rules of edges, ticks and lines, and crate usi composes them.
+#![tactic(auto)]
+
 ghost use Rattle.std.specs.Prelude.{◌≡◌, ◌+◌, ◌*◌};
 ghost use Rattle.usi_registers.specs.Rules.{divider, counting as counting_rule};
 ghost use Rattle.usi_registers.specs.Rules.{fits as fits_rule, fits_spi, count_flags, cleared as cleared_rule};

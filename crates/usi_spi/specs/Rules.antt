@@ -2,7 +2,7 @@
 -- A level is true when the line is high. The clock phase is true when idle.
 use Rattle.std.specs.Prelude.{ℕ, ◌+◌, ◌*◌, ◌/◌, ◌%◌, Bool, cond, true, not, ◌&&◌, ◌||◌}
 use Rattle.std.specs.Bool.{beq}
-use Rattle.bits.specs.Positions.{on, off}
+use Rattle.bits.specs.Positions.{on}
 use Rattle.shift.specs.Shift as shift
 use Rattle.usi_registers.specs.Registers.{USILSB, USIMST, USICKPH, USICKPL, USI16B}
 use Rattle.usi_registers.specs.Rules.{counting, transparent}

@@ -1,5 +1,7 @@
 // The rules of SPI: edges of SCLK, the register over width and direction, the clock phase and the driven lines, one
 // function to a rule on register bytes and hidden bits.
+#![tactic(auto)]
+
 ghost use Rattle.std.specs.Prelude.{◌≡◌};
 ghost use Rattle.usi_spi.specs.Rules.{idle as idle_rule, leads as leads_rule, trails as trails_rule};
 ghost use Rattle.usi_spi.specs.Rules.{captures as captures_rule, changes as changes_rule};

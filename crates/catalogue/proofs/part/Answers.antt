@@ -24,8 +24,8 @@ returns c = (standing-part _ _ _ _ c.locate-place.ensures c.if-place-ne0.false c
 
 pub slice_bounds-result-end-then-place : goal.slice_bounds-result-end-then-place
 slice_bounds-result-end-then-place c =
-    omega (arith, (corrected-part _ _ _ _ c.locate-place.ensures c.if-not-place.false c.if-place.true).0)
+    omega (arith, (corrected-part _ _ _ _ c.locate-place.ensures c.if-place-ne0.false c.if-place.true).0)
 
 pub slice_bounds-result-end-2 : goal.slice_bounds-result-end-2
 slice_bounds-result-end-2 c =
-    omega (arith, (standing-part _ _ _ _ c.locate-place.ensures c.if-not-place.false c.if-place.false).0)
+    omega (arith, (standing-part _ _ _ _ c.locate-place.ensures c.if-place-ne0.false c.if-place.false).0)

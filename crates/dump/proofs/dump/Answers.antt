@@ -36,5 +36,8 @@ returns c =
     let check = c.check-refusal in
     let args = c.args in
     let text = dump_text args.stamps.now args.levels.now in
-    let enough : length text ≤ length args.out.now = omega (arith, c.if-out-text_length.false, c.text_length.ensures) in record { answer = ap (λ (n : ℕ). Written n) (put_count _ text _ _ put enough)
-          ∙ all-written _ _ _ check.result check.ensures c.if-refusal-ne0.false c.if-levels-eq0.false enough; buffer = put-filled _ text _ _ put enough }
+    let enough : length text ≤ length args.out.now = omega (arith, c.if-out-text_length.false, c.text_length.ensures) in record {
+      answer = ap (λ (n : ℕ). Written n) (put_count _ text _ _ put enough)
+          ∙ all-written _ _ _ check.result check.ensures c.if-refusal-ne0.false c.if-levels-eq0.false enough;
+      buffer = put-filled _ text _ _ put enough;
+    }

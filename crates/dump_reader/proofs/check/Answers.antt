@@ -8,29 +8,29 @@ returns-then-number-ne0 c = rw (← c.refusal_of-number.ensures, ne_eqb _ _ c.if
 
 pub returns-then-not-is_closed-may_end : goal.returns-then-not-is_closed-may_end
 returns-then-not-is_closed-may_end c = rw (
-      ← c.refusal_of-number.ensures,
-      eq-eqb _ _ c.if-number-ne0.false,
-      ← c.is_closed.ensures,
-      ← c.may_end.ensures,
-      (ap not c.if-not-is_closed-may_end.true),
-    ) c.refused-then-not-is_closed-may_end.ensures
+  ← c.refusal_of-number.ensures,
+  eq-eqb _ _ c.if-number-ne0.false,
+  ← c.is_closed.ensures,
+  ← c.may_end.ensures,
+  (ap not c.if-not-is_closed-may_end.true),
+) c.refused-then-not-is_closed-may_end.ensures
 
 pub returns-then-reader-ne-MAX_LEVEL : goal.returns-then-reader-ne-MAX_LEVEL
 returns-then-reader-ne-MAX_LEVEL c = rw (
-      ← c.refusal_of-number.ensures,
-      eq-eqb _ _ c.if-number-ne0.false,
-      ← c.is_closed.ensures,
-      ← c.may_end.ensures,
-      (ap not c.if-not-is_closed-may_end.false),
-      ne_eqb _ _ c.if-reader-ne-MAX_LEVEL.true,
-    ) c.refused-then-reader-ne-MAX_LEVEL.ensures
+  ← c.refusal_of-number.ensures,
+  eq-eqb _ _ c.if-number-ne0.false,
+  ← c.is_closed.ensures,
+  ← c.may_end.ensures,
+  (ap not c.if-not-is_closed-may_end.false),
+  ne_eqb _ _ c.if-reader-ne-MAX_LEVEL.true,
+) c.refused-then-reader-ne-MAX_LEVEL.ensures
 
 pub returns : goal.returns
 returns c = rw (
-      ← c.refusal_of-number.ensures,
-      eq-eqb _ _ c.if-number-ne0.false,
-      ← c.is_closed.ensures,
-      ← c.may_end.ensures,
-      (ap not c.if-not-is_closed-may_end.false),
-      eq-eqb _ _ c.if-reader-ne-MAX_LEVEL.false,
-    ) c.refused-2.ensures
+  ← c.refusal_of-number.ensures,
+  eq-eqb _ _ c.if-number-ne0.false,
+  ← c.is_closed.ensures,
+  ← c.may_end.ensures,
+  (ap not c.if-not-is_closed-may_end.false),
+  eq-eqb _ _ c.if-reader-ne-MAX_LEVEL.false,
+) c.refused-2.ensures

@@ -1,5 +1,4 @@
 -- A text may end between commands only.
-use Rattle.dump_reader.proofs.Parts.{may-not-end}
 use Rattle.dump_reader.proofs.may_end.Goals as goal
 
 pub returns-in-Definitions : goal.returns-in-Definitions

@@ -33,8 +33,12 @@ returns-then-stamps-count c =
     let text = c.args.text.now in
     let judged = of-final text _ c.check-refusal.result c.check-refusal.ensures scanned.last in
     let few = rw scanned.number at c.if-count-gt-MAX_SAMPLES.false in
-    let short = rw scanned.number at c.if-stamps-count.true in record { answer = room-refused text _ _ c.if-text-gt-LONGEST_TEXT.false c.check-refusal.result judged c.if-refusal-ne0.false
-          few short; stamped = refl; stored = refl }
+    let short = rw scanned.number at c.if-stamps-count.true in record {
+      answer = room-refused text _ _ c.if-text-gt-LONGEST_TEXT.false c.check-refusal.result judged c.if-refusal-ne0.false
+          few short;
+      stamped = refl;
+      stored = refl;
+    }
 
 pub write-requires : goal.write-requires
 write-requires c =
@@ -49,6 +53,10 @@ returns c =
     let judged = of-final text _ c.check-refusal.result c.check-refusal.ensures scanned.last in
     let few = rw scanned.number at c.if-count-gt-MAX_SAMPLES.false in
     let enough = rw scanned.number at c.if-stamps-count.false in
-    let wrote = c.write.ensures in record { answer = rw (scanned.last, scanned.number)
+    let wrote = c.write.ensures in record {
+      answer = rw (scanned.last, scanned.number)
           (all-written text _ _ c.if-text-gt-LONGEST_TEXT.false c.check-refusal.result judged
-          c.if-refusal-ne0.false few enough); stamped = wrote.stamped; stored = wrote.stored }
+          c.if-refusal-ne0.false few enough);
+      stamped = wrote.stamped;
+      stored = wrote.stored;
+    }

@@ -1,5 +1,4 @@
 -- Only a refusal has a number.
-use Rattle.dump_reader.proofs.Parts.{none-refused}
 use Rattle.dump_reader.proofs.refusal_of.Goals as goal
 
 pub returns-in-Refused : goal.returns-in-Refused

@@ -1,5 +1,5 @@
 use native.Mathlib.Omega.{arith}
-use Prim.Native.Nat.{◌<◌, ◌≤◌, ◌-◌}
+use Prim.Native.Nat.{◌<◌, ◌≤◌}
 use lib.ListN.{length}
 use Rattle.catalogue.proofs.Rising.{risen-start, risen-more, risen-not, risen-all}
 use Rattle.catalogue.proofs.lists.rises.Goals as goal

@@ -1,5 +1,4 @@
 use native.Mathlib.Omega.{arith}
-use Prim.Native.Nat.{◌-◌}
 use Rattle.catalogue.proofs.Sums.{left-start, left-more, left-short, left-done}
 use Rattle.catalogue.proofs.lists.sum_to.Goals as goal
 

@@ -9,10 +9,10 @@ returns-then-not-scl c = was-low _ _ _ (sym c.scl.ensures ∙ c.if-not-scl.true)
 
 pub high-requires : goal.high-requires
 high-requires c = (
-      sym c.scl.ensures ∙ c.if-not-scl.false,
-      sym c.scl-scl.ensures
-          ∙ c.if-scl.true,
-    )
+  sym c.scl.ensures ∙ c.if-not-scl.false,
+  sym c.scl-scl.ensures
+      ∙ c.if-scl.true,
+)
 
 pub fall-requires : goal.fall-requires
 fall-requires c = (

@@ -1,5 +1,5 @@
 use native.Mathlib.Omega.{arith}
-use Prim.Native.Nat.{◌≤◌, ◌<◌, ◌-◌}
+use Prim.Native.Nat.{◌≤◌, ◌<◌}
 use lib.ListN.{length}
 use Rattle.decode.specs.Stepping.{list_of}
 use Rattle.laws.proofs.Buffer.{progress-none, progress-more, progress-done}

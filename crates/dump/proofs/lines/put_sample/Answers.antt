@@ -16,5 +16,8 @@ pub returns : goal.returns
 returns c =
     let lines =
     changed-text c.args.last c.args.stamp c.args.level _ _ _ _ c.scl-scl.ensures
-    c.sda-sda.ensures c.scl-scl_was.ensures c.sda-sda_was.ensures c.if-scl-scl_was.false in record { put = put_as _ _ lines
-          (put_next _ _ (put_next _ _ c.put_stamp-past_stamp.ensures c.put_change-past_scl.ensures) c.put_change.ensures); level_len_bound = sample-length _ _ _ (omega arith) }
+    c.sda-sda.ensures c.scl-scl_was.ensures c.sda-sda_was.ensures c.if-scl-scl_was.false in record {
+      put = put_as _ _ lines
+          (put_next _ _ (put_next _ _ c.put_stamp-past_stamp.ensures c.put_change-past_scl.ensures) c.put_change.ensures);
+      level_len_bound = sample-length _ _ _ (omega arith);
+    }

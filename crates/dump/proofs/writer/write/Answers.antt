@@ -1,5 +1,5 @@
 use mathlib.Core.Path.{◌≡◌, ap, ◌∙◌}
-use Prim.Native.Nat.{ℕ, ◌≤◌, ◌<◌, ◌-◌, min}
+use Prim.Native.Nat.{ℕ, ◌≤◌, ◌<◌, min}
 use native.Mathlib.Omega.{arith}
 use lib.ListN.{length, length-append}
 use Rattle.text.proofs.Putting.{put-length}
@@ -47,7 +47,9 @@ returns c =
     let end = samples-end stamps levels c.loop-i.last c.loop-i.i past in
     let samples : samples_after c.before_first-last.result stamps levels ≡ samples_text stamps levels =
     ap (λ (last : ℕ). samples_after last stamps levels) c.before_first-last.ensures ∙ from_first stamps levels in
-    let few = writing-few end c.loop-i.invariant.2 in record { text = past_next c.put_header-point.ensures (past-as samples (writing-done end c.loop-i.invariant.2)); bound = omega (
+    let few = writing-few end c.loop-i.invariant.2 in record {
+      text = past_next c.put_header-point.ensures (past-as samples (writing-done end c.loop-i.invariant.2));
+      bound = omega (
         arith,
         length-append (Text.header) (samples_text stamps levels),
         header-length,
@@ -55,4 +57,5 @@ returns c =
         few,
         c.loop-i.invariant.0,
         c.least-count.ensures,
-      ) }
+      );
+    }

@@ -18,7 +18,7 @@ overflow_mul-reader c = Fits-under w64 _ (2 ^ 64) (omega (arith, mul-le-mul c.nu
 pub returns : goal.returns
 unfolding unit
 returns c = rw (
-      ← c.unit_of-unit.ensures.value,
-      ne_eqb _ _ c.if-unit-eq0.false,
-      ← c.number_of.ensures.value,
-    ) c.moved.ensures
+  ← c.unit_of-unit.ensures.value,
+  ne_eqb _ _ c.if-unit-eq0.false,
+  ← c.number_of.ensures.value,
+) c.moved.ensures

@@ -15,72 +15,72 @@ returns-then-is_same-2 c = rw (← c.is_same.ensures, c.if-is_same.false, ← c.
 pub returns-then-is_same-3 : goal.returns-then-is_same-3
 unfolding unit_of
 returns-then-is_same-3 c = rw (
-      ← c.is_same.ensures,
-      c.if-is_same.false,
-      ← c.is_same-2.ensures,
-      c.if-is_same-2.false,
-      ← c.is_same-3.ensures,
-      c.if-is_same-3.true,
-    ) record { value = refl; upper_bound = omega arith }
+  ← c.is_same.ensures,
+  c.if-is_same.false,
+  ← c.is_same-2.ensures,
+  c.if-is_same-2.false,
+  ← c.is_same-3.ensures,
+  c.if-is_same-3.true,
+) record { value = refl; upper_bound = omega arith }
 
 pub returns-then-is_same-4 : goal.returns-then-is_same-4
 unfolding unit_of
 returns-then-is_same-4 c = rw (
-      ← c.is_same.ensures,
-      c.if-is_same.false,
-      ← c.is_same-2.ensures,
-      c.if-is_same-2.false,
-      ← c.is_same-3.ensures,
-      c.if-is_same-3.false,
-      ← c.is_same-4.ensures,
-      c.if-is_same-4.true,
-    ) record { value = refl; upper_bound = omega arith }
+  ← c.is_same.ensures,
+  c.if-is_same.false,
+  ← c.is_same-2.ensures,
+  c.if-is_same-2.false,
+  ← c.is_same-3.ensures,
+  c.if-is_same-3.false,
+  ← c.is_same-4.ensures,
+  c.if-is_same-4.true,
+) record { value = refl; upper_bound = omega arith }
 
 pub returns-then-is_same-5 : goal.returns-then-is_same-5
 unfolding unit_of
 returns-then-is_same-5 c = rw (
-      ← c.is_same.ensures,
-      c.if-is_same.false,
-      ← c.is_same-2.ensures,
-      c.if-is_same-2.false,
-      ← c.is_same-3.ensures,
-      c.if-is_same-3.false,
-      ← c.is_same-4.ensures,
-      c.if-is_same-4.false,
-      ← c.is_same-5.ensures,
-      c.if-is_same-5.true,
-    ) record { value = refl; upper_bound = omega arith }
+  ← c.is_same.ensures,
+  c.if-is_same.false,
+  ← c.is_same-2.ensures,
+  c.if-is_same-2.false,
+  ← c.is_same-3.ensures,
+  c.if-is_same-3.false,
+  ← c.is_same-4.ensures,
+  c.if-is_same-4.false,
+  ← c.is_same-5.ensures,
+  c.if-is_same-5.true,
+) record { value = refl; upper_bound = omega arith }
 
 pub returns-then-is_same-6 : goal.returns-then-is_same-6
 unfolding unit_of
 returns-then-is_same-6 c = rw (
-      ← c.is_same.ensures,
-      c.if-is_same.false,
-      ← c.is_same-2.ensures,
-      c.if-is_same-2.false,
-      ← c.is_same-3.ensures,
-      c.if-is_same-3.false,
-      ← c.is_same-4.ensures,
-      c.if-is_same-4.false,
-      ← c.is_same-5.ensures,
-      c.if-is_same-5.false,
-      ← c.is_same-6.ensures,
-      c.if-is_same-6.true,
-    ) record { value = refl; upper_bound = omega arith }
+  ← c.is_same.ensures,
+  c.if-is_same.false,
+  ← c.is_same-2.ensures,
+  c.if-is_same-2.false,
+  ← c.is_same-3.ensures,
+  c.if-is_same-3.false,
+  ← c.is_same-4.ensures,
+  c.if-is_same-4.false,
+  ← c.is_same-5.ensures,
+  c.if-is_same-5.false,
+  ← c.is_same-6.ensures,
+  c.if-is_same-6.true,
+) record { value = refl; upper_bound = omega arith }
 
 pub returns : goal.returns
 unfolding unit_of
 returns c = rw (
-      ← c.is_same.ensures,
-      c.if-is_same.false,
-      ← c.is_same-2.ensures,
-      c.if-is_same-2.false,
-      ← c.is_same-3.ensures,
-      c.if-is_same-3.false,
-      ← c.is_same-4.ensures,
-      c.if-is_same-4.false,
-      ← c.is_same-5.ensures,
-      c.if-is_same-5.false,
-      ← c.is_same-6.ensures,
-      c.if-is_same-6.false,
-    ) record { value = refl; upper_bound = omega arith }
+  ← c.is_same.ensures,
+  c.if-is_same.false,
+  ← c.is_same-2.ensures,
+  c.if-is_same-2.false,
+  ← c.is_same-3.ensures,
+  c.if-is_same-3.false,
+  ← c.is_same-4.ensures,
+  c.if-is_same-4.false,
+  ← c.is_same-5.ensures,
+  c.if-is_same-5.false,
+  ← c.is_same-6.ensures,
+  c.if-is_same-6.false,
+) record { value = refl; upper_bound = omega arith }

@@ -14,13 +14,13 @@ returns-then-identifier-eq0 c = rw (eq-eqb _ _ c.if-identifier-eq0.true) c.refus
 pub returns-then-not-scl-sda : goal.returns-then-not-scl-sda
 unfolding assign
 returns-then-not-scl-sda c = rw (
-      ne_eqb _ _ c.if-identifier-eq0.false,
-      ← c.bytes_of.ensures,
-      ← c.bytes_of-2.ensures,
-      ← c.is_same-scl.ensures,
-      ← c.is_same-sda.ensures,
-      c.if-not-scl-sda.true,
-    ) c.refused-then-not-scl-sda.ensures
+  ne_eqb _ _ c.if-identifier-eq0.false,
+  ← c.bytes_of.ensures,
+  ← c.bytes_of-2.ensures,
+  ← c.is_same-scl.ensures,
+  ← c.is_same-sda.ensures,
+  c.if-not-scl-sda.true,
+) c.refused-then-not-scl-sda.ensures
 
 pub returns-then-not-wave : goal.returns-then-not-wave
 unfolding assign

@@ -6,11 +6,11 @@ use Rattle.dump_reader.proofs.values.change.Goals as goal
 pub returns-in-35 : goal.returns-in-35
 unfolding change
 returns-in-35 c = rw (
-      ← c.first_byte-first.ensures,
-      c.in-35.is,
-      ← c.tail.ensures,
-      ← c.decimal.ensures,
-    ) c.read_stamp.ensures
+  ← c.first_byte-first.ensures,
+  c.in-35.is,
+  ← c.tail.ensures,
+  ← c.decimal.ensures,
+) c.read_stamp.ensures
 
 pub returns-in-48 : goal.returns-in-48
 unfolding change
@@ -39,13 +39,13 @@ returns-in-90 c = rw (← c.first_byte-first.ensures, c.in-90.is, ← c.unknown-
 pub returns-in_default : goal.returns-in_default
 unfolding change
 returns-in_default c = rw (
-      ← c.first_byte-first.ensures,
-      ne_eqb _ _ c.in_default.in_default-own.rest.0.0.0.0.0.0.1,
-      ne_eqb _ _ c.in_default.in_default-own.rest.0.0.0.0.0.1,
-      ne_eqb _ _ c.in_default.in_default-own.rest.0.0.0.0.1,
-      ne_eqb _ _ c.in_default.in_default-own.rest.0.0.0.1,
-      ne_eqb _ _ c.in_default.in_default-own.rest.0.0.1,
-      ne_eqb _ _ c.in_default.in_default-own.rest.0.1,
-      ne_eqb _ _ c.in_default.in_default-own.rest.1,
-      ← c.command.ensures,
-    ) c.moved-in_default.ensures
+  ← c.first_byte-first.ensures,
+  ne_eqb _ _ c.in_default.in_default-own.rest.0.0.0.0.0.0.1,
+  ne_eqb _ _ c.in_default.in_default-own.rest.0.0.0.0.0.1,
+  ne_eqb _ _ c.in_default.in_default-own.rest.0.0.0.0.1,
+  ne_eqb _ _ c.in_default.in_default-own.rest.0.0.0.1,
+  ne_eqb _ _ c.in_default.in_default-own.rest.0.0.1,
+  ne_eqb _ _ c.in_default.in_default-own.rest.0.1,
+  ne_eqb _ _ c.in_default.in_default-own.rest.1,
+  ← c.command.ensures,
+) c.moved-in_default.ensures

@@ -17,23 +17,23 @@ returns-then-is_same-2 c = rw (← c.is_same.ensures, c.if-is_same.false, c.if-i
 pub returns-then-is_dump : goal.returns-then-is_dump
 unfolding command
 returns-then-is_dump c = rw (
-      ← c.is_same.ensures,
-      c.if-is_same.false,
-      c.if-inside.false,
-      ← c.is_same-2.ensures,
-      c.if-is_same-2.false,
-      ← c.is_dump.ensures,
-      c.if-is_dump.true,
-    )
+  ← c.is_same.ensures,
+  c.if-is_same.false,
+  c.if-inside.false,
+  ← c.is_same-2.ensures,
+  c.if-is_same-2.false,
+  ← c.is_dump.ensures,
+  c.if-is_dump.true,
+)
 
 pub returns : goal.returns
 unfolding command
 returns c = rw (
-      ← c.is_same.ensures,
-      c.if-is_same.false,
-      c.if-inside.false,
-      ← c.is_same-2.ensures,
-      c.if-is_same-2.false,
-      ← c.is_dump.ensures,
-      c.if-is_dump.false,
-    )
+  ← c.is_same.ensures,
+  c.if-is_same.false,
+  c.if-inside.false,
+  ← c.is_same-2.ensures,
+  c.if-is_same-2.false,
+  ← c.is_dump.ensures,
+  c.if-is_dump.false,
+)

@@ -14,29 +14,29 @@ returns-then-is_missing c = rw (c.if-wave-stamp.false, ← c.is_missing.ensures,
 pub returns-then-stamp-gt-MAX_STAMP : goal.returns-then-stamp-gt-MAX_STAMP
 unfolding judge
 returns-then-stamp-gt-MAX_STAMP c = rw (
-      c.if-wave-stamp.false,
-      ← c.is_missing.ensures,
-      c.if-is_missing.false,
-      lt-ltb _ _ c.if-stamp-gt-MAX_STAMP.true,
-    ) c.refused-then-stamp-gt-MAX_STAMP.ensures
+  c.if-wave-stamp.false,
+  ← c.is_missing.ensures,
+  c.if-is_missing.false,
+  lt-ltb _ _ c.if-stamp-gt-MAX_STAMP.true,
+) c.refused-then-stamp-gt-MAX_STAMP.ensures
 
 pub returns-then-inside : goal.returns-then-inside
 unfolding judge
 returns-then-inside c = rw (
-      c.if-wave-stamp.false,
-      ← c.is_missing.ensures,
-      c.if-is_missing.false,
-      le-ltb _ _ c.if-stamp-gt-MAX_STAMP.false,
-      c.if-inside.true,
-    ) c.refused-then-inside.ensures
+  c.if-wave-stamp.false,
+  ← c.is_missing.ensures,
+  c.if-is_missing.false,
+  le-ltb _ _ c.if-stamp-gt-MAX_STAMP.false,
+  c.if-inside.true,
+) c.refused-then-inside.ensures
 
 pub returns : goal.returns
 unfolding judge
 returns c = rw (
-      c.if-wave-stamp.false,
-      ← c.is_missing.ensures,
-      c.if-is_missing.false,
-      le-ltb _ _ c.if-stamp-gt-MAX_STAMP.false,
-      c.if-inside.false,
-      ← c.stamped.ensures,
-    ) c.waved.ensures
+  c.if-wave-stamp.false,
+  ← c.is_missing.ensures,
+  c.if-is_missing.false,
+  le-ltb _ _ c.if-stamp-gt-MAX_STAMP.false,
+  c.if-inside.false,
+  ← c.stamped.ensures,
+) c.waved.ensures

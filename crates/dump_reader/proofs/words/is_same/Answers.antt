@@ -1,4 +1,3 @@
-use Prim.Native.Nat.{◌-◌}
 use Rattle.laws.proofs.Same.{unequal-lengths}
 use Rattle.dump_reader.proofs.Same.{alike-none, alike-more, alike-stop, alike_all}
 use borrow.Author.Rules.{rules}

@@ -5,7 +5,7 @@ use Rattle.laws.proofs.Buffer.{writing-first, writing-long, writing-room, writin
 use Rattle.laws.proofs.Buffer.{filled-first}
 use mathlib.Core.List.{List}
 use mathlib.Core.Path.{◌∙◌}
-use Prim.Native.Nat.{ℕ, ◌≤◌, ◌<◌, ◌-◌}
+use Prim.Native.Nat.{ℕ, ◌≤◌, ◌<◌}
 use native.Mathlib.Omega.{arith}
 use Rattle.encode.proofs.draw.write_levels.Goals as goal
 

@@ -2,7 +2,7 @@ use Rattle.encode.proofs.EventLists.{complete-more}
 use Rattle.encode.specs.Complete.{complete_from}
 use lib.ListN.{length, drop_of_length-le}
 use mathlib.Core.Path.{refl, sym, ap, ◌∙◌}
-use Prim.Native.Nat.{◌≤◌, ◌<◌, ◌-◌}
+use Prim.Native.Nat.{◌≤◌, ◌<◌}
 use native.Mathlib.Omega.{arith}
 use Rattle.encode.proofs.frames.complete.Goals as goal
 

@@ -2,7 +2,7 @@ use Rattle.encode.proofs.EventLists.{samples-more, few-samples}
 use lib.ListN.{length, get_or, drop, drop_of_length-le}
 use mathlib.Core.List.{[]}
 use mathlib.Core.Path.{◌≡◌}
-use Prim.Native.Nat.{◌≤◌, ◌<◌, ◌-◌}
+use Prim.Native.Nat.{◌≤◌, ◌<◌}
 use native.Mathlib.Omega.{arith}
 use Rattle.encode.proofs.frames.count_samples.Goals as goal
 

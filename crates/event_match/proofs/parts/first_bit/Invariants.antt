@@ -1,5 +1,5 @@
 -- The bits passed, from the most significant, are the same.
-use Prim.Native.Nat.{◌≤◌, ◌-◌}
+use Prim.Native.Nat.{◌≤◌}
 use mathlib.Core.Path.{◌≡◌}
 use Rattle.event_match.specs.Match.{first_bit}
 use Rattle.event_match.proofs.parts.first_bit.Given as goal

@@ -1,5 +1,4 @@
 -- No row passed, down from the board, is a load.
-use Prim.Native.Nat.{◌-◌}
 use mathlib.Core.Path.{◌≡◌}
 use Rattle.frame_match.specs.Rows.{load_of}
 use Rattle.frame_match.proofs.rows.load_of.Given as goal

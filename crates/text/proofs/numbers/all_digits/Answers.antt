@@ -1,4 +1,3 @@
-use Prim.Native.Nat.{◌-◌}
 use borrow.Author.Rules.{rules}
 use Rattle.text.proofs.Reading.{passed_none, passed-more, passed-stop, passed-all}
 use Rattle.text.proofs.numbers.all_digits.Goals as goal

@@ -1,4 +1,4 @@
-use Prim.Native.Nat.{◌+◌, ◌*◌, ◌-◌, ◌^◌, ◌<◌}
+use Prim.Native.Nat.{◌+◌, ◌*◌, ◌^◌, ◌<◌}
 use borrow.Author.Rules.{rules, Fits-under}
 use native.Mathlib.Omega.{arith}
 use mir.Syntax.{w64}

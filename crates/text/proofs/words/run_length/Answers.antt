@@ -1,5 +1,4 @@
 use mathlib.Core.Path.{sym, ◌∙◌}
-use Prim.Native.Nat.{◌-◌}
 use borrow.Author.Rules.{rules}
 use Rattle.text.proofs.Runs.{run_none, run_more, run_end, run-all}
 use Rattle.text.proofs.words.run_length.Goals as goal

@@ -1,5 +1,5 @@
 use native.Mathlib.Omega.{arith}
-use Prim.Native.Nat.{◌<◌, ◌≤◌, ◌-◌}
+use Prim.Native.Nat.{◌<◌, ◌≤◌}
 use lib.ListN.{length}
 use Rattle.trace.proofs.Scanned.{scanned-start, scanned-more, scanned-bad, scanned-end}
 use Rattle.trace.proofs.search.bad_stamp.Goals as goal

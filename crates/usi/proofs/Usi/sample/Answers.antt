@@ -12,23 +12,23 @@ returns-then-level-gt-MAX_LEVEL c = search branches
 pub returns-then-fits : goal.returns-then-fits
 unfolding sample
 returns-then-fits c = rw (
-      le-ltb _ _ c.if-level-gt-MAX_LEVEL.false,
-      call-yes _ _ c.fits.ensures c.if-fits.true,
-      c.sampled.ensures,
-      c.sda-sda.ensures,
-      c.scl-scl.ensures,
-    )
+  le-ltb _ _ c.if-level-gt-MAX_LEVEL.false,
+  call-yes _ _ c.fits.ensures c.if-fits.true,
+  c.sampled.ensures,
+  c.sda-sda.ensures,
+  c.scl-scl.ensures,
+)
 
 pub returns-then-fits_spi : goal.returns-then-fits_spi
 unfolding sample
 returns-then-fits_spi c = rw (
-      le-ltb _ _ c.if-level-gt-MAX_LEVEL.false,
-      call-no _ _ c.fits.ensures c.if-fits.false,
-      call-yes _ _ c.fits_spi.ensures c.if-fits_spi.true,
-      c.sampled-then-fits_spi.ensures,
-      c.sda-sda.ensures,
-      c.scl-scl.ensures,
-    )
+  le-ltb _ _ c.if-level-gt-MAX_LEVEL.false,
+  call-no _ _ c.fits.ensures c.if-fits.false,
+  call-yes _ _ c.fits_spi.ensures c.if-fits_spi.true,
+  c.sampled-then-fits_spi.ensures,
+  c.sda-sda.ensures,
+  c.scl-scl.ensures,
+)
 
 pub returns : goal.returns
 unfolding sample

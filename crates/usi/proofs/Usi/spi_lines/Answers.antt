@@ -7,10 +7,10 @@ use Rattle.usi.proofs.Usi.spi_lines.Goals as goal
 pub returns-then-fits_spi : goal.returns-then-fits_spi
 unfolding spi_lines
 returns-then-fits_spi c = rw (
-      call-yes _ _ c.fits_spi.ensures c.if-fits_spi.true,
-      c.data_line.ensures,
-      c.clock_line.ensures,
-    )
+  call-yes _ _ c.fits_spi.ensures c.if-fits_spi.true,
+  c.data_line.ensures,
+  c.clock_line.ensures,
+)
 
 pub returns : goal.returns
 unfolding spi_lines

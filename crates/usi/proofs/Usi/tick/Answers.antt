@@ -11,10 +11,10 @@ returns-then-fits c = search branches
 pub returns-then-fits_spi : goal.returns-then-fits_spi
 unfolding tick
 returns-then-fits_spi c = rw (
-      call-no _ _ c.fits.ensures c.if-fits.false,
-      call-yes _ _ c.fits_spi.ensures c.if-fits_spi.true,
-      c.ticked.ensures,
-    )
+  call-no _ _ c.fits.ensures c.if-fits.false,
+  call-yes _ _ c.fits_spi.ensures c.if-fits_spi.true,
+  c.ticked.ensures,
+)
 
 pub returns : goal.returns
 unfolding tick

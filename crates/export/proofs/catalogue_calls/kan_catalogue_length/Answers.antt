@@ -1,0 +1,7 @@
+-- The length of the place.
+use mathlib.Core.Path.{ap}
+use Rattle.catalogue.specs.declared.places.Located.{Located}
+use Rattle.export.proofs.catalogue_calls.kan_catalogue_length.Goals as goal
+
+pub returns : goal.returns
+returns c = ap (λ (p : Located). p.length) c.locate-place.ensures
