@@ -28,7 +28,7 @@ def dependencies():
     for line in (ROOT / "crates.txt").read_text().split("\n"):
         name, colon, rest = line.partition("#")[0].partition(":")
         if colon:
-            uses[name.strip()] = rest.split()
+            uses[name.split()[0]] = rest.split()
 
     def visit(name):
         if name in uses and name not in order:
