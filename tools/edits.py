@@ -281,7 +281,7 @@ ELSEWHERE = {"beq": "Rattle.std.specs.Bool", "zip_with": "mathlib.Core.List", "b
 
 def names(items, words):
     """The names of an import in today's spelling; an operator by itself is no case of the rule for imports."""
-    items = [re.sub(r"^_(.+)_$", r"◌\1◌", item) for item in re.findall(r"[^\s,]+", items)]
+    items = [re.sub(r"^_(.+)_$", r"◌\1◌", item.strip()) for item in items.split(",")]
     return [spelled(item.replace("Bool·beq", "beq"), words) for item in items]
 
 
@@ -302,10 +302,11 @@ def merged(after, old, new, words):
                 other.append(turned(line, words, True))
                 continue
             more += [name for name in names(to[2], words) if name not in here]
-        there = [m for line in lines if (m := GHOST_USE.match(line)) and set(here) <= set(re.findall(r"[^\s,]+", m[2]))]
+        imports = [m for line in lines if (m := GHOST_USE.match(line))]
+        there = [m for m in imports if set(here) <= set(names(m[2], {}))] or [m for m in imports if m[1].endswith(PRELUDE + "{")]
         if len(there) != 1 or after.count(there[0][1]) != 1:
             return None
-        imported = {name for line in lines if (m := GHOST_USE.match(line)) for name in re.findall(r"[^\s,]+", m[2])}
+        imported = {name for m in imports for name in names(m[2], {})}
         more = [name for name in more if name not in imported]
         prelude = there[0][1].endswith(PRELUDE + "{")
         ghost = "ghost " if old.startswith("ghost") else ""

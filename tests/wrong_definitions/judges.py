@@ -28,7 +28,7 @@ def dependencies():
     for line in (ROOT / "crates.txt").read_text().split("\n"):
         name, colon, rest = line.partition("#")[0].partition(":")
         if colon:
-            uses[name.strip()] = rest.split()
+            uses[name.split()[0]] = rest.split()
 
     def visit(name):
         if name in uses and name not in order:
@@ -97,8 +97,9 @@ class Tree:
 # ---- a theorem over the definitions alone
 
 FUNCTION = re.compile(r'(pub(\(crate\))? )?(extern "C" )?fn |impl |#\[unsafe\(no_mangle\)\]|#\[cycle\(')
+SHOWN = re.compile(r"^pub use [^;]*;", re.M)
 OUTSIDE = re.compile(r"^((ghost |pub )?use|(pub )?mod) [^;]*;.*\n", re.M)
-USE = re.compile(r"^use ([\w:]+)::(?:(\w+)|\{([^}]*)\});", re.M)
+USE = re.compile(r"^(?:pub )?use ([\w:]+)::(?:(\w+)|\{([^}]*)\});", re.M)
 DECLARED = re.compile(r"(?:(?:abbrev|unfoldable) )?(?:pub )?([^\s:]+) :")
 
 
@@ -110,12 +111,11 @@ def types(text):
         if not inside:
             kept.append(line)
         inside = inside and line != "}"
-    named = words("\n".join(kept))
+    named, inner = words("\n".join(kept)), {"crate", *re.findall(r"^(?:pub )?mod (\w+);", text, re.M)}
     uses = [f"use {path}::{item};" for path, item in imports(text)
-            if item in named and (path.partition("::")[0] != "crate" or item[0].isupper())]
-    # what speaks of the whole file (#![..]) stays at its head
-    head = [line for line in kept if line.startswith("#![")]
-    return "\n".join([*head, *uses, *(line for line in kept if line not in head)])
+            if item in named and (path.partition("::")[0] not in inner or path.startswith("crate") and item[0].isupper())]
+    # what speaks of the whole file (#![..]) is for functions
+    return "\n".join([*uses, *(line for line in kept if not line.startswith("#!["))])
 
 
 def imports(text):
@@ -197,7 +197,7 @@ class Definitions:
                 continue
             (target / path.name).write_text(kept)
             parts.append(f"mod {path.stem};")
-            shown = re.findall(rf"^pub use {path.stem}::(\w+);", root, re.M)
+            shown = [item for owner, item in imports("\n".join(SHOWN.findall(root))) if owner == path.stem]
             parts += [f"pub use {path.stem}::{item};" for item in shown if re.search(rf"\b(struct|enum) {item}\b", kept)]
         (target / "lib.rt").write_text("\n".join([*parts, types(root)]))
 
