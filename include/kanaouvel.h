@@ -1,5 +1,5 @@
-/* The proved library for callers in C and in C's ABI: `rt staticlib export` writes target/staticlib/libexport.a. How to
- * link it, and a line on each function, is docs/LINKING.md; examples/link has a program in C and one in Rust.
+/* The proved library, target/staticlib/libexport.a, for callers in C and in C's ABI. How to make and to link it, and a
+ * line on each function, is docs/LINKING.md; examples/link has a program in C and one in Rust.
  *
  * An answer is one number with several fields. Each field has a function below that takes it out, so that no caller
  * shifts bits; the layouts stand beside them. C11 and C++17.

@@ -3,13 +3,13 @@
 
 A program in C draws random complete event lists with `kan_bus_encode` and writes them with `kan_bus_dump`; sigrok-cli reads the
 text, with one stamp more, since libsigrok never decodes the last change of a file. Its events must be those of the list.
-Exit status 1 at the first difference, 2 where a tool is missing: `rt lib export` writes the archive."""
+Exit status 1 at the first difference, 2 where a tool is missing: docs/LINKING.md says how to make the archive."""
 import os, random, shutil, subprocess, sys, tempfile
 
 sys.dont_write_bytecode = True
 from sigrok import TOP, judged_text, random_list, same
 
-ARCHIVE = os.path.join(TOP, "crates/export/out/libexport.a")
+ARCHIVE = os.path.join(TOP, "target/staticlib/libexport.a")
 GAP = 50
 PROGRAM = """
 #include "kanaouvel.h"
@@ -43,7 +43,7 @@ def compiled(folder):
 
 def main():
     if not shutil.which("sigrok-cli") or not os.path.exists(ARCHIVE):
-        print("judges/dump.py: install Debian's sigrok-cli and libsigrokdecode4, and run rt lib export")
+        print("judges/dump.py: install Debian's sigrok-cli and libsigrokdecode4, and make the archive (docs/LINKING.md)")
         sys.exit(2)
     seed, count = 20261115, int(sys.argv[1]) if len(sys.argv) > 1 else 300
     rng = random.Random(seed)

@@ -940,26 +940,34 @@ corpus() {
 # A copy of the script with small crates of its own, and an rt that only pretends. No other rt can be reached.
 scratch() {
     rm -rf scratch
-    mkdir -p scratch/{bin,empty,crates/{rig,rig_clash,rig_match,text,other}/src}
+    mkdir -p scratch/{bin,empty,crates/{rig,rig_clash,rig_match,text,other}/src,crates/text/out}
     cp -r "$rig" "$root/help" "$root/VERSION" "$root/RATTLE-VERSION" "$examples" scratch
     printf 'text:\nother:\nrig: text io # the program\nrig_clash: text\nrig_match: text\n' >scratch/crates.txt
     touch scratch/crates/{rig,rig_clash,rig_match,text,other}/src/lib.rt
     cat >scratch/bin/rt <<'RT'
 #!/bin/sh
 if [ "$1" = version ]; then cat RATTLE-VERSION 2>/dev/null; exit; fi
-echo tried >>tried
-mkdir -p target/bin target/log
-echo failed >target/log/text.res
-sleep "${RT_SLOW:-0}"
-echo "rt: text proved (1 s)"
-if [ -n "${RT_BAD:-}" ]; then echo "rt: rig NOT PROVED (exit 1, 1 s)"; exit 1; fi
-cp "$RT_PROGRAM" target/bin/rig
-cp "$RT_CLASH" target/bin/rig_clash
-cp "$RT_MATCH" target/bin/rig_match
-echo "rt: rig proved (1 s)"
-echo "rt: rig_clash proved (1 s)"
-echo "rt: rig_match proved (1 s)"
-echo "rt: rig proved, and its run FAILED (0 s)"
+name=${PWD##*/}
+case "$#:$1:$name" in 1:run:rig) program=$RT_PROGRAM ;; 1:run:rig_clash) program=$RT_CLASH ;; 1:run:rig_match) program=$RT_MATCH ;; *) exit 2 ;; esac
+[ -z "$(cat)" ] || exit 2
+echo "$name" >>../../tried
+exec 3>&1 >&2
+if [ "$name" = rig ]; then
+    echo "rt: chose --jobs 2 for text"
+    for turn in 1 2 3 4 5 6 7 8 9; do sleep "${RT_SLOW:-0}" && echo "fn text::f$turn: proved"; done
+    printf 'logic=proved functions=9 ' && for turn in 1 2 3 4 5; do sleep "${RT_SLOW:-0}"; done && echo "sum=0 native=nat"
+fi
+if [ -e out/kept ] && cmp -s "$program" "out/$name"; then
+    echo "rt: nothing has changed since the last proved build, by out/$name.stamp, so nothing is checked now"
+else
+    echo "rt: chose --jobs 2 for $name"
+    if [ "${RT_BAD:-}" = "$name" ]; then echo "logic=not-proved" && exit "${RT_STATUS:-1}"; fi
+    mkdir -p out
+    cp "$program" "out/$name"
+    echo "logic=proved functions=7 axioms=8 sum=0 native=nat"
+fi
+echo "rt: running out/$name; to give it other input, run that file yourself"
+echo "error expected a command" >&3
 exit 1
 RT
     chmod +x scratch/bin/rt
@@ -971,39 +979,57 @@ pretend() {
         scratch/rig "$@" >out 2>err
 }
 
-# The program is built from what it is made of, once, and never held to a stored output.
+# times COUNT PROGRAM: so often was rt asked for the program
+times() { [ "$(grep -cx "$2" scratch/tried)" = "$1" ]; }
+
+# The program is built from what it is made of, once, and never held to a stored output. That it ends with another status
+# than 0, and what it prints, where rt runs it, is no matter.
 building() {
-    local calls="clash $examples/p8.loads"
+    local calls="clash $examples/p8.loads" crate
     scratch
     # shellcheck disable=SC2086
-    RT_SLOW=6 RIG_PATIENCE=1 pretend $calls
+    RT_SLOW=0.6 RIG_PATIENCE=1 pretend $calls
     holds "[ $? = 0 ]" "the first use: $(tail -n 1 out)"
-    holds 'grep -qx "rig: crate 1 of 4: text proved (1 s)" err' "no count of crates: $(cat err)"
-    holds 'grep -q "^rig: crate 1 of 4: still at text (" err' "a silent build: $(cat err)"
+    holds 'grep -qx "rig: crate 1 of 4: text proved ([89] s)" err' "no count of crates: $(cat err)"
+    for crate in "2 of 4: rig" "3 of 4: rig_clash" "4 of 4: rig_match"; do
+        holds 'grep -q "^rig: crate $crate proved (" err' "no line for the crate $crate: $(cat err)"
+    done
+    holds '[ "$(grep -c "^rig: crate 1 of 4: text still at work (" err)" -ge 4 ]' "a silent build: $(cat err)"
+    holds '[ "$(paste -sd " " scratch/tried)" = "rig rig_clash rig_match" ]' "other programs were built: $(cat scratch/tried)"
+    holds 'cmp -s "$program" scratch/target/bin/rig && cmp -s "$rehearsal" scratch/target/bin/rig_clash && cmp -s "$matcher" scratch/target/bin/rig_match' "not the programs that were built"
+    holds 'grep -qx "error expected a command" scratch/target/rig.log' "the log lacks what was said"
     echo "# an edit" >>scratch/examples/night.loads
-    touch scratch/crates/other/src/lib.rt
+    touch scratch/crates/other/src/lib.rt scratch/crates/text/out
     # shellcheck disable=SC2086
     pretend $calls
-    holds '[ ! -s err ] && [ "$(wc -l <scratch/tried)" = 1 ]' "an example was edited, and it builds again: $(cat err)"
+    holds '[ ! -s err ] && times 1 rig' "an example was edited, and it builds again: $(cat err)"
     sleep 1
     touch scratch/crates/text/src/lib.rt
     # shellcheck disable=SC2086
     pretend $calls
-    holds '[ "$(wc -l <scratch/tried)" = 1 ]' "touched and not changed, and it builds again"
+    holds 'times 1 rig' "touched and not changed, and it builds again"
     echo "// more" >scratch/crates/text/src/lib.rt
     # shellcheck disable=SC2086
     pretend $calls
-    holds '[ "$(wc -l <scratch/tried)" = 2 ]' "a source has changed, and it does not build"
+    holds 'times 2 rig' "a source has changed, and it does not build"
 }
 
 # Where a build fails an older proved program is run, and that is said; the same sources are not tried again.
 failing() {
     echo "// wrong" >scratch/crates/rig/src/lib.rt
-    RT_BAD=1 pretend clash "$examples/p8.loads"
+    RT_BAD=rig pretend clash "$examples/p8.loads"
     holds "[ $? = 0 ]" "the older program is not run: $(tail -n 1 out)"
     holds 'grep -q "could not be proved and built" err && grep -q "this is the program proved on" err' "$(cat err)"
-    RT_BAD=1 pretend clash "$examples/p8.loads"
-    holds '[ "$(wc -l <scratch/tried)" = 3 ] && grep -q "was not proved" err' "tried again: $(cat err)"
+    RT_BAD=rig pretend clash "$examples/p8.loads"
+    holds 'times 3 rig && grep -q "was not proved" err' "tried again: $(cat err)"
+    echo "// half wrong" >scratch/crates/rig_match/src/lib.rt
+    touch scratch/crates/rig{,_clash}/out/kept
+    RT_BAD=rig_match RT_STATUS=3 pretend clash "$examples/p8.loads"
+    holds "[ $? = 0 ]" "the older programs are not run: $(tail -n 1 out)"
+    holds 'grep -q "^rig: crate 2 of 4: rig proved before$" err && grep -q "^rig: crate 4 of 4: rig_match NOT PROVED (" err' "$(cat err)"
+    RT_BAD=rig_match pretend clash "$examples/p8.loads"
+    holds 'times 5 rig && times 4 rig_match && grep -q "could not be proved and built" err' "what rt could not tell is not tried again: $(cat err)"
+    rm scratch/crates/rig{,_clash}/out/kept
     echo "// other" >scratch/crates/rig/src/lib.rt
     rt_at=$work/scratch/empty pretend clash "$examples/p8.loads"
     holds "[ $? = 0 ] && grep -q 'rt was not found' err" "without rt, an older program standing: $(cat err)"
@@ -1014,7 +1040,7 @@ failing() {
     holds 'grep -q "PATH (.*scratch/empty" out' "where rt was looked for: $(cat out)"
     rt_at=$work/scratch/empty pretend help clash
     holds "[ $? = 0 ] && [ \"$(tail -n 1 out)\" = 'ok help' ]" "help without rt: $(tail -n 1 out)"
-    RT_BAD=1 pretend clash "$examples/p8.loads"
+    RT_BAD=rig pretend clash "$examples/p8.loads"
     holds "[ $? = 2 ] && grep -q '^error the program could not be proved and built: ' out" "a failed build: $(cat out)"
 }
 

@@ -269,15 +269,18 @@ class Comparison:
         for crate in [*self.tree.reached("export"), "export"]:
             source, target = (root / "crates" / crate / "out" for root in (ROOT, self.tree.root))
             if not (source / ("incremental" if crate == "export" else "rlib")).is_dir():
-                raise Bad(f"no {source.relative_to(ROOT)}: rt lib export makes it")
+                raise Bad(f"no {source.relative_to(ROOT)}: rt lib in crates/export makes it")
             shutil.rmtree(target, ignore_errors=True)
             shutil.copytree(source, target)
 
     def judge(self):
         self.begin()
-        archive = run(["rt", "lib", "export"], cwd=self.tree.root / "crates" / "export")
+        export, linked = self.tree.root / "crates" / "export", self.tree.root / "target" / "staticlib"
+        archive = run(["rt", "lib"], cwd=export)
         if archive.returncode != 0:
             raise Bad("the changed library is not proved:\n" + archive.stdout[-2000:])
+        linked.mkdir(parents=True, exist_ok=True)
+        shutil.copy(export / "out" / "libexport.a", linked)
         compare = "cargo run --quiet --manifest-path rust/Cargo.toml --release -p linked --bin compare -- all"
         built = {**os.environ, "CARGO_TARGET_DIR": str(self.built)}
         said = run([*compare.split(), "--seed", SEED], cwd=self.tree.root, env=built)

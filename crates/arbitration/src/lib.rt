@@ -1,4 +1,6 @@
 // I2C arbitration: masters that start together on an idle bus, and who of them keeps it (01: the clash runner).
+#![tactic(auto)]
+
 ghost use Rattle.arbitration_rules.specs.Reply.{asked};
 ghost use Rattle.arbitration.specs.Shown.{Arbitrates};
 

@@ -11,7 +11,6 @@ use Rattle.arbitration_rules.specs.Masters.{Master}
 use Rattle.arbitration_rules.specs.Run as script
 use Rattle.arbitration_rules.specs.Run.{Bus, perform, byte_turn, stop, through}
 use Rattle.arbitration_rules.proofs.Phases.{perform-append}
-use Rattle.arbitration_pass.specs.declared.instants.Instant.{Instant}
 use Rattle.arbitration_pass.specs.declared.instants.Part.{Part}
 use Rattle.arbitration_pass.specs.declared.instants.Part.TheVariants.{Entry, Opening, Restart, Byte, Closing}
 use Rattle.arbitration_pass.specs.Instants.{instant, last}

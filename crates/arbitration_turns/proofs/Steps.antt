@@ -15,8 +15,6 @@ use Rattle.arbitration_rules.specs.Outcome.{byte_at}
 use Rattle.arbitration_rules.specs.Run as script
 use Rattle.arbitration_rules.specs.Run.{Bus, perform, restart, stop, through, run}
 use Rattle.arbitration_pass.specs.declared.instants.Effect.{Effect}
-use Rattle.arbitration_pass.specs.declared.instants.Effect.TheVariants.{Nothing, Begin, Release, Acknowledge, Record}
-use Rattle.arbitration_pass.specs.declared.instants.Effect.TheVariants.{Bit, Settle}
 use Rattle.arbitration_pass.specs.declared.instants.Instant.{Instant}
 use Rattle.arbitration_pass.specs.declared.instants.Part.{Part}
 use Rattle.arbitration_pass.specs.declared.instants.Part.TheVariants.{Entry, Opening, Restart, Byte, Closing}

@@ -19,7 +19,7 @@ use Rattle.arbitration_pass.specs.declared.instants.Part.{Part}
 use Rattle.arbitration_pass.specs.declared.instants.Part.TheVariants.{Entry, Opening, Restart, Byte, Closing}
 use Rattle.arbitration_members.specs.declared.members.Members.{Members}
 use Rattle.arbitration_run.specs.declared.sequencer.Sequencer.{Sequencer}
-use Rattle.arbitration_pass.specs.Instants.{turn, byte, last}
+use Rattle.arbitration_pass.specs.Instants.{last}
 use Rattle.arbitration_members.specs.Members as members
 use Rattle.arbitration_members.specs.Rows.{rows_of, column_of}
 use Rattle.arbitration_run.specs.Sequence as sequence
@@ -28,7 +28,6 @@ use Rattle.arbitration_turns.specs.Turns.{Turn}
 use Rattle.arbitration_turns.specs.Turns as turns
 use Rattle.arbitration_turns.proofs.Pieces.{bus_at}
 use Rattle.arbitration_turns.proofs.Allowed.{Inside}
-use Rattle.arbitration_turns.proofs.Allowed.{taking, loading}
 use Rattle.arbitration_turns.proofs.Kept.{Kept}
 use Rattle.arbitration_turns.proofs.Bits.{bound, bits_of}
 use Rattle.arbitration_turns.proofs.Standing.{bytes_from, after_byte, rest_at}

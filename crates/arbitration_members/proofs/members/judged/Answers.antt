@@ -1,5 +1,4 @@
 use native.Mathlib.Omega.{arith}
-use Prim.Native.Nat.{◌-◌}
 use Rattle.arbitration_members.proofs.Judging.{judging-start, Places, judging-more, judging-done}
 use Rattle.arbitration_members.proofs.members.judged.Goals as goal
 

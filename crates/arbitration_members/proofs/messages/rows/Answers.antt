@@ -1,5 +1,4 @@
 use native.Mathlib.Omega.{arith}
-use Prim.Native.Nat.{◌-◌}
 use lib.ListN.{length}
 use Rattle.laws.proofs.Bools.{below_both, past-either}
 use Rattle.arbitration_rules.specs.Limits.{max_masters}
@@ -15,10 +14,10 @@ offset_bounds-lengths-i c = omega (arith, below_both c.loop-i.i (length c.args.l
 
 pub bounds-lengths-i : goal.bounds-lengths-i
 bounds-lengths-i c = omega (
-      arith,
-      below_both c.loop-i.i (length c.args.lengths.now) max_masters
-          c.loop-i-test.true,
-    )
+  arith,
+  below_both c.loop-i.i (length c.args.lengths.now) max_masters
+      c.loop-i-test.true,
+)
 
 pub end_of-to-requires : goal.end_of-to-requires
 end_of-to-requires c = tt

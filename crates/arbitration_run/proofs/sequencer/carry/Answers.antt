@@ -1,5 +1,5 @@
 -- A byte is carried with its last bit.
-use Rattle.arbitration_run.proofs.Cases.{none-carried, not-stored}
+use Rattle.arbitration_run.proofs.Cases.{not-stored}
 use Rattle.laws.proofs.Bools.{both}
 use borrow.Author.Tests.{ltb-true}
 use lib.ListN.{length}

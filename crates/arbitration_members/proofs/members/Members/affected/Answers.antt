@@ -2,7 +2,6 @@
 use Rattle.arbitration_members.specs.Members.{judged}
 use Prim.Native.Nat.{ℕ}
 use mathlib.Core.Path.{ap, ◌∙◌}
-use Rattle.arbitration_members.proofs.Cases.{members-stay}
 use Rattle.arbitration_members.proofs.members.Members.affected.Goals as goal
 
 pub returns-in-Bit : goal.returns-in-Bit

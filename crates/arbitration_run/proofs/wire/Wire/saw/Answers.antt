@@ -1,6 +1,5 @@
 -- A sample is of the level shown before it.
 -- A sample, or not.
-use Rattle.arbitration_pass.proofs.Cases.{no-sample}
 use Rattle.arbitration_run.proofs.wire.Wire.saw.Goals as goal
 
 pub returns-in-Sample : goal.returns-in-Sample
