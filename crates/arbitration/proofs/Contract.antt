@@ -1,7 +1,7 @@
 -- What an arbitration promises: refused, or run to its end.
 use Prim.Native.Nat.{ℕ, ◌-◌, ◌≤◌}
 use mathlib.Core.Path.{◌≡◌, refl, sym, ap, ◌∙◌}
-use mathlib.Core.Bool.{Bool, true, false, cond, false≢true}
+use mathlib.Core.Bool.{Bool, true, false, false≢true}
 use mathlib.Core.List.{List, [], ◌∷◌, ◌++◌, map, zip_with}
 use native.Mathlib.Omega.{arith}
 use lib.Dec.{eqb}

@@ -17,7 +17,7 @@ use Rattle.arbitration_messages.proofs.Whole.{refusal_is, lengths-whole}
 use Rattle.arbitration_checks.specs.Settled.{settled}
 use Rattle.arbitration.specs.Prepared.{Short}
 use Rattle.arbitration.proofs.Given.{settled-none, settled-some, shaped, short-is, applies-is, passes-some, lacks}
-use Rattle.arbitration.proofs.Given.{Unrefused, unrefused-gives}
+use Rattle.arbitration.proofs.Given.{unrefused-gives}
 
 module _ (request : Request) (table_room carried_room level_room : ℕ) where
   abbrev what_applies : Refusal

@@ -1,5 +1,5 @@
 -- A turn of the loop in `run`, from what its calls ensure: it is the next turn, and leaves less work.
-use Rattle.std.proofs.Common.{ℕ, ◌<◌, ◌≡◌, true, false, refl, length, List}
+use Rattle.std.proofs.Common.{ℕ, ◌<◌, ◌≡◌, true, false, length, List}
 use Rattle.usi.specs.declared.Usi.{Usi}
 use Rattle.arbitration_pass.specs.declared.pass.Pass.{Pass}
 use Rattle.arbitration_pass.specs.declared.pass.Seen.{Seen}

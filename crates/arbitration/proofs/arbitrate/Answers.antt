@@ -2,7 +2,7 @@
 use Prim.Native.Nat.{ℕ}
 use mathlib.Core.Path.{◌≡◌, ap, subst, ◌∙◌}
 use mathlib.Core.List.{List}
-use Rattle.arbitration_rules.specs.Reply.{Request, asked}
+use Rattle.arbitration_rules.specs.Reply.{asked}
 use Rattle.arbitration_messages.specs.Gathered.{passing}
 use Rattle.arbitration_members.specs.Rows.{rows_of}
 use Rattle.arbitration_turns.specs.Turns.{Turn, Reached}

@@ -1,5 +1,5 @@
 use mathlib.Core.Path.{◌≡◌, ◌∙◌}
-use Rattle.arbitration_turns.specs.Turns.{Turn, Reached, ended, more, ready}
+use Rattle.arbitration_turns.specs.Turns.{Turn, ended, more, ready}
 use Rattle.arbitration.proofs.RunLoop.{ready-loading, ready-loaded, turn_made, work-less}
 use Rattle.arbitration.proofs.table.run.Goals as goal
 use Rattle.arbitration.proofs.table.run.Goals.{then-sequencer, else-sequencer}

@@ -1,6 +1,6 @@
 -- After i turns the first i modules have sampled, and what they show has been noted.
-use Rattle.std.proofs.Common.{◌≡◌, ◌-◌, ◌≤◌}
-use Rattle.arbitration_pass.specs.Pass.{passed, sampling_pass, seen}
+use Rattle.std.proofs.Common.{◌-◌}
+use Rattle.arbitration_pass.specs.Pass.{sampling_pass}
 use Rattle.arbitration.proofs.PassLaws.{AfterTurns}
 use Rattle.arbitration.proofs.table.sample_all.Given as goal
 

@@ -1,5 +1,5 @@
 -- After i turns the first i modules have written, and what they show has been noted.
-use Rattle.std.proofs.Common.{◌≡◌, ◌-◌, ◌≤◌}
+use Rattle.std.proofs.Common.{◌-◌}
 use Rattle.arbitration.proofs.PassLaws.{AfterTurns}
 use Rattle.arbitration.proofs.table.write_all.Given as goal
 
