@@ -10,7 +10,7 @@ use borrow.Author.Tests.{ne_eqb}
 use lib.ListN.{length, get_or, take, drop, replicate, length-append}
 use lib.Seq.{take-suc, take_all}
 use Rattle.text.specs.Output.{Put}
-use Rattle.text.proofs.Putting.{put-none, put_then, put_as}
+use Rattle.text.proofs.Putting.{put_then, put_as}
 use Rattle.arbitration_rules.specs.Limits.{max_masters, max_length}
 use Rattle.load_text.specs.Messages.{messages_in, unless, part_lengths, rows_in, parts_in, part_counts}
 

@@ -1,16 +1,16 @@
 -- Which board a master is: the loops that look for it, and that masters and boards that are not silent are one to one.
 use mathlib.Core.Path.{◌≡◌, refl, sym, ap, ◌∙◌}
 use mathlib.Core.Bool.{Bool, true, false, not, ◌&&◌, ◌||◌, false≢true}
-use mathlib.Core.List.{List, [], ◌∷◌}
+use mathlib.Core.List.{List, ◌∷◌}
 use Prim.Native.Nat.{ℕ, zero, suc, ◌+◌, ◌-◌, ◌≤◌, ◌<◌, min}
-use native.Mathlib.Nat.{not-suc-le-zero, le_of_suc-le-suc}
+use native.Mathlib.Nat.{not-suc-le-zero}
 use native.Mathlib.Numerals.{add-one}
 use native.Mathlib.Omega.{arith}
 use lib.Dec.{eqb, leb}
 use borrow.Author.Tests.{eqb-true, eqb-false, leb-true, leb-false}
 use lib.ListN.{length, get_or, drop, drop_of_length-le}
 use lib.Seq.{drop-cons}
-use Rattle.load_text.specs.Boards.{board_of, master_of, masters, count_of, left_after}
+use Rattle.load_text.specs.Boards.{board_of, master_of, count_of, left_after}
 
 -- the tests of `left_after`
 pub left-some : (one : Bool) (left : ℕ) → one || eqb left 0 ≡ false → 1 ≤ left

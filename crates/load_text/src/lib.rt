@@ -1,4 +1,6 @@
 // The words of a file of loads, and which board each master is. Every function is total: none has a `requires`.
+#![tactic(auto)]
+
 mod boards; // boards.rt: the boards that are not silent are the library's masters
 mod messages; // messages.rt: the messages of the boards that are not silent, one after another
 mod parts; // parts.rt: the parts of the same messages

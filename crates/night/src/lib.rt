@@ -1,5 +1,7 @@
 // The night run (02: Ask 14), over what a caller lends and over a table of modules by value: rounds of arbitrations of
 // the messages not yet carried, until none is left.
+#![tactic(auto)]
+
 ghost use Rattle.arbitration_rules.specs.Reply.{asked};
 ghost use Rattle.night.specs.Lent.{Nights};
 ghost use Rattle.night.specs.Rehearsal.{Rehearses};

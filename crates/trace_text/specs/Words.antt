@@ -1,5 +1,5 @@
 -- What a line of an event list says.
-use Rattle.std.specs.Prelude.{Bool, true, false, cond, not, ◌&&◌, ◌||◌, List, [], ◌∷◌, ℕ, ◌+◌, ◌%◌, eqb, ltb, length}
+use Rattle.std.specs.Prelude.{Bool, cond, ◌||◌, List, ℕ, ◌+◌, ◌%◌, eqb, ltb, length}
 use Rattle.laws.specs.Same.{same}
 use Rattle.text.specs.Words.{first_word, after_word}
 use Rattle.trace.specs.Events.{start_event, repeated_start_event, stop_event, partial_event}

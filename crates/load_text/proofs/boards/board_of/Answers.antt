@@ -1,4 +1,4 @@
-use Prim.Native.Nat.{◌-◌, ◌<◌, ◌≤◌}
+use Prim.Native.Nat.{◌<◌, ◌≤◌}
 use lib.ListN.{length}
 use Rattle.load_text.proofs.Masters.{sought-start, sought-more, sought-found, sought-end}
 use borrow.Author.Rules.{rules}

@@ -1,4 +1,4 @@
-use Prim.Native.Nat.{◌-◌, ◌<◌, min}
+use Prim.Native.Nat.{◌<◌, min}
 use lib.ListN.{length}
 use native.Mathlib.Omega.{arith}
 use Rattle.arbitration_rules.specs.Limits.{max_masters}

@@ -1,4 +1,4 @@
-use Prim.Native.Nat.{◌-◌, ◌<◌, ◌≤◌}
+use Prim.Native.Nat.{◌<◌, ◌≤◌}
 use lib.ListN.{length}
 use Rattle.arbitration_rules.specs.Limits.{max_masters}
 use Rattle.text.proofs.Putting.{put-none, put-length}

@@ -1,7 +1,7 @@
 use mathlib.Core.Path.{◌≡◌, ap, sym}
 use mathlib.Core.Bool.{◌||◌}
 use mathlib.Core.List.{[], ◌∷◌}
-use Prim.Native.Nat.{ℕ, ◌-◌, ◌<◌, ◌≤◌}
+use Prim.Native.Nat.{ℕ, ◌<◌, ◌≤◌}
 use lib.Dec.{eqb}
 use Rattle.load_text.specs.Messages.{unless}
 use lib.ListN.{length, get_or}
