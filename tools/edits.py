@@ -10,7 +10,8 @@ an edit needs them (clauses, borrows, projections, paths, operators), and by the
 from all files of the crates then and now (--words prints them). Code outside clauses stays as it is. An edit's turned
 old text must stand on the line that the old line became, by an alignment of the file then and now, and once in the file;
 a wrong definition's once in the file. Else it is named ("by hand") and left as it is. An import that now stands in a line
-with others gets the names that the change adds, or loses the one that it takes away. A word of a new text that its file
+with others gets the names that the change adds, or loses the one that it takes away; a name that only the change uses,
+and the file therefore no longer imports (rt tidy), is imported in the change. A word of a new text that its file
 has nowhere is named ("look"): it must be in scope by a path or a field. So the script can be run again whenever the
 present text has changed. BY_HAND names what was written by hand, which it never writes.
 """
@@ -442,6 +443,66 @@ def changed(commit, path, words, learned):
     return "\n".join(out)
 
 
+def imported(text, words=None):
+    """The names that a file imports for clauses, as it calls them, each with its import up to the bracket."""
+    found = {}
+    for line in text.split("\n"):
+        if (m := GHOST_USE.match(line)):
+            head = m[1] if words is None else turned(m[1] + "}", words, True)[:-1]
+            found |= {name.split(" as ")[-1]: head for name in names(m[2], words or {})}
+    return found
+
+
+def used(name, text):
+    sign = re.fullmatch("◌(.+)◌", name)
+    if sign:
+        return re.search(r"(?<=[ )])" + re.escape(sign[1]) + r"(?=[ (])", text)
+    return "[]" in text if name == "[]" else name in WORD.findall(text)
+
+
+def lacking(commit, path, texts, words):
+    """The names that new texts use, which the file imported then and, being needed for nothing else, now doesn't: by
+    the import up to the bracket where they go."""
+    said = "\n".join(text for text in texts if not text.startswith(("use ", "ghost use "))
+                     and (path.endswith(".antt") or re.search(r"\b(requires|ensures)\b|≡", text)))
+    have = set(imported(now(path)))
+    for text in texts:
+        if (m := re.match(r"(?:ghost )?use [\w.]+\.\{([^}]*)", text)):
+            have |= {name.split(" as ")[-1] for name in names(m[1], {})}
+    found = {}
+    for name, head in imported(then(commit, path), words).items():
+        if name not in have and used(name, said):
+            if not re.search(r"use Rattle\.", head):
+                ghost = "ghost " if head.startswith("ghost") else ""
+                head = f"{ghost}use {ELSEWHERE[name]}.{{" if name in ELSEWHERE else ghost + PRELUDE + "{"
+            found.setdefault(head, []).append(name)
+    return found
+
+
+def completed(commit, path, text, words):
+    """An edit's text with the imports that its new texts lack."""
+    crate, file, lines = path.split("/")[1] if path.endswith(".edit") else None, None, text.rstrip("\n").split("\n")
+    groups = {}
+    for n, line in enumerate(lines):
+        word, _, rest = line.partition(": ")
+        crate, file = (rest if word == "crate" else crate), (rest if word == "file" else file)
+        if line.startswith("new:"):
+            groups.setdefault(f"crates/{crate}/{file}", []).append(n)
+    for place, at in reversed(groups.items()):
+        news = [lines[n][len("new:"):].removeprefix(" ") for n in at]
+        for head, more in lacking(commit, place, news, words).items():
+            here = [n for n in at if lines[n].startswith("new: " + head)]
+            there = [m for line in now(place).split("\n") if (m := GHOST_USE.match(line)) and m[1] == head]
+            if here:
+                lines[here[0]] = "new: " + head + ", ".join([*more, lines[here[0]][len("new: " + head):]])
+            elif len(there) == 1:
+                old2, new2 = added(head, there[0][2], more)
+                lines[at[-1]] += f"\nold: {old2}\nnew: {new2}"
+            else:
+                raise ByHand(f"{place} lacks an import of {', '.join(more)}: {head}")
+    return "\n".join(lines) + text[len(text.rstrip("\n")):]
+
+
 def stated(crate, theorem):
     header = re.compile(rf"^ *(pub )?{re.escape(theorem)} :", re.M)
     return any(header.search(path.read_text()) for path in (ROOT / "crates" / crate / "proofs").glob("*.antt"))
@@ -493,6 +554,7 @@ def main():
             continue
         try:
             text = (changed if path.endswith(".change") else edited)(asked.old, path, words, learned)
+            text = completed(asked.old, path, text, words)
         except ByHand as why:
             hand += 1
             print(f"by hand: {path}: {why}")
