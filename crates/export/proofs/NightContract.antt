@@ -1,7 +1,7 @@
 -- What the night's call promises, at each of its returns; and what follows from the messages alone.
-use Prim.Native.Nat.{ℕ, ◌+◌, ◌*◌, ◌≤◌, ◌<◌}
+use Prim.Native.Nat.{ℕ, ◌≤◌, ◌<◌}
 use native.Mathlib.Omega.{arith}
-use mathlib.Core.Path.{◌≡◌, refl, sym, ap, ◌∙◌}
+use mathlib.Core.Path.{◌≡◌, sym, ap, ◌∙◌}
 use mathlib.Core.Bool.{true, false}
 use mathlib.Core.List.{List, map}
 use lib.Dec.{eqb}
@@ -11,9 +11,8 @@ use borrow.Author.Tests.{eq-eqb, ne_eqb}
 use Rattle.laws.specs.declared.Refusal.{Refusal}
 use Rattle.laws.specs.Buffer.{filled}
 use Rattle.laws.proofs.Refusals.{placed}
-use Rattle.usi.specs.declared.Usi.{Usi}
 use Rattle.arbitration_rules.specs.Limits.{max_masters}
-use Rattle.arbitration_rules.specs.Reply.{Request, messages_of}
+use Rattle.arbitration_rules.specs.Reply.{messages_of}
 use Rattle.arbitration_rules.proofs.Cut.{messages-count}
 use Rattle.arbitration_rules.proofs.Pieces.{Bytes}
 use Rattle.night_rules.specs.Different.{different, round_of}
@@ -25,7 +24,7 @@ use Rattle.night_rules.proofs.Accepted.{admitted, room}
 use Rattle.night.specs.declared.NightRun.{NightRun}
 use Rattle.night.specs.Rehearsal.{Rehearses}
 use Rattle.night.proofs.Rehearsed.{any-room}
-use Rattle.export.specs.Night.{Lent, Returned, gave, refusal_of, powered_up, packed_night, modules_after, returned}
+use Rattle.export.specs.Night.{Lent, gave, refusal_of, powered_up, packed_night, modules_after, returned}
 use Rattle.export.specs.Packed.{packed}
 use Rattle.export.proofs.Placed.{night-placed}
 

@@ -2,7 +2,7 @@
 use Prim.Native.Nat.{ℕ, ◌<◌, ◌≤◌, ◌^◌}
 use native.Mathlib.Omega.{arith}
 use mathlib.Core.Logic.{⊎_elim}
-use mathlib.Core.Path.{◌≡◌, refl, sym, ap}
+use mathlib.Core.Path.{◌≡◌, refl}
 use mathlib.Core.Bool.{Bool, true, false, cond, not, ◌&&◌, ◌||◌}
 use mathlib.Core.List.{List, [], ◌∷◌, ◌++◌}
 use lib.Dec.{eqb, ltb}
@@ -11,7 +11,7 @@ use borrow.Author.Tests.{eqb-true, eqb-false, ltb-false, not-false}
 use Rattle.laws.specs.Refusals.{Check, check, check_at, given}
 use Rattle.levels.specs.Levels.{max_level}
 use Rattle.export.specs.Replies.{read_numbers}
-use Rattle.laws.proofs.Refusals.{Placed, placed, passed, passed_first, numbered-both}
+use Rattle.laws.proofs.Refusals.{Placed, placed}
 use Rattle.laws.proofs.Search.{first-within}
 use Rattle.trace.specs.Limits.{max_samples}
 use Rattle.trace.specs.Trace.{bad_level, not_above, pairs, trace_checks}
@@ -23,8 +23,7 @@ use Rattle.decode.specs.DecodeReply.{decode_checks, decoded, decoded_numbers}
 use Rattle.decode.proofs.Bounds.{events-length}
 use Rattle.encode.specs.declared.Encoded.{Encoded}
 use Rattle.encode.specs.declared.Encoded.TheVariants.{Drawn, Refused as NotDrawn}
-use Rattle.encode.specs.Encode.{sample_count}
-use Rattle.encode.specs.EncodeReply.{encode_checks, encoded, encoded_numbers}
+use Rattle.encode.specs.EncodeReply.{encoded, encoded_numbers}
 use Rattle.trace_theorems.proofs.Replies.{accepted, taken}
 use Rattle.dump.specs.declared.Dumped.{Dumped}
 use Rattle.dump.specs.declared.Dumped.TheVariants.{Written, Refused as NotWritten}

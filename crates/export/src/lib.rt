@@ -1,4 +1,6 @@
 // The libraries for callers in C or Rust: numbers and slices only.
+#![tactic(auto)]
+
 ghost use Rattle.std.specs.Prelude.{◌≡◌, ◌+◌, ◌*◌, ◌^◌, ◌<◌};
 ghost use mir.Val.{bool_byte};
 ghost use Rattle.usi.specs.Module.{power_up};

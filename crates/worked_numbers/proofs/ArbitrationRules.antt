@@ -1,7 +1,7 @@
 -- Document 01's refusals of an arbitration, one line each, as arbitrate answers them, and its limits; messages have
 -- one part each.
 use mathlib.Core.Path.{◌≡◌, refl}
-use mathlib.Core.List.{List, [], ◌∷◌, ◌++◌}
+use mathlib.Core.List.{[], ◌∷◌, ◌++◌}
 use Prim.Native.Nat.{ℕ}
 use lib.ListN.{replicate}
 use Rattle.laws.specs.Refusals.{none}

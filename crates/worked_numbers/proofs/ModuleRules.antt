@@ -7,7 +7,7 @@ use Rattle.usi_registers.specs.Registers as table
 use Rattle.usi_registers.specs.Rules.{divider, clock_source, bit_count}
 use Rattle.usi.specs.declared.Usi.{Usi}
 use Rattle.usi.specs.declared.Step.{Step}
-use Rattle.usi.specs.declared.Step.TheVariants.{Next, Refused}
+use Rattle.usi.specs.declared.Step.TheVariants.{Refused}
 use Rattle.usi.specs.declared.Read.TheVariants.{Value, Refused as NoValue}
 use Rattle.usi.specs.Module.{power_up, pulls_scl, pulls_sda}
 use Rattle.usi.specs.Step.{refusal, module_of, read_byte, write_byte, read_word, write_word, sample, tick}

@@ -191,8 +191,7 @@ put_modules-requires c =
     let lent = lent_again in
     let masters = length lent.request.counts in
     let two = neither (ltb (length lent.modules) masters) (ltb (length lent.seats) masters) (roomy) in
-    (ltb-false (length lent.modules) masters two.0, ltb-false (length lent.seats) masters two.1) in
-    (
+    (ltb-false (length lent.modules) masters two.0, ltb-false (length lent.seats) masters two.1) in (
       masters-few (lent_again) (small_again) (roomy) c.rehearse-done.result.reply (replied) c.if-found-ne0-2.false,
       (long-enough).0,
     )
@@ -236,8 +235,7 @@ put_seats-requires c =
     let lent = lent_again in
     let masters = length lent.request.counts in
     let two = neither (ltb (length lent.modules) masters) (ltb (length lent.seats) masters) (roomy) in
-    (ltb-false (length lent.modules) masters two.0, ltb-false (length lent.seats) masters two.1) in
-    (
+    (ltb-false (length lent.modules) masters two.0, ltb-false (length lent.seats) masters two.1) in (
       masters-few (lent_again) (small_again) (roomy) c.rehearse-done.result.reply (replied) c.if-found-ne0-2.false,
       (long-enough).1,
     )

@@ -51,8 +51,7 @@ put_rounds-requires c =
     bytes_below (lent_at).request.bytes (λ i. omega (arith, c.shared_slice_known-1.given i)) in
     let promise : Rehearses (lent_at).request (length (lent_at).rounds) (length (lent_at).modules) powered_up
     c.rehearse-done.result =
-    rw c.power_up-table.ensures at c.rehearse-done.ensures in
-    (
+    rw c.power_up-table.ensures at c.rehearse-done.ensures in (
       put-few (lent_at) c.rehearse-done.result (promise) (small) c.if-found-ne0.false,
       (put-room (lent_at) c.rehearse-done.result (promise) (small) c.if-found-ne0.false).0,
     )
@@ -70,8 +69,7 @@ put_modules-requires c =
     bytes_below (lent_at).request.bytes (λ i. omega (arith, c.shared_slice_known-1.given i)) in
     let promise : Rehearses (lent_at).request (length (lent_at).rounds) (length (lent_at).modules) powered_up
     c.rehearse-done.result =
-    rw c.power_up-table.ensures at c.rehearse-done.ensures in
-    (
+    rw c.power_up-table.ensures at c.rehearse-done.ensures in (
       put-few (lent_at) c.rehearse-done.result (promise) (small) c.if-found-ne0.false,
       (put-room (lent_at) c.rehearse-done.result (promise) (small) c.if-found-ne0.false).1,
     )
@@ -89,8 +87,7 @@ night_answer-requires-2 c =
     bytes_below (lent_at).request.bytes (λ i. omega (arith, c.shared_slice_known-1.given i)) in
     let promise : Rehearses (lent_at).request (length (lent_at).rounds) (length (lent_at).modules) powered_up
     c.rehearse-done.result =
-    rw c.power_up-table.ensures at c.rehearse-done.ensures in
-    (
+    rw c.power_up-table.ensures at c.rehearse-done.ensures in (
       place-small (lent_at) c.rehearse-done.result (promise),
       count_small (lent_at) c.rehearse-done.result (promise) (small) c.if-found-ne0.false,
     )
