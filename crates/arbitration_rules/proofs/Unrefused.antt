@@ -19,7 +19,7 @@ use Rattle.usi_registers.specs.Registers.{USICKPH, USII2C, USICKPL, USI16B}
 use Rattle.usi_registers.specs.Rules as set_up_rules
 use Rattle.usi.specs.declared.Usi.{Usi}
 use Rattle.usi.specs.declared.Step.{Step}
-use Rattle.usi.specs.Module.{fits, pulls_scl, pulls_sda, with_uSICTL0, with_uSICTL1, with_uSICNT, with_uSISRL}
+use Rattle.usi.specs.Module.{fits, pulls_scl, pulls_sda, with_usictl0, with_usictl1, with_usicnt, with_usisrl}
 use Rattle.usi.specs.Step.{refusal, module_of, followed, settled, write_byte, sampled, sample, ticked, tick}
 use Rattle.usi.proofs.SetUp.{count-flags, followed-fits, sampled-fits, ticked-fits}
 use Rattle.usi.proofs.SetUp.{followed-clock, sampled-clock, ticked-clock}
@@ -110,22 +110,22 @@ write-fine : {address value : ℕ} → Keeping address value → (u : Usi) → R
 unfolding write_byte
 write-fine (to_control {value} lsb pe6 pe7 swrst) u ready =
     let t = tests u.usictl0 u.usictl1 u.usickctl u.usicnt ready.0 in
-    let fitting : fits (with_uSICTL0 value u) ≡ true =
+    let fitting : fits (with_usictl0 value u) ≡ true =
     rw (t.i2c, t.ckpl, t.ckph, lsb, t.narrow, pe6, pe7, swrst) in
-    (refl, settled-fits u (with_uSICTL0 value u) ready.0 (fitting, ready.1))
+    (refl, settled-fits u (with_usictl0 value u) ready.0 (fitting, ready.1))
 write-fine (to_flags {value} i2c ckph) u ready =
     let t = tests u.usictl0 u.usictl1 u.usickctl u.usicnt ready.0 in
-    let fitting : fits (with_uSICTL1 value u) ≡ true =
+    let fitting : fits (with_usictl1 value u) ≡ true =
     rw (i2c, t.ckpl, ckph, t.lsb, t.narrow, t.pe6, t.pe7, t.swrst) in
-    (refl, settled-fits u (with_uSICTL1 value u) ready.0 (fitting, ready.1))
+    (refl, settled-fits u (with_usictl1 value u) ready.0 (fitting, ready.1))
 write-fine (to_count {value} narrow) u ready =
     let t = tests u.usictl0 u.usictl1 u.usickctl u.usicnt ready.0 in
-    let counted = with_uSICNT value (with_uSICTL1 (set_up_rules.count_flags u.usictl1 value) u) in
+    let counted = with_usicnt value (with_usictl1 (set_up_rules.count_flags u.usictl1 value) u) in
     let fitting : fits counted ≡ true =
     count-flags value u.usictl0 u.usictl1 u.usickctl value
     ∙ rw (t.i2c, t.ckpl, t.ckph, t.lsb, narrow, t.pe6, t.pe7, t.swrst) in
     (refl, settled-fits u counted ready.0 (fitting, ready.1))
-write-fine (to_shift {value}) u ready = (refl, settled-fits u (with_uSISRL value u) ready.0 ready)
+write-fine (to_shift {value}) u ready = (refl, settled-fits u (with_usisrl value u) ready.0 ready)
 
 -- a master whose set-up fits, and an operation that no such master is refused
 abbrev Fit : Master → Type 0

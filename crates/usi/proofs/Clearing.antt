@@ -14,7 +14,7 @@ use Rattle.usi_spi.specs.Rules.{follows}
 use Rattle.usi.specs.declared.Usi.{Usi}
 use Rattle.usi.specs.declared.Step.{Step}
 use Rattle.usi.specs.declared.Step.TheVariants.{Next, Refused}
-use Rattle.usi.specs.Module.{fits, fits_spi, at_rest, with_uSICTL0, with_uSICKCTL, with_uSISRL}
+use Rattle.usi.specs.Module.{fits, fits_spi, at_rest, with_usictl0, with_usickctl, with_usisrl}
 use Rattle.usi.specs.Spi as spi
 use Rattle.usi.specs.Step.{refusal, module_of, and_then, latched, followed, kept, settled, write_byte, odd, write_word}
 use Rattle.usi.specs.Step.{answered, written, written_word, overruns, ticked, tick}
@@ -94,9 +94,9 @@ pub word-joins : (u : Usi) (value : ℕ) → u.usictl1 < 256
     → Joins u USICTL0 value × Joins u USICKCTL value × Joins u USISRL value
 unfolding write_word write_byte
 word-joins u value small = (
-  joined u.usictl1 _ _ small (settled-keeps u (with_uSICTL0 (value % 256) u)),
-  joined u.usictl1 _ _ small (settled-keeps u (with_uSICKCTL (value % 256) u)),
-  joined u.usictl1 _ _ small (settled-keeps u (with_uSISRL (value % 256) u)),
+  joined u.usictl1 _ _ small (settled-keeps u (with_usictl0 (value % 256) u)),
+  joined u.usictl1 _ _ small (settled-keeps u (with_usickctl (value % 256) u)),
+  joined u.usictl1 _ _ small (settled-keeps u (with_usisrl (value % 256) u)),
 )
 
 -- the answer's numbers are small: a refusal of a write is 1 or 2, and four flags can be cleared

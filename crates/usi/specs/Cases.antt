@@ -4,7 +4,7 @@ use Rattle.std.specs.Prelude.{Bool, cond, true, false, not, ◌||◌}
 use Rattle.levels.specs.Levels as levels
 use Rattle.usi_i2c.specs.Rules as rules
 use Rattle.usi.specs.declared.Usi.{Usi}
-use Rattle.usi.specs.Module.{with_uSICTL1, with_uSICNT, with_stretch}
+use Rattle.usi.specs.Module.{with_usictl1, with_usicnt, with_stretch}
 use Rattle.usi.specs.Step.{latched, bit_taken, followed, recorded, edged, ticked, overruns}
 
 -- the stretch, told whether SCL fell and whether it is high
@@ -15,9 +15,9 @@ stretched_by fallen scl u = with_stretch (rules.stretch_after u.stretch fallen u
 abbrev pub condition_seen : Bool → Usi → Usi
 condition_seen sda u =
     stretched_by false true
-    (with_uSICTL1
+    (with_usictl1
     (rules.condition_flags u.usictl1 (levels.start true u.sda true sda) (levels.stop true u.sda true sda))
-    (with_uSICNT (rules.condition_count u.usicnt (levels.start true u.sda true sda)) u))
+    (with_usicnt (rules.condition_count u.usicnt (levels.start true u.sda true sda)) u))
 
 -- SCL rises
 unfoldable pub rise_seen : Bool → Usi → Usi

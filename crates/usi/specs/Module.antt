@@ -31,8 +31,8 @@ power_up low high =
     }
 
 -- One register replaced.
-abbrev pub with_uSICTL0 : ℕ → Usi → Usi
-with_uSICTL0 value u =
+abbrev pub with_usictl0 : ℕ → Usi → Usi
+with_usictl0 value u =
     record {
       usictl0 = value;
       usictl1 = u.usictl1;
@@ -49,8 +49,8 @@ with_uSICTL0 value u =
       stretch = u.stretch;
     }
 
-abbrev pub with_uSICTL1 : ℕ → Usi → Usi
-with_uSICTL1 value u =
+abbrev pub with_usictl1 : ℕ → Usi → Usi
+with_usictl1 value u =
     record {
       usictl0 = u.usictl0;
       usictl1 = value;
@@ -67,8 +67,8 @@ with_uSICTL1 value u =
       stretch = u.stretch;
     }
 
-abbrev pub with_uSICKCTL : ℕ → Usi → Usi
-with_uSICKCTL value u =
+abbrev pub with_usickctl : ℕ → Usi → Usi
+with_usickctl value u =
     record {
       usictl0 = u.usictl0;
       usictl1 = u.usictl1;
@@ -85,8 +85,8 @@ with_uSICKCTL value u =
       stretch = u.stretch;
     }
 
-abbrev pub with_uSICNT : ℕ → Usi → Usi
-with_uSICNT value u =
+abbrev pub with_usicnt : ℕ → Usi → Usi
+with_usicnt value u =
     record {
       usictl0 = u.usictl0;
       usictl1 = u.usictl1;
@@ -103,8 +103,8 @@ with_uSICNT value u =
       stretch = u.stretch;
     }
 
-abbrev pub with_uSISRL : ℕ → Usi → Usi
-with_uSISRL value u =
+abbrev pub with_usisrl : ℕ → Usi → Usi
+with_usisrl value u =
     record {
       usictl0 = u.usictl0;
       usictl1 = u.usictl1;
@@ -121,8 +121,8 @@ with_uSISRL value u =
       stretch = u.stretch;
     }
 
-abbrev pub with_uSISRH : ℕ → Usi → Usi
-with_uSISRH value u =
+abbrev pub with_usisrh : ℕ → Usi → Usi
+with_usisrh value u =
     record {
       usictl0 = u.usictl0;
       usictl1 = u.usictl1;

@@ -4,7 +4,7 @@ use Rattle.usi_registers.specs.Rules as set_up
 use Rattle.usi_i2c.specs.Rules as rules
 use Rattle.usi_spi.specs.Rules as spi
 use Rattle.usi.specs.declared.Usi.{Usi}
-use Rattle.usi.specs.Module.{with_uSICTL1, with_uSICNT, with_uSISRL, with_uSISRH, with_latch, with_phase, with_levels}
+use Rattle.usi.specs.Module.{with_usictl1, with_usicnt, with_usisrl, with_usisrh, with_latch, with_phase, with_levels}
 
 -- The register: USISRL, with 16B=1 USISRH and USISRL; and the bit that leaves next.
 abbrev pub register : Usi → ℕ
@@ -28,9 +28,9 @@ entered sdi u = spi.shifted u.usictl0 u.usicnt sdi (register u)
 
 abbrev pub captured : Bool → Usi → Usi
 captured sdi u =
-    with_uSICTL1 (rules.end_flags u.usictl1 u.usicnt)
-    (with_uSICNT (rules.count_down u.usicnt)
-    (with_uSISRL (spi.low (entered sdi u)) (with_uSISRH (spi.high u.usicnt u.usisrh (entered sdi u)) u)))
+    with_usictl1 (rules.end_flags u.usictl1 u.usicnt)
+    (with_usicnt (rules.count_down u.usicnt)
+    (with_usisrl (spi.low (entered sdi u)) (with_usisrh (spi.high u.usicnt u.usisrh (entered sdi u)) u)))
 
 -- Change edge with CNT>0 and GE=0: the latch moves.
 unfoldable pub changed : Usi → Usi

@@ -10,7 +10,7 @@ use Rattle.usi.specs.declared.Step.TheVariants.{Next, Refused}
 use Rattle.usi.specs.declared.Written.{Written}
 use Rattle.usi.specs.declared.Read.{Read}
 use Rattle.usi.specs.declared.Read.TheVariants.{Value, Refused as NoValue}
-use Rattle.usi.specs.Module.{with_uSICTL0, with_uSICTL1, with_uSICKCTL, with_uSICNT, with_uSISRL, with_uSISRH}
+use Rattle.usi.specs.Module.{with_usictl0, with_usictl1, with_usickctl, with_usicnt, with_usisrl, with_usisrh}
 use Rattle.usi.specs.Module.{with_latch, with_phase, with_levels, with_stretch, at_rest, fits, fits_spi}
 use Rattle.usi.specs.Spi as spi
 
@@ -69,13 +69,13 @@ read_byte u address =
 -- Register write; a write to USICNT acts on the flags of USICTL1 too.
 unfoldable pub write_byte : Usi → ℕ → ℕ → Step
 write_byte u address value =
-    cond (eqb address USICTL0) (Next (settled u (with_uSICTL0 value u)))
-    (cond (eqb address USICTL1) (Next (settled u (with_uSICTL1 value u)))
-    (cond (eqb address USICKCTL) (Next (settled u (with_uSICKCTL value u)))
+    cond (eqb address USICTL0) (Next (settled u (with_usictl0 value u)))
+    (cond (eqb address USICTL1) (Next (settled u (with_usictl1 value u)))
+    (cond (eqb address USICKCTL) (Next (settled u (with_usickctl value u)))
     (cond (eqb address USICNT)
-    (Next (settled u (with_uSICNT value (with_uSICTL1 (set_up.count_flags u.usictl1 value) u))))
-    (cond (eqb address USISRL) (Next (settled u (with_uSISRL value u)))
-    (cond (eqb address USISRH) (Next (settled u (with_uSISRH value u)))
+    (Next (settled u (with_usicnt value (with_usictl1 (set_up.count_flags u.usictl1 value) u))))
+    (cond (eqb address USISRL) (Next (settled u (with_usisrl value u)))
+    (cond (eqb address USISRH) (Next (settled u (with_usisrh value u)))
     (Refused 1 u))))))
 
 -- A word takes an even address (else 2), low byte there, high byte after it; a write is the low byte's, then the high
@@ -116,22 +116,22 @@ written_word u address value = answered u.usictl1 (write_word u address value)
 -- START and STOP of a sample, on the flags and SCLREL.
 abbrev pub conditioned : Bool → Bool → Usi → Usi
 conditioned scl sda u =
-    with_uSICTL1
+    with_usictl1
     (rules.condition_flags u.usictl1 (levels.start u.scl u.sda scl sda)
     (levels.stop u.scl u.sda scl sda))
-    (with_uSICNT (rules.condition_count u.usicnt (levels.start u.scl u.sda scl sda)) u)
+    (with_usicnt (rules.condition_count u.usicnt (levels.start u.scl u.sda scl sda)) u)
 
 -- SCL rises, CNT>0: arbitration first.
 abbrev pub arbitrated : Bool → Usi → Usi
 arbitrated lost u =
-    with_uSICTL1 (rules.loss_flags u.usictl1 lost)
-    (with_uSICTL0 (rules.loss_control u.usictl0 lost) (with_latch u.latch (u.enable && not lost) u))
+    with_usictl1 (rules.loss_flags u.usictl1 lost)
+    (with_usictl0 (rules.loss_control u.usictl0 lost) (with_latch u.latch (u.enable && not lost) u))
 
 -- Then the bit is taken.
 abbrev pub clocked : Bool → Usi → Usi
 clocked sda u =
-    with_uSICTL1 (rules.end_flags u.usictl1 u.usicnt)
-    (with_uSICNT (rules.count_down u.usicnt) (with_uSISRL (rules.shifted u.usisrl sda) u))
+    with_usictl1 (rules.end_flags u.usictl1 u.usicnt)
+    (with_usicnt (rules.count_down u.usicnt) (with_usisrl (rules.shifted u.usisrl sda) u))
 
 abbrev pub bit_taken : Bool → Usi → Usi
 bit_taken sda u = clocked sda (arbitrated (rules.loses u.usictl0 u.enable u.latch sda) u)
