@@ -4,28 +4,7 @@ use lib.ListN.{length}
 use Rattle.text.proofs.Runs.{after-line-shorter}
 use Rattle.cases_usi.proofs.run.Goals as goal
 
-pub power_up-device-requires : goal.power_up-device-requires
-power_up-device-requires c = tt
-
-pub loop-rest-init : goal.loop-rest-init
-loop-rest-init c = tt
-
-pub first_line-requires : goal.first_line-requires
-first_line-requires c = tt
-
-pub run_line-device-requires : goal.run_line-device-requires
-run_line-device-requires c = tt
-
-pub after_line-next-requires : goal.after_line-next-requires
-after_line-next-requires c = tt
-
 pub loop-rest-smaller : goal.loop-rest-smaller
 loop-rest-smaller c =
     let rest = c.loop-rest.rest.now in
     omega (arith, ap length c.after_line-next.ensures, after-line-shorter rest (omega arith))
-
-pub loop-rest-preserved : goal.loop-rest-preserved
-loop-rest-preserved c = tt
-
-pub returns : goal.returns
-returns c = tt
