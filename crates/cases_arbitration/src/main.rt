@@ -1,4 +1,6 @@
 // Runs a script of arbitrations, and prints the reply and both buffers of each.
+#![tactic(auto)]
+
 mod script;
 mod show;
 

@@ -1,4 +1,6 @@
 // Runs a script of commands on the bus decoder and encoder, and prints their answers and buffers.
+#![tactic(auto)]
+
 mod list;
 mod script;
 mod show;

@@ -1,4 +1,6 @@
 // Runs a script of commands on one USI module, and prints what each command leaves or reads.
+#![tactic(auto)]
+
 mod command;
 mod show;
 

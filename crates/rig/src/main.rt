@@ -1,5 +1,7 @@
 // rig: reads, sorts and draws bus traces, and steps a USI module (rig_clash rehearses loads).
 // The last line of output says how it went: `ok`, `look`, `refused` with a number, or `error`.
+#![tactic(auto)]
+
 mod arguments; // arguments.rt: the words of the command line
 mod decoding; // decoding.rt: the events of a trace
 mod dumping; // dumping.rt: a trace drawn as a Value Change Dump

@@ -1,5 +1,7 @@
 // rig_match, run by `rig match`: a capture held against a rehearsal, both as the other programs print them.
 // The last line of output says how it went: `ok`, `look`, `refused` with a number, or `error`.
+#![tactic(auto)]
+
 mod book; // book.rt: how much of the rehearsal is kept
 mod capture; // capture.rt: the lines of the capture
 mod differences; // differences.rt: where a frame differs from what was rehearsed

@@ -1,0 +1,10 @@
+use mathlib.Core.Path.{ap}
+use native.Mathlib.Omega.{arith}
+use lib.ListN.{length}
+use Rattle.text.proofs.Runs.{after-line-shorter}
+use Rattle.cases_usi.proofs.run.Goals as goal
+
+pub loop-rest-smaller : goal.loop-rest-smaller
+loop-rest-smaller c =
+    let rest = c.loop-rest.rest.now in
+    omega (arith, ap length c.after_line-next.ensures, after-line-shorter rest (omega arith))
