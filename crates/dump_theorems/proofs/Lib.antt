@@ -1,3 +1,4 @@
 pub mod Words
 pub mod ReadBack
+pub mod Slices
 pub mod Worked

@@ -1,13 +1,12 @@
 -- What dump writes, within 60,000 bytes, reads back as the same trace without the samples that change nothing.
-use mathlib.Core.Path.{◌≡◌, refl, sym, ap, ◌∙◌}
+use mathlib.Core.Path.{◌≡◌, refl, ap, ◌∙◌}
 use mathlib.Core.Bool.{Bool, true, false, cond}
 use mathlib.Core.List.{List, [], ◌∷◌, ◌++◌}
 use Prim.Native.Nat.{ℕ, ◌≤◌, ◌<◌}
 use native.Mathlib.Omega.{arith}
 use borrow.Author.Tests.{eqb-true, ltb-true, ltb-false, not-false}
 use lib.Dec.{eqb, ltb}
-use lib.ListN.{length, take, drop, length-map}
-use lib.Seq.{take_at}
+use lib.ListN.{length, length-map}
 use Rattle.laws.specs.Buffer.{filled}
 use Rattle.laws.specs.Everyone.{also}
 use Rattle.laws.specs.Search.{any}
@@ -21,10 +20,8 @@ use Rattle.trace.specs.Changes.{changes_from, changed_stamps, changed_levels}
 use Rattle.trace.proofs.Pairs.{rising-back}
 use Rattle.trace.proofs.Samples.{samples-length}
 use Rattle.trace.proofs.Checked.{Checked}
-use Rattle.dump.specs.declared.Dumped.TheVariants as wrote
 use Rattle.dump.specs.Text.{dump_text}
-use Rattle.dump.specs.Dumped.{dumped, text_after}
-use Rattle.dump.proofs.Bound.{Stamps, written-trace, written_count}
+use Rattle.dump.proofs.Bound.{Stamps}
 use Rattle.dump_reader.specs.declared.DumpRead.TheVariants.{Written}
 use Rattle.dump_reader.specs.Reading.{stamps_in, levels_in}
 use Rattle.dump_reader.specs.DumpRead.{longest_text, dump_read, stamps_after, levels_after}
@@ -74,7 +71,7 @@ pub record ReadBack (stamps levels text stamp-slice level-slice : List ℕ) : Ty
   pub leveled : levels_after (dump_read text (length stamp-slice) (length level-slice)) text level-slice
       ≡ filled (changed_levels stamps levels) level-slice
 
-text-back : (stamps levels stamp-slice level-slice : List ℕ) → Stamps stamps → Checked stamps levels
+pub text-back : (stamps levels stamp-slice level-slice : List ℕ) → Stamps stamps → Checked stamps levels
     → (length levels ≡ 0 → ⊥) → length (dump_text stamps levels) ≤ longest_text
     → length (changed_stamps stamps levels) ≤ length stamp-slice
     → length (changed_stamps stamps levels) ≤ length level-slice
@@ -108,28 +105,3 @@ text-back (stamp ∷ stamps) (level ∷ levels) stamp-slice level-slice (also fi
       leveled = rw reply (ap (λ (l : List ℕ). filled l level-slice)
           (ap levels_in spelt ∙ read-levels stamp level stamps levels small above legal));
     }
-
--- an empty trace is not written
-written-some : (stamps levels : List ℕ) (room count : ℕ) → dumped stamps levels room ≡ wrote.Written count
-    → length levels ≡ 0 → ⊥
-unfolding dumped
-written-some [] [] room count reply none = let never : ◌≡◌ {A = ℕ} 0 1 = cc in omega arith
-written-some (stamp ∷ stamps) [] room count reply none =
-    let same = (written-trace (stamp ∷ stamps) [] room count reply).same in omega arith
-written-some stamps (level ∷ levels) room count reply none = omega arith
-
--- dump writes a trace into a slice; what it wrote there, read into slices that have room for its changes
-pub written-reads-back : (stamps levels slice stamp-slice level-slice : List ℕ) (count : ℕ) → Stamps stamps
-    → dumped stamps levels (length slice) ≡ wrote.Written count → count ≤ longest_text
-    → length (changed_stamps stamps levels) ≤ length stamp-slice
-    → length (changed_stamps stamps levels) ≤ length level-slice
-    → ReadBack stamps levels (take count (text_after (dumped stamps levels (length slice)) stamps levels slice))
-    stamp-slice level-slice
-written-reads-back stamps levels slice stamp-slice level-slice count all reply few room room-too =
-    let text = dump_text stamps levels in
-    let counted = written_count stamps levels (length slice) count reply in
-    let front : take count (text_after (dumped stamps levels (length slice)) stamps levels slice) ≡ text =
-    rw reply (take_at text (drop (length text) slice) count (sym counted)) in
-    rw front
-    (text-back stamps levels stamp-slice level-slice all (written-trace stamps levels (length slice) count reply)
-    (written-some stamps levels (length slice) count reply) (rw counted at few) room room-too)

@@ -9,7 +9,8 @@ use Rattle.dump.specs.Dumped.{text_after}
 use Rattle.dump.proofs.Worked.{case, case-reply}
 use Rattle.dump_reader.specs.declared.DumpRead.TheVariants.{Written}
 use Rattle.dump_reader.specs.DumpRead.{dump_read, stamps_after, levels_after}
-use Rattle.dump_theorems.proofs.ReadBack.{ReadBack, written-reads-back}
+use Rattle.dump_theorems.proofs.ReadBack.{ReadBack}
+use Rattle.dump_theorems.proofs.Slices.{written-reads-back}
 
 -- the file as dump leaves it in a slice of 142 bytes
 abbrev text : List ℕ
