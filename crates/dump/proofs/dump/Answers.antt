@@ -11,12 +11,18 @@ use Rattle.dump.proofs.Reply.{trace-refused, empty-refused, room-refused, all-wr
 use Rattle.dump.proofs.dump.Goals as goal
 
 pub returns-then-refusal-ne0 : goal.returns-then-refusal-ne0
-returns-then-refusal-ne0 c = record { answer = trace-refused _ _ _ c.check-refusal.result c.check-refusal.ensures c.if-refusal-ne0.true; buffer = refl }
+returns-then-refusal-ne0 c = record {
+  answer = trace-refused _ _ _ c.check-refusal.result c.check-refusal.ensures c.if-refusal-ne0.true;
+  buffer = refl;
+}
 
 pub returns-then-levels-eq0 : goal.returns-then-levels-eq0
 returns-then-levels-eq0 c =
     let check = c.check-refusal in
-    record { answer = empty-refused _ _ _ check.result check.ensures c.if-refusal-ne0.false c.if-levels-eq0.true; buffer = refl }
+    record {
+      answer = empty-refused _ _ _ check.result check.ensures c.if-refusal-ne0.false c.if-levels-eq0.true;
+      buffer = refl;
+    }
 
 pub text_length-requires : goal.text_length-requires
 text_length-requires c =
@@ -28,7 +34,10 @@ pub returns-then-out-text_length : goal.returns-then-out-text_length
 returns-then-out-text_length c =
     let check = c.check-refusal in
     let short = rw c.text_length.ensures at c.if-out-text_length.true in
-    record { answer = room-refused _ _ _ check.result check.ensures c.if-refusal-ne0.false c.if-levels-eq0.false short; buffer = refl }
+    record {
+      answer = room-refused _ _ _ check.result check.ensures c.if-refusal-ne0.false c.if-levels-eq0.false short;
+      buffer = refl;
+    }
 
 pub returns : goal.returns
 returns c =

@@ -11,7 +11,10 @@ use Rattle.phases.proofs.Reply.{trace-refused, short-refused, long-enough}
 use Rattle.phases.proofs.decode_in.Goals as goal
 
 pub returns-then-refusal-ne0 : goal.returns-then-refusal-ne0
-returns-then-refusal-ne0 c = record { answer = trace-refused _ _ _ _ c.check-refusal.result c.check-refusal.ensures c.if-refusal-ne0.true; buffer = rw (ne_eqb _ 0 c.if-refusal-ne0.true) }
+returns-then-refusal-ne0 c = record {
+  answer = trace-refused _ _ _ _ c.check-refusal.result c.check-refusal.ensures c.if-refusal-ne0.true;
+  buffer = rw (ne_eqb _ 0 c.if-refusal-ne0.true);
+}
 
 pub first_short-place-requires : goal.first_short-place-requires
 first_short-place-requires c =

@@ -15,8 +15,14 @@ loop-i-preserved c =
     let head = c.loop-i in
     let list = c.args.carried.now in
     let next : c.if-carried-i-lt-NO_RESTART.count ≡ head.count + cond (restarts (get_or list head.i 0)) 1 0 =
-    elim c.if-carried-i-lt-NO_RESTART.branch [ then-carried-i-lt-NO_RESTART w ↦ rw (w.count-is, lt-ltb _ _ w.if-carried-i-lt-NO_RESTART.true) | else-carried-i-lt-NO_RESTART w ↦ rw (w.count-is, le-ltb _ _ w.if-carried-i-lt-NO_RESTART.false) (omega arith) ] in
-    let small : c.if-carried-i-lt-NO_RESTART.count ≤ head.count + 1 = elim c.if-carried-i-lt-NO_RESTART.branch [ then-carried-i-lt-NO_RESTART w ↦ omega arith | else-carried-i-lt-NO_RESTART w ↦ omega arith ] in
+    elim c.if-carried-i-lt-NO_RESTART.branch [
+      | then-carried-i-lt-NO_RESTART w ↦ rw (w.count-is, lt-ltb _ _ w.if-carried-i-lt-NO_RESTART.true)
+      | else-carried-i-lt-NO_RESTART w ↦ rw (w.count-is, le-ltb _ _ w.if-carried-i-lt-NO_RESTART.false) (omega arith)
+    ] in
+    let small : c.if-carried-i-lt-NO_RESTART.count ≤ head.count + 1 = elim c.if-carried-i-lt-NO_RESTART.branch [
+      | then-carried-i-lt-NO_RESTART w ↦ omega arith
+      | else-carried-i-lt-NO_RESTART w ↦ omega arith
+    ] in
     (search rules, omega arith, rw next (counted-more list head.i head.count head.invariant.2 (omega arith)))
 
 pub returns : goal.returns

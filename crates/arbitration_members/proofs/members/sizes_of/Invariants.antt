@@ -7,7 +7,9 @@ use Rattle.arbitration_rules.specs.Limits.{max_masters}
 use Rattle.arbitration_members.proofs.members.sizes_of.Given as goal
 
 abbrev pub invariant-loop-i : goal.invariant-loop-i
-invariant-loop-i l = (l.i ≤ min (length l.lengths) max_masters) × (l.out ≡ take l.i l.lengths ++ drop l.i (replicate max_masters 0))
+invariant-loop-i l =
+    (l.i ≤ min (length l.lengths) max_masters)
+    × (l.out ≡ take l.i l.lengths ++ drop l.i (replicate max_masters 0))
 
 abbrev pub decreases-loop-i : goal.decreases-loop-i
 decreases-loop-i l = max_masters - l.i

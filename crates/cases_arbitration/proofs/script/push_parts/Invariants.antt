@@ -5,7 +5,12 @@ use lib.ListN.{length}
 use Rattle.cases_arbitration.proofs.script.push_parts.Given as goal
 
 abbrev pub invariant-loop-i : goal.invariant-loop-i
-invariant-loop-i l = (l.from ≤ l.i) × (l.i ≤ length l.message) × (l.n ≤ l.next) × (l.next ≤ length l.parts) × (length l.parts ≡ length l.initial.parts)
+invariant-loop-i l =
+    (l.from ≤ l.i)
+    × (l.i ≤ length l.message)
+    × (l.n ≤ l.next)
+    × (l.next ≤ length l.parts)
+    × (length l.parts ≡ length l.initial.parts)
 
 abbrev pub decreases-loop-i : goal.decreases-loop-i
 decreases-loop-i l = length l.message - l.i

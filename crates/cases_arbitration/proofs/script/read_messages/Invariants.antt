@@ -5,7 +5,11 @@ use lib.ListN.{length}
 use Rattle.cases_arbitration.proofs.script.read_messages.Given as goal
 
 abbrev pub invariant-loop-n : goal.invariant-loop-n
-invariant-loop-n l = (l.at ≤ length l.parts) × (length l.parts ≡ length l.initial.parts) × (l.n ≤ length l.initial.counts) × (length l.counts ≡ length l.initial.counts)
+invariant-loop-n l =
+    (l.at ≤ length l.parts)
+    × (length l.parts ≡ length l.initial.parts)
+    × (l.n ≤ length l.initial.counts)
+    × (length l.counts ≡ length l.initial.counts)
 
 abbrev pub decreases-loop-n : goal.decreases-loop-n
 decreases-loop-n l = length l.initial.counts - l.n

@@ -43,4 +43,8 @@ returns c =
     let head = c.loop-i in
     let levels = c.args.levels.now in
     let done : length levels ≤ head.i = omega arith in
-    let none = left-none levels head.decoder head.i done in record { last = passed-last _ _ _ done head.invariant.0; number = progress-done _ _ _ none head.invariant.1.progress; stored = writing-done _ _ _ _ _ c.requires head.invariant.1 none }
+    let none = left-none levels head.decoder head.i done in record {
+      last = passed-last _ _ _ done head.invariant.0;
+      number = progress-done _ _ _ none head.invariant.1.progress;
+      stored = writing-done _ _ _ _ _ c.requires head.invariant.1 none;
+    }

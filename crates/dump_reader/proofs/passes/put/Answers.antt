@@ -7,7 +7,11 @@ use Rattle.dump_reader.proofs.passes.put.Goals as goal
 
 pub returns-then-wave-shown : goal.returns-then-wave-shown
 unfolding completed
-returns-then-wave-shown c = rw (eq-eqb _ _ c.if-wave-shown.true) record { next = omega arith; stamped = refl; stored = refl }
+returns-then-wave-shown c = rw (eq-eqb _ _ c.if-wave-shown.true) record {
+  next = omega arith;
+  stamped = refl;
+  stored = refl;
+}
 
 pub bounds-stamps-count : goal.bounds-stamps-count
 unfolding completed

@@ -36,4 +36,7 @@ pub returns : goal.returns
 returns c =
     let head = c.loop-word in
     let text = c.args.text.now in
-    let end : length text ≤ head.word.end = omega arith in record { last = counted-reader text head.reader head.count head.word end head.invariant; number = c.counted-count-2.ensures ∙ counted-all text head.reader head.count head.word end head.invariant }
+    let end : length text ≤ head.word.end = omega arith in record {
+      last = counted-reader text head.reader head.count head.word end head.invariant;
+      number = c.counted-count-2.ensures ∙ counted-all text head.reader head.count head.word end head.invariant;
+    }

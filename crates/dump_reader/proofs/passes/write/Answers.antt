@@ -18,7 +18,10 @@ pub put-count-requires : goal.put-count-requires
 put-count-requires c =
     let head = c.loop-word in
     let text = c.args.text.now in
-    let less : head.word.end < length text = omega arith in record { shown_in_bounds = stored-room text _ _ c.requires.text_in_bounds c.requires.text_in_bounds_2 _ _ _ _ _ head.invariant _ c.judge-next.ensures less; shown_in_bounds_2 = stored-room-too text _ _ c.requires.text_in_bounds c.requires.text_in_bounds_2 _ _ _ _ _ head.invariant _ c.judge-next.ensures less }
+    let less : head.word.end < length text = omega arith in record {
+      shown_in_bounds = stored-room text _ _ c.requires.text_in_bounds c.requires.text_in_bounds_2 _ _ _ _ _ head.invariant _ c.judge-next.ensures less;
+      shown_in_bounds_2 = stored-room-too text _ _ c.requires.text_in_bounds c.requires.text_in_bounds_2 _ _ _ _ _ head.invariant _ c.judge-next.ensures less;
+    }
 
 pub overflow_add-word : goal.overflow_add-word
 overflow_add-word c =
@@ -43,7 +46,10 @@ pub put-requires : goal.put-requires
 put-requires c =
     let head = c.loop-word in
     let text = c.args.text.now in
-    let end : length text ≤ head.word.end = omega arith in record { shown_in_bounds = last-room text _ _ c.requires.text_in_bounds c.requires.text_in_bounds_2 _ _ _ _ _ head.invariant end; shown_in_bounds_2 = last-room-too text _ _ c.requires.text_in_bounds c.requires.text_in_bounds_2 _ _ _ _ _ head.invariant end }
+    let end : length text ≤ head.word.end = omega arith in record {
+      shown_in_bounds = last-room text _ _ c.requires.text_in_bounds c.requires.text_in_bounds_2 _ _ _ _ _ head.invariant end;
+      shown_in_bounds_2 = last-room-too text _ _ c.requires.text_in_bounds c.requires.text_in_bounds_2 _ _ _ _ _ head.invariant end;
+    }
 
 pub shape_of-stamps : goal.shape_of-stamps
 shape_of-stamps c =
@@ -64,4 +70,7 @@ returns c =
     let head = c.loop-word in
     let text = c.args.text.now in
     let wrote = c.put.ensures in
-    let end : length text ≤ head.word.end = omega arith in record { stamped = wrote.stamped ∙ stamps-all text _ _ c.requires.text_in_bounds c.requires.text_in_bounds_2 _ _ _ _ _ head.invariant end; stored = wrote.stored ∙ levels-all text _ _ c.requires.text_in_bounds c.requires.text_in_bounds_2 _ _ _ _ _ head.invariant end }
+    let end : length text ≤ head.word.end = omega arith in record {
+      stamped = wrote.stamped ∙ stamps-all text _ _ c.requires.text_in_bounds c.requires.text_in_bounds_2 _ _ _ _ _ head.invariant end;
+      stored = wrote.stored ∙ levels-all text _ _ c.requires.text_in_bounds c.requires.text_in_bounds_2 _ _ _ _ _ head.invariant end;
+    }

@@ -10,7 +10,10 @@ returns-then-is_same c = rw (← c.is_same.ensures, c.if-is_same.true) record { 
 
 pub returns-then-is_same-2 : goal.returns-then-is_same-2
 unfolding unit_of
-returns-then-is_same-2 c = rw (← c.is_same.ensures, c.if-is_same.false, ← c.is_same-2.ensures, c.if-is_same-2.true) record { value = refl; upper_bound = omega arith }
+returns-then-is_same-2 c = rw (← c.is_same.ensures, c.if-is_same.false, ← c.is_same-2.ensures, c.if-is_same-2.true) record {
+  value = refl;
+  upper_bound = omega arith;
+}
 
 pub returns-then-is_same-3 : goal.returns-then-is_same-3
 unfolding unit_of

@@ -12,7 +12,10 @@ abbrev nine : ℕ → Bool → List Bool
 nine byte ninth = byte_bits byte ++ ninth ∷ []
 
 abbrev pub invariant-loop-k : goal.invariant-loop-k
-invariant-loop-k l = (l.k ≤ 8) × (length l.levels ≡ length l.initial.levels) × (l.levels ≡ sets l.initial.levels l.at (draw_bits (take l.k (nine l.byte l.ninth))))
+invariant-loop-k l =
+    (l.k ≤ 8)
+    × (length l.levels ≡ length l.initial.levels)
+    × (l.levels ≡ sets l.initial.levels l.at (draw_bits (take l.k (nine l.byte l.ninth))))
 
 abbrev pub decreases-loop-k : goal.decreases-loop-k
 decreases-loop-k l = 8 - l.k

@@ -76,4 +76,7 @@ returns-in-256-to-511 c =
 pub returns-in_default : goal.returns-in_default
 returns-in_default c =
     let other = c.in_default.in_default-own.rest in
-    rw (draw-none _ c.in_default.if-event-lt512-own.false other.0.0.0.1 other.0.0.1 other.0.1) record { next = omega arith; stored = refl }
+    rw (draw-none _ c.in_default.if-event-lt512-own.false other.0.0.0.1 other.0.0.1 other.0.1) record {
+      next = omega arith;
+      stored = refl;
+    }

@@ -13,4 +13,7 @@ pub bounds-levels-at-3 : goal.bounds-levels-at-3
 bounds-levels-at-3 c = rw (length-set, length-set) (omega arith)
 
 pub returns : goal.returns
-returns c = let two : c.args.at + 2 ≡ suc (suc c.args.at) = omega arith in record { next = refl; stored = rw (add-one, two) }
+returns c = let two : c.args.at + 2 ≡ suc (suc c.args.at) = omega arith in record {
+  next = refl;
+  stored = rw (add-one, two);
+}

@@ -7,7 +7,9 @@ use Prim.Native.Nat.{◌≤◌, ◌-◌}
 use Rattle.encode.proofs.draw.write_levels.Given as goal
 
 abbrev pub invariant-loop-i : goal.invariant-loop-i
-invariant-loop-i l = (l.i ≤ length l.events) × Writing (drawing l.events) (draw_events (drop l.i l.events)) l.initial.levels l.levels l.at
+invariant-loop-i l =
+    (l.i ≤ length l.events)
+    × Writing (drawing l.events) (draw_events (drop l.i l.events)) l.initial.levels l.levels l.at
 
 abbrev pub decreases-loop-i : goal.decreases-loop-i
 decreases-loop-i l = length l.events - l.i

@@ -12,4 +12,7 @@ dump_answer-requires c =
     rw c.dump.ensures.answer (dumped-small _ _ _ known)
 
 pub returns : goal.returns
-returns c = record { answer = rw (c.dump_answer.ensures, c.dump.ensures.answer); buffer = rw (← c.dump.ensures.answer) c.dump.ensures.buffer }
+returns c = record {
+  answer = rw (c.dump_answer.ensures, c.dump.ensures.answer);
+  buffer = rw (← c.dump.ensures.answer) c.dump.ensures.buffer;
+}

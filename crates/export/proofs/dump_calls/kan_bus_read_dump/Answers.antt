@@ -8,4 +8,8 @@ dump_read_answer-requires c = rw c.read.ensures.answer (dump-read-small _ _ _)
 pub returns : goal.returns
 returns c =
     let done = c.read.ensures in
-    record { answer = rw (c.dump_read_answer.ensures, done.answer); stamped = rw (← done.answer) done.stamped; stored = rw (← done.answer) done.stored }
+    record {
+      answer = rw (c.dump_read_answer.ensures, done.answer);
+      stamped = rw (← done.answer) done.stamped;
+      stored = rw (← done.answer) done.stored;
+    }

@@ -6,4 +6,7 @@ pub decode_answer-requires : goal.decode_answer-requires
 decode_answer-requires c = rw c.decode.ensures.answer (decoded-small _ _ _)
 
 pub returns : goal.returns
-returns c = record { answer = rw (c.decode_answer.ensures, c.decode.ensures.answer); buffer = rw (← c.decode.ensures.answer) c.decode.ensures.buffer }
+returns c = record {
+  answer = rw (c.decode_answer.ensures, c.decode.ensures.answer);
+  buffer = rw (← c.decode.ensures.answer) c.decode.ensures.buffer;
+}

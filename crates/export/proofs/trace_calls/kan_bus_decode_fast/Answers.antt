@@ -6,4 +6,7 @@ pub decode_answer-requires : goal.decode_answer-requires
 decode_answer-requires c = rw c.decode_in.ensures.answer (decoded-in-small _ _ _ _)
 
 pub returns : goal.returns
-returns c = record { answer = rw (c.decode_answer.ensures, c.decode_in.ensures.answer); buffer = rw (← c.decode_in.ensures.answer) c.decode_in.ensures.buffer }
+returns c = record {
+  answer = rw (c.decode_answer.ensures, c.decode_in.ensures.answer);
+  buffer = rw (← c.decode_in.ensures.answer) c.decode_in.ensures.buffer;
+}

@@ -7,7 +7,9 @@ use Rattle.frame_match.specs.Frames.{is_start}
 use Rattle.frame_match.proofs.frames.start_from.Given as goal
 
 abbrev pub invariant-loop-i : goal.invariant-loop-i
-invariant-loop-i l = (l.from ≤ l.i) × (l.from + first is_start (drop l.from l.seen) ≡ l.i + first is_start (drop l.i l.seen))
+invariant-loop-i l =
+    (l.from ≤ l.i)
+    × (l.from + first is_start (drop l.from l.seen) ≡ l.i + first is_start (drop l.i l.seen))
 
 abbrev pub decreases-loop-i : goal.decreases-loop-i
 decreases-loop-i l = length l.seen - l.i

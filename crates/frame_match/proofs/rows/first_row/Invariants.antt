@@ -6,7 +6,9 @@ use Rattle.frame_match.specs.Rows.{first_row}
 use Rattle.frame_match.proofs.rows.first_row.Given as goal
 
 abbrev pub invariant-loop-row : goal.invariant-loop-row
-invariant-loop-row l = (l.from ≤ l.row) × (first_row (is_a l.sought l.book) l.from l.end ≡ first_row (is_a l.sought l.book) l.row l.end)
+invariant-loop-row l =
+    (l.from ≤ l.row)
+    × (first_row (is_a l.sought l.book) l.from l.end ≡ first_row (is_a l.sought l.book) l.row l.end)
 
 abbrev pub decreases-loop-row : goal.decreases-loop-row
 decreases-loop-row l = l.end - l.row

@@ -12,7 +12,10 @@ loop-i-init c = passed_start slash _
 pub returns-then-word-i-eq47 : goal.returns-then-word-i-eq47
 returns-then-word-i-eq47 c =
     let inside : c.loop-i.i < length c.args.word.now = search rules in
-    record { value = found_first slash _ _ 0 c.loop-i.invariant inside (eq-eqb _ _ c.if-word-i-eq47.true); upper_bound = search rules }
+    record {
+      value = found_first slash _ _ 0 c.loop-i.invariant inside (eq-eqb _ _ c.if-word-i-eq47.true);
+      upper_bound = search rules;
+    }
 
 pub loop-i-preserved : goal.loop-i-preserved
 loop-i-preserved c =
