@@ -1,10 +1,10 @@
 -- What decode answers, refusals in 01's order, and what the lent slice holds after it.
-use Rattle.std.specs.Prelude.{ℕ, cond, List, [], ◌∷◌, ◌++◌, eqb, ltb, length}
+use Rattle.std.specs.Prelude.{ℕ, List, [], ◌∷◌, ◌++◌, ltb, length, Result, Ok, Err}
 use mir.Val.{bool_byte}
 use Rattle.decode.specs.declared.Decoded.{Decoded}
-use Rattle.decode.specs.declared.Decoded.TheVariants.{Events, Refused}
 use Rattle.laws.specs.Buffer.{filled}
-use Rattle.laws.specs.Refusals.{Check, check, given}
+use Rattle.laws.specs.declared.Refusal.{Refusal}
+use Rattle.laws.specs.Refusals.{Check, check, answer}
 use Rattle.trace.specs.Trace.{trace_checks}
 use Rattle.decode.specs.Decode.{events, final}
 
@@ -13,12 +13,15 @@ abbrev pub decode_checks : List ℕ → List ℕ → ℕ → List Check
 decode_checks stamps levels room = trace_checks stamps levels ++ check 8 (ltb room (length (events levels))) ∷ []
 
 -- the first of them that applies, else what the levels mean
-unfoldable pub decoded : List ℕ → List ℕ → ℕ → Decoded
+unfoldable pub decoded : List ℕ → List ℕ → ℕ → Result Decoded Refusal
 decoded stamps levels room =
-    let refusal = given (decode_checks stamps levels room) in
-    cond (eqb refusal.number 0)
-    (Events (length (events levels)) (final levels).framed (final levels).pending (final levels).value)
-    (Refused refusal.number refusal.place)
+    answer (decode_checks stamps levels room)
+    (record {
+      count = length (events levels);
+      framed = (final levels).framed;
+      pending = (final levels).pending;
+      value = (final levels).value;
+    })
 
 -- 01's numbers of an answer: the refusal (0: none) and its place, the event count, whether a frame is open (1) or not,
 -- how many bits are pending, and their value; in a refused answer all others are 0
@@ -30,20 +33,20 @@ pub record DecodedNumbers : Type 0 where
   pub pending : ℕ
   pub value : ℕ
 
-abbrev pub decoded_numbers : Decoded → DecodedNumbers
-decoded_numbers (Events count framed pending value) =
+abbrev pub decoded_numbers : Result Decoded Refusal → DecodedNumbers
+decoded_numbers (Ok read) =
     record {
       refusal = 0;
       place = 0;
-      count = count;
-      framed = bool_byte framed;
-      pending = pending;
-      value = value;
+      count = read.count;
+      framed = bool_byte read.framed;
+      pending = read.pending;
+      value = read.value;
     }
-decoded_numbers (Refused number place) =
-    record { refusal = number; place = place; count = 0; framed = 0; pending = 0; value = 0 }
+decoded_numbers (Err refusal) =
+    record { refusal = refusal.number; place = refusal.place; count = 0; framed = 0; pending = 0; value = 0 }
 
 -- the lent slice after it: the events, and its rest as it was; after a refusal all as it was
-abbrev pub events_after : Decoded → List ℕ → List ℕ → List ℕ
-events_after answer levels buffer =
-    cond (eqb (decoded_numbers answer).refusal 0) (filled (events levels) buffer) buffer
+abbrev pub events_after : Result Decoded Refusal → List ℕ → List ℕ → List ℕ
+events_after (Ok read) levels buffer = filled (events levels) buffer
+events_after (Err refusal) levels buffer = buffer

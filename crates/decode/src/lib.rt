@@ -4,6 +4,8 @@
 ghost use Rattle.std.specs.Prelude.{◌≡◌, length};
 ghost use Rattle.decode.specs.DecodeReply.{decoded, events_after};
 
+use laws::{Refusal, refused};
+
 mod step; // step.rt: the decoder, stepped by one sample
 mod listing; // listing.rt: the events of all samples, counted and written
 
@@ -33,46 +35,31 @@ pub struct Stepped {
     pub listed: Listed,
 }
 
-// The answer of decode.
+// What a trace holds: how many events, whether a frame is open at its end, how many bits are pending, and their value.
 #[derive(Clone, Copy)]
-pub enum Decoded {
-    Events {
-        count: usize,
-        framed: bool,
-        pending: u8,
-        value: u8,
-    },
-    Refused {
-        number: u8,
-        place: usize,
-    },
+pub struct Decoded {
+    pub count: usize,
+    pub framed: bool,
+    pub pending: u8,
+    pub value: u8,
 }
 
 // The events of a trace, 01's wire reader. A slice with room for an event a sample is never too short; for any other
 // they are counted first, so that a refusal leaves the slice as it was.
-pub fn decode(stamps: &[u32], levels: &[u8], events: &mut [u16]) -> Decoded
+pub fn decode(stamps: &[u32], levels: &[u8], events: &mut [u16]) -> Result<Decoded, Refusal>
     ensures answer { result ≡ decoded stamps.now levels.now (length events.old) }
     ensures buffer { events.new ≡ events_after result levels.now events.old }
 {
-    let refusal = trace::check(stamps, levels);
-    if refusal.number != 0 {
-        return Decoded::Refused {
-            number: refusal.number,
-            place: refusal.place,
-        };
-    }
+    trace::check(stamps, levels)?;
     if listing::short(levels, events.len()) {
-        return Decoded::Refused {
-            number: 8,
-            place: 0,
-        };
+        return refused(8, 0);
     }
     let written = listing::write_events(levels, events);
     let decoder = written.decoder;
-    Decoded::Events {
+    Ok(Decoded {
         count: written.count,
         framed: decoder.framed,
         pending: decoder.pending,
         value: decoder.value,
-    }
+    })
 }

@@ -8,7 +8,8 @@ use native.Mathlib.Omega.{arith}
 use borrow.Author.Tests.{lt-ltb, le-ltb, ltb-false, not-false}
 use lib.Dec.{eqb, ltb}
 use lib.ListN.{length}
-use Rattle.encode.specs.declared.Encoded.TheVariants.{Drawn, Refused}
+use Rattle.std.specs.Prelude.{Ok, Err}
+use Rattle.laws.specs.Refusals.{refused_at}
 use Rattle.trace.specs.Limits.{max_samples, max_gap, largest_stamp}
 use Rattle.encode.specs.Complete.{complete}
 use Rattle.encode.specs.Encode.{drawing, sample_count, last_stamp}
@@ -40,12 +41,12 @@ pub drawing-fits : (events : List ℕ) (done : Bool) (count : ℕ) → done ≡ 
 drawing-fits events done count e p counted = drawing-length events (sym e ∙ not-false done p) ∙ sym counted
 
 module _ (events : List ℕ) (start gap stamp_room level_room : ℕ) (done : Bool) (e : done ≡ complete events) where
-  pub incomplete : not done ≡ true → Refused 9 ≡ encoded events start gap stamp_room level_room
+  pub incomplete : not done ≡ true → Err (refused_at 9 0) ≡ encoded events start gap stamp_room level_room
   unfolding encoded
   incomplete p = rw (← e, p)
 
   module _ (p : not done ≡ false) where
-    pub bad-gap : eqb gap 0 || ltb max_gap gap ≡ true → Refused 10 ≡ encoded events start gap stamp_room level_room
+    pub bad-gap : eqb gap 0 || ltb max_gap gap ≡ true → Err (refused_at 10 0) ≡ encoded events start gap stamp_room level_room
     unfolding encoded
     bad-gap bad = rw (← e, p, bad)
 
@@ -54,7 +55,7 @@ module _ (events : List ℕ) (start gap stamp_room level_room : ℕ) (done : Boo
         (fine : eqb gap 0 || ltb max_gap gap ≡ false)
         (counted : count ≡ min (sample_count events) (max_samples + 1))
       where
-        pub too_many : max_samples < count → Refused 6 ≡ encoded events start gap stamp_room level_room
+        pub too_many : max_samples < count → Err (refused_at 6 0) ≡ encoded events start gap stamp_room level_room
         unfolding encoded
         too_many many =
             let over : max_samples < sample_count events = omega arith in rw (← e, p, fine, lt-ltb _ _ over)
@@ -64,18 +65,18 @@ module _ (events : List ℕ) (start gap stamp_room level_room : ℕ) (done : Boo
           whole = whole-count events count counted few
 
           pub too-late : largest_stamp < last_stamp start gap count
-              → Refused 11 ≡ encoded events start gap stamp_room level_room
+              → Err (refused_at 11 0) ≡ encoded events start gap stamp_room level_room
           unfolding encoded
           too-late late = rw (← e, p, fine, ← whole, le-ltb _ _ few, lt-ltb _ _ late)
 
           module _ (early : last_stamp start gap count ≤ largest_stamp) where
             pub no_room : ltb stamp_room count || ltb level_room count ≡ true
-                → Refused 8 ≡ encoded events start gap stamp_room level_room
+                → Err (refused_at 8 0) ≡ encoded events start gap stamp_room level_room
             unfolding encoded
             no_room few-entries = rw (← e, p, fine, ← whole, le-ltb _ _ few, le-ltb _ _ early, few-entries)
 
             pub drawn-all : ltb stamp_room count || ltb level_room count ≡ false
-                → Drawn count ≡ encoded events start gap stamp_room level_room
+                → Ok count ≡ encoded events start gap stamp_room level_room
             unfolding encoded
             drawn-all room = rw (← e, p, fine, ← whole, le-ltb _ _ few, le-ltb _ _ early, room)
 

@@ -1,10 +1,9 @@
 -- What encode answers, refusals in 01's order, and what the two lent slices hold after it.
-use Rattle.std.specs.Prelude.{ℕ, cond, not, ◌||◌, List, [], ◌∷◌, eqb, ltb}
-use Rattle.encode.specs.declared.Encoded.{Encoded}
-use Rattle.encode.specs.declared.Encoded.TheVariants.{Drawn, Refused}
+use Rattle.std.specs.Prelude.{ℕ, not, ◌||◌, List, [], ◌∷◌, eqb, ltb, Result, Ok, Err}
 use Rattle.trace.specs.Limits.{max_samples, max_gap, largest_stamp}
 use Rattle.laws.specs.Buffer.{filled}
-use Rattle.laws.specs.Refusals.{Check, check, given}
+use Rattle.laws.specs.declared.Refusal.{Refusal}
+use Rattle.laws.specs.Refusals.{Check, check, answer}
 use Rattle.encode.specs.Complete.{complete}
 use Rattle.encode.specs.Encode.{drawing, sample_count, stamps_from, last_stamp}
 
@@ -19,27 +18,24 @@ encode_checks events start gap stamp_room level_room =
     ∷ []
 
 -- the first of them that applies, else the sample count
-unfoldable pub encoded : List ℕ → ℕ → ℕ → ℕ → ℕ → Encoded
+unfoldable pub encoded : List ℕ → ℕ → ℕ → ℕ → ℕ → Result ℕ Refusal
 encoded events start gap stamp_room level_room =
-    let refusal = given (encode_checks events start gap stamp_room level_room) in
-    cond (eqb refusal.number 0) (Drawn (sample_count events)) (Refused refusal.number)
+    answer (encode_checks events start gap stamp_room level_room) (sample_count events)
 
 -- 01's numbers of an answer: the refusal (0: none) and the sample count, 0 in a refused one
 pub record EncodedNumbers : Type 0 where
   pub refusal : ℕ
   pub count : ℕ
 
-abbrev pub encoded_numbers : Encoded → EncodedNumbers
-encoded_numbers (Drawn count) = record { refusal = 0; count = count }
-encoded_numbers (Refused number) = record { refusal = number; count = 0 }
+abbrev pub encoded_numbers : Result ℕ Refusal → EncodedNumbers
+encoded_numbers (Ok count) = record { refusal = 0; count = count }
+encoded_numbers (Err refusal) = record { refusal = refusal.number; count = 0 }
 
 -- the lent slices after it: stamps and drawing, and their rest as it was; after a refusal all as it was
-abbrev pub stamps_after : Encoded → ℕ → ℕ → List ℕ → List ℕ
-stamps_after answer start gap buffer =
-    cond (eqb (encoded_numbers answer).refusal 0)
-    (filled (stamps_from start gap (encoded_numbers answer).count) buffer)
-    buffer
+abbrev pub stamps_after : Result ℕ Refusal → ℕ → ℕ → List ℕ → List ℕ
+stamps_after (Ok count) start gap buffer = filled (stamps_from start gap count) buffer
+stamps_after (Err refusal) start gap buffer = buffer
 
-abbrev pub levels_after : Encoded → List ℕ → List ℕ → List ℕ
-levels_after answer events buffer =
-    cond (eqb (encoded_numbers answer).refusal 0) (filled (drawing events) buffer) buffer
+abbrev pub levels_after : Result ℕ Refusal → List ℕ → List ℕ → List ℕ
+levels_after (Ok count) events buffer = filled (drawing events) buffer
+levels_after (Err refusal) events buffer = buffer

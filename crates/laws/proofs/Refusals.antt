@@ -6,7 +6,9 @@ use mathlib.Core.List.{List, [], ◌∷◌, ◌++◌}
 use Prim.Native.Nat.{ℕ, ◌≤◌, ◌<◌}
 use native.Mathlib.Omega.{arith}
 use borrow.Author.Tests.{ne_eqb}
-use Rattle.laws.specs.Refusals.{Check, refused_at, none, given, or_else}
+use Rattle.std.specs.Prelude.{Result, Ok, Err}
+use Rattle.std.specs.Result.{result_and}
+use Rattle.laws.specs.Refusals.{Check, refused_at, none, given, or_else, answer}
 
 -- every number of a table is above 0
 abbrev pub Numbered : List Check → Type 0
@@ -84,4 +86,35 @@ number-below limit (c ∷ checks) some all = go c.applies (number-below limit ch
     go : (applies : Bool) → (given checks).number < limit
         → (cond applies (refused_at c.number c.place) (given checks)).number < limit
     go true rest = all.0
+    go false rest = rest
+
+-- no answer is both
+pub ok_or_err : {A E : Type 0} {a : A} {e : E} → ◌≡◌ {A = Result A E} (Err e) (Ok a) → ⊥
+ok_or_err is = let never : ◌≡◌ {A = ℕ} 0 1 = cc in omega arith
+
+-- what a table lets through passes each check
+pub passed_ok : {A : Type 0} (checks : List Check) (a b : A) → answer checks a ≡ Ok b → Passed checks
+passed_ok [] a b is = tt
+passed_ok (c ∷ checks) a b is = go c.applies refl is (passed_ok checks a b)
+  where
+    go : (applies : Bool) → c.applies ≡ applies
+        → cond applies (Err (refused_at c.number c.place)) (answer checks a) ≡ Ok b
+        → (answer checks a ≡ Ok b → Passed checks) → (c.applies ≡ false) × Passed checks
+    go true applies is rest = absurd (ok_or_err is)
+    go false applies is rest = (applies, rest is)
+
+pub ok_passed : {A : Type 0} (checks : List Check) (a : A) → Passed checks → answer checks a ≡ Ok a
+ok_passed [] a all = refl
+ok_passed (c ∷ checks) a all = rw all.0 (ok_passed checks a all.1)
+
+-- of two tables, one after the other: the first refuses, whatever the answer would be; else it is the second's
+pub answer-in_order : {A B : Type 0} (checks more : List Check) (a : A) (b : B)
+    → answer (checks ++ more) b ≡ result_and (answer checks a) (answer more b)
+answer-in_order [] more a b = refl
+answer-in_order (c ∷ checks) more a b = go c.applies (answer-in_order checks more a b)
+  where
+    go : (applies : Bool) → answer (checks ++ more) b ≡ result_and (answer checks a) (answer more b)
+        → cond applies (Err (refused_at c.number c.place)) (answer (checks ++ more) b)
+        ≡ result_and (cond applies (Err (refused_at c.number c.place)) (answer checks a)) (answer more b)
+    go true rest = refl
     go false rest = rest

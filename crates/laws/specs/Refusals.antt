@@ -1,5 +1,5 @@
 -- Refusals as tables: each check has a number, whether it applies, and a place; the first that applies is given.
-use Rattle.std.specs.Prelude.{ℕ, Bool, cond, List, [], ◌∷◌, eqb}
+use Rattle.std.specs.Prelude.{ℕ, Bool, cond, List, [], ◌∷◌, eqb, Result, Ok, Err}
 use Rattle.laws.specs.declared.Refusal.{Refusal}
 
 pub record Check : Type 0 where
@@ -29,3 +29,8 @@ given (c ∷ checks) = cond c.applies (refused_at c.number c.place) (given check
 -- a refusal, or another where there is none
 abbrev pub or_else : Refusal → Refusal → Refusal
 or_else one other = cond (eqb one.number 0) other one
+
+-- what a table lets through: the answer, or else the first that applies
+abbrev pub answer : {A : Type 0} → List Check → A → Result A Refusal
+answer [] a = Ok a
+answer (c ∷ checks) a = cond c.applies (Err (refused_at c.number c.place)) (answer checks a)

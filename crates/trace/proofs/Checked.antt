@@ -8,8 +8,9 @@ use lib.Dec.{eqb}
 use lib.ListN.{length}
 use borrow.Author.Tests.{eqb-true, ltb-false, not-false, eq-eqb, le-ltb}
 use Rattle.laws.specs.Search.{any}
-use Rattle.laws.specs.Refusals.{given}
-use Rattle.laws.proofs.Refusals.{Numbered, Passed, passed}
+use Rattle.std.specs.Prelude.{Ok}
+use Rattle.laws.specs.Refusals.{answer}
+use Rattle.laws.proofs.Refusals.{Passed, Numbered, passed_ok}
 use Rattle.trace.specs.Limits.{max_samples}
 use Rattle.trace.specs.Trace.{bad_level, trace_checks, Rising}
 use Rattle.trace.proofs.Pairs.{rising, rising-back}
@@ -34,9 +35,10 @@ from-checks stamps levels all =
       rises = rising stamps all.1.1.1.0;
     }
 
-pub checked : (stamps levels : List ℕ) → (given (trace_checks stamps levels)).number ≡ 0 → Checked stamps levels
-checked stamps levels unrefused =
-    from-checks stamps levels (passed (trace_checks stamps levels) (trace-numbered stamps levels) unrefused)
+pub checked : {A : Type 0} (stamps levels : List ℕ) (a b : A)
+    → answer (trace_checks stamps levels) a ≡ Ok b → Checked stamps levels
+checked stamps levels a b passed =
+    from-checks stamps levels (passed_ok (trace_checks stamps levels) a b passed)
 
 -- and the other way round
 pub to-checks : {stamps levels : List ℕ} → Checked stamps levels → Passed (trace_checks stamps levels)

@@ -2,10 +2,10 @@
 #![tactic(auto)]
 
 ghost use Rattle.std.specs.Prelude.{◌≡◌};
-ghost use Rattle.laws.specs.Refusals.{given, refused_at};
+ghost use Rattle.laws.specs.Refusals.{answer};
 ghost use Rattle.trace.specs.Trace.{trace_checks};
 
-use laws::Refusal;
+use laws::{Refusal, refused};
 
 pub mod search; // search.rt: the first bad level and the first bad stamp
 
@@ -29,16 +29,9 @@ pub const STOP: u16 = 514;
 
 pub const PARTIAL: u16 = 515;
 
-// A refusal's number and place.
-fn refused(number: u8, place: usize) -> Refusal
-    ensures { result ≡ refused_at number place }
-{
-    Refusal { number, place }
-}
-
 // The first of 5, 6, 4 and 7 that applies to stamps and levels.
-pub fn check(stamps: &[u32], levels: &[u8]) -> Refusal
-    ensures { result ≡ given (trace_checks stamps.now levels.now) }
+pub fn check(stamps: &[u32], levels: &[u8]) -> Result<(), Refusal>
+    ensures { result ≡ answer (trace_checks stamps.now levels.now) tt }
 {
     if stamps.len() != levels.len() {
         return refused(5, 0);
@@ -54,5 +47,5 @@ pub fn check(stamps: &[u32], levels: &[u8]) -> Refusal
     if stamp < stamps.len() {
         return refused(7, stamp);
     }
-    refused(0, 0)
+    Ok(())
 }

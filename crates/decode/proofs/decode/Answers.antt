@@ -1,39 +1,26 @@
 -- `decode` tests in 01's order, and then writes.
-use mathlib.Core.Path.{refl, sym, ap, ◌∙◌}
-use borrow.Author.Tests.{ne_eqb, ltb-false}
-use Rattle.laws.specs.declared.Refusal.{Refusal}
-use Rattle.trace.proofs.Checked.{checked}
-use Rattle.decode.proofs.Reply.{trace-refused, room-refused, read_all}
+use Rattle.std.proofs.Common.{sym, ◌∙◌, true, false, length, refl}
+use Rattle.std.proofs.lemmas.Result.{err_from_is_err_and}
+use Rattle.decode.proofs.Reply.{in_order}
 use Rattle.decode.proofs.decode.Goals as goal
 
-pub returns-then-refusal-ne0 : goal.returns-then-refusal-ne0
-returns-then-refusal-ne0 c = record {
-  answer = trace-refused _ _ _ c.check-refusal.result c.check-refusal.ensures c.if-refusal-ne0.true;
-  buffer = rw
-      (ne_eqb _ 0 c.if-refusal-ne0.true);
-}
+pub returns-in_err-check-clause-answer : goal.returns-in_err-check-clause-answer
+returns-in_err-check-clause-answer c =
+    let p = err_from_is_err_and c.from_residual.result c.from_residual.ensures.1 in
+    let first = sym c.check.ensures ∙ c.in_err-check.was in
+    rw (p.1, p.2, in_order c.args.stamps.now c.args.levels.now (length c.args.events.now), first) refl
 
-pub short-requires : goal.short-requires
-short-requires c =
-    let args = c.args in
-    (checked args.stamps.now args.levels.now
-    (sym (ap (λ (r : Refusal). r.number) c.check-refusal.ensures) ∙ c.if-refusal-ne0.false)
-    ).few
+-- src/lib.rt:55:9
+pub returns-then-short-clause-answer : goal.returns-then-short-clause-answer
+returns-then-short-clause-answer c =
+    let first = sym c.check.ensures ∙ c.in_ok-check.was in
+    let short = sym c.short.ensures ∙ c.if-short.true in
+    rw (c.refused.ensures, in_order c.args.stamps.now c.args.levels.now (length c.args.events.now), first, short) refl
 
-pub returns-then-short : goal.returns-then-short
-returns-then-short c = record {
-  answer = room-refused _ _ _ c.check-refusal.result c.check-refusal.ensures c.if-refusal-ne0.false
-      (sym c.short.ensures ∙ c.if-short.true);
-  buffer = refl;
-}
-
-pub write_events-written-requires : goal.write_events-written-requires
-write_events-written-requires c = ltb-false _ _ (sym c.short.ensures ∙ c.if-short.false)
-
-pub returns : goal.returns
-returns c =
-    let wrote = c.write_events-written.ensures in record {
-      answer = read_all _ _ _ c.check-refusal.result c.check-refusal.ensures c.if-refusal-ne0.false _ _
-          (sym c.short.ensures ∙ c.if-short.false) wrote.last wrote.number;
-      buffer = wrote.stored;
-    }
+-- src/lib.rt:49:1
+pub returns-clause-answer : goal.returns-clause-answer
+returns-clause-answer c =
+    let first = sym c.check.ensures ∙ c.in_ok-check.was in
+    let enough = sym c.short.ensures ∙ c.if-short.false in
+    let wrote = c.write_events-written.ensures in
+    rw (wrote.last, wrote.number, in_order c.args.stamps.now c.args.levels.now (length c.args.events.now), first, enough) refl

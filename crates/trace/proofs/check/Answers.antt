@@ -1,16 +1,10 @@
 -- Each return is the first check of the table that applies.
-use borrow.Author.Tests.{eq-eqb, ne_eqb, lt-ltb, le-ltb}
+use mathlib.Core.Path.{refl}
+use borrow.Author.Tests.{eq-eqb, lt-ltb, le-ltb}
 use Rattle.laws.proofs.Search.{any-first}
 use Rattle.trace.specs.Trace.{bad_level}
 use Rattle.trace.proofs.Pairs.{bad-within}
 use Rattle.trace.proofs.check.Goals as goal
-
-pub returns-then-stamps-levels : goal.returns-then-stamps-levels
-returns-then-stamps-levels c = rw (ne_eqb _ _ c.if-stamps-levels.true) c.refused.ensures
-
-pub returns-then-levels-gt-MAX_SAMPLES : goal.returns-then-levels-gt-MAX_SAMPLES
-returns-then-levels-gt-MAX_SAMPLES c = rw (eq-eqb _ _ c.if-stamps-levels.false, lt-ltb _ _ c.if-levels-gt-MAX_SAMPLES.true)
-    c.refused-then-levels-gt-MAX_SAMPLES.ensures
 
 pub returns-then-level-levels : goal.returns-then-level-levels
 returns-then-level-levels c =
@@ -29,4 +23,4 @@ pub returns : goal.returns
 returns c = rw (eq-eqb _ _ c.if-stamps-levels.false, le-ltb _ _ c.if-levels-gt-MAX_SAMPLES.false)
     (rw (any-first bad_level c.args.levels.now, ← c.bad_level-level.ensures)
     (rw (le-ltb _ _ c.if-level-levels.false, bad-within c.args.stamps.now)
-    (rw (← c.bad_stamp-stamp.ensures, le-ltb _ _ c.if-stamp-stamps.false) c.refused-2.ensures)))
+    (rw (← c.bad_stamp-stamp.ensures, le-ltb _ _ c.if-stamp-stamps.false) refl)))
