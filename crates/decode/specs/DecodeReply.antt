@@ -1,5 +1,5 @@
 -- What decode answers, refusals in 01's order, and what the lent slice holds after it.
-use Rattle.std.specs.Prelude.{ℕ, List, [], ◌∷◌, ◌++◌, ltb, length, Result, Ok, Err}
+use Rattle.std.specs.Prelude.{ℕ, Bool, List, [], ◌∷◌, ◌++◌, ltb, length, Result, Ok, Err}
 use mir.Val.{bool_byte}
 use Rattle.decode.specs.declared.Decoded.{Decoded}
 use Rattle.laws.specs.Buffer.{filled}
@@ -12,16 +12,18 @@ use Rattle.decode.specs.Decode.{events, final}
 abbrev pub decode_checks : List ℕ → List ℕ → ℕ → List Check
 decode_checks stamps levels room = trace_checks stamps levels ++ check 8 (ltb room (length (events levels))) ∷ []
 
--- the first of them that applies, else what the levels mean
+-- how many events, whether a frame is open, how many bits are pending, and their value
+abbrev pub reading : ℕ → Bool → ℕ → ℕ → Decoded
+reading count framed pending value =
+    record { count = count; framed = framed; pending = pending; value = value }
+
+-- what the levels mean
+abbrev pub meant : List ℕ → Decoded
+meant levels = reading (length (events levels)) (final levels).framed (final levels).pending (final levels).value
+
+-- the first check that applies, else what the levels mean
 unfoldable pub decoded : List ℕ → List ℕ → ℕ → Result Decoded Refusal
-decoded stamps levels room =
-    answer (decode_checks stamps levels room)
-    (record {
-      count = length (events levels);
-      framed = (final levels).framed;
-      pending = (final levels).pending;
-      value = (final levels).value;
-    })
+decoded stamps levels room = answer (decode_checks stamps levels room) (meant levels)
 
 -- 01's numbers of an answer: the refusal (0: none) and its place, the event count, whether a frame is open (1) or not,
 -- how many bits are pending, and their value; in a refused answer all others are 0

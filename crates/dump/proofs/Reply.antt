@@ -8,55 +8,25 @@ use borrow.Author.Tests.{eq-eqb, ne_eqb, lt-ltb, le-ltb}
 use lib.Dec.{eqb, ltb}
 use lib.ListN.{length, drop}
 use lib.Seq.{sets-eq}
-use Rattle.laws.specs.declared.Refusal.{Refusal}
 use Rattle.laws.specs.Buffer.{filled}
-use Rattle.laws.specs.Refusals.{Check, check, given, or_else}
-use Rattle.laws.proofs.Refusals.{in_parts}
+use Rattle.std.specs.Result.{result_and}
+use Rattle.laws.specs.Refusals.{Check, check, answer}
+use Rattle.laws.proofs.Refusals.{answer-in_order}
 use Rattle.trace.specs.Trace.{trace_checks}
-use Rattle.trace.proofs.Checked.{trace-numbered}
 use Rattle.text.specs.Output.{Put}
-use Rattle.dump.specs.declared.Dumped.{Dumped}
-use Rattle.dump.specs.declared.Dumped.TheVariants.{Written, Refused}
 use Rattle.dump.specs.Text.{dump_text}
 use Rattle.dump.specs.Dumped.{dumped}
 
-module _ (stamps levels : List ℕ) (room : ℕ) (refusal : Refusal) (is : refusal ≡ given (trace_checks stamps levels)) where
+module _ (stamps levels : List ℕ) (room : ℕ) where
   -- the checks after the trace's
-  abbrev others : List Check
+  abbrev pub others : List Check
   others = check 19 (eqb (length levels) 0) ∷ check 8 (ltb room (length (dump_text stamps levels))) ∷ []
 
-  -- an answer by the refusal
-  abbrev by : Refusal → Dumped
-  by found =
-      cond (eqb found.number 0) (Written (length (dump_text stamps levels))) (Refused found.number found.place)
-
-  answered : dumped stamps levels room ≡ by (or_else refusal (given others))
+  -- 19 and 8 come after all others
+  pub in_order : dumped stamps levels room
+      ≡ result_and (answer (trace_checks stamps levels) (tt {0})) (answer others (length (dump_text stamps levels)))
   unfolding dumped
-  answered =
-      ap by (in_parts (trace_checks stamps levels) others (trace-numbered stamps levels)
-      ∙ ap (λ (first : Refusal). or_else first (given others)) (sym is))
-
-  pub trace-refused : (refusal.number ≡ 0 → ⊥)
-      → Refused refusal.number refusal.place ≡ dumped stamps levels room
-  trace-refused some = rw answered (rw (ne_eqb refusal.number 0 some) (rw (ne_eqb refusal.number 0 some)))
-
-  module _ (none : refusal.number ≡ 0) where
-    pub empty-refused : length levels ≡ 0 → Refused 19 0 ≡ dumped stamps levels room
-    empty-refused empty = rw answered (rw (eq-eqb refusal.number 0 none, eq-eqb (length levels) 0 empty))
-
-    module _ (some : length levels ≡ 0 → ⊥) where
-      pub room-refused : room < length (dump_text stamps levels) → Refused 8 0 ≡ dumped stamps levels room
-      room-refused short =
-          rw answered
-          (rw (eq-eqb refusal.number 0 none, ne_eqb (length levels) 0 some)
-          (rw (lt-ltb room (length (dump_text stamps levels)) short)))
-
-      pub all-written : length (dump_text stamps levels) ≤ room
-          → Written (length (dump_text stamps levels)) ≡ dumped stamps levels room
-      all-written enough =
-          rw answered
-          (rw (eq-eqb refusal.number 0 none, ne_eqb (length levels) 0 some)
-          (rw (le-ltb room (length (dump_text stamps levels)) enough)))
+  in_order = answer-in_order (trace_checks stamps levels) others (tt {0}) (length (dump_text stamps levels))
 
 -- a text put where there is room for it
 module _ (old text new : List ℕ) (next : ℕ) (put : Put old 0 text new next) (enough : length text ≤ length old) where

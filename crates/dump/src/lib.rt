@@ -6,15 +6,10 @@ ghost use Rattle.text.specs.Output.{Put};
 ghost use Rattle.dump.specs.Text.{dump_text};
 ghost use Rattle.dump.specs.Dumped.{dumped, text_after};
 
+use laws::{Refusal, refused};
+
 mod lines; // lines.rt: the lines of one sample
 mod writer; // writer.rt: the text from a byte on, put into a slice
-
-// The answer of dump: how many bytes it wrote, or a refusal.
-#[derive(Clone, Copy)]
-pub enum Dumped {
-    Written(usize),
-    Refused { number: u8, place: usize },
-}
 
 // The text from byte `from` on, as much of it as `out` has room for; answers how many bytes those are. The rest of
 // `out` stays.
@@ -26,31 +21,20 @@ pub fn piece(stamps: &[u32], levels: &[u8], from: usize, out: &mut [u8]) -> usiz
     point.at
 }
 
-// The whole text. 19 comes after 5, 6, 4 and 7 and before 8; a refusal leaves the slice as it was.
-pub fn dump(stamps: &[u32], levels: &[u8], out: &mut [u8]) -> Dumped
+// The whole text, and how many bytes it has. 19 comes after 5, 6, 4 and 7 and before 8; a refusal leaves the slice as it
+// was.
+pub fn dump(stamps: &[u32], levels: &[u8], out: &mut [u8]) -> Result<usize, Refusal>
     ensures answer { result ≡ dumped
         stamps.now levels.now (length out.old) }
     ensures buffer { out.new ≡ text_after result
         stamps.now levels.now out.old }
 {
-    let refusal = trace::check(stamps, levels);
-    if refusal.number != 0 {
-        return Dumped::Refused {
-            number: refusal.number,
-            place: refusal.place,
-        };
-    }
+    trace::check(stamps, levels)?;
     if levels.len() == 0 {
-        return Dumped::Refused {
-            number: 19,
-            place: 0,
-        };
+        return refused(19, 0);
     }
     if out.len() < writer::text_length(stamps, levels) {
-        return Dumped::Refused {
-            number: 8,
-            place: 0,
-        };
+        return refused(8, 0);
     }
-    Dumped::Written(piece(stamps, levels, 0, out))
+    Ok(piece(stamps, levels, 0, out))
 }

@@ -107,6 +107,16 @@ pub ok_passed : {A : Type 0} (checks : List Check) (a : A) → Passed checks →
 ok_passed [] a all = refl
 ok_passed (c ∷ checks) a all = rw all.0 (ok_passed checks a all.1)
 
+-- and it is the answer that comes out
+pub ok_same : {A : Type 0} (checks : List Check) (a b : A) → answer checks a ≡ Ok b → a ≡ b
+ok_same [] a b is = cc
+ok_same (c ∷ checks) a b is = go c.applies is (ok_same checks a b)
+  where
+    go : (applies : Bool) → cond applies (Err (refused_at c.number c.place)) (answer checks a) ≡ Ok b
+        → (answer checks a ≡ Ok b → a ≡ b) → a ≡ b
+    go true is rest = absurd (ok_or_err is)
+    go false is rest = rest is
+
 -- of two tables, one after the other: the first refuses, whatever the answer would be; else it is the second's
 pub answer-in_order : {A B : Type 0} (checks more : List Check) (a : A) (b : B)
     → answer (checks ++ more) b ≡ result_and (answer checks a) (answer more b)

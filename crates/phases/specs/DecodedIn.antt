@@ -1,10 +1,11 @@
 -- What decode answers in a mode: 18 after 5, 6, 4 and 7 and before 8.
-use Rattle.std.specs.Prelude.{ℕ, cond, List, [], ◌∷◌, ◌++◌, eqb, ltb, length}
-use Rattle.laws.specs.Refusals.{Check, check, check_at, given}
+use Rattle.std.specs.Prelude.{ℕ, List, [], ◌∷◌, ◌++◌, ltb, length, Result}
+use Rattle.laws.specs.declared.Refusal.{Refusal}
+use Rattle.laws.specs.Refusals.{Check, check, check_at, answer}
 use Rattle.trace.specs.Trace.{trace_checks}
 use Rattle.decode.specs.declared.Decoded.{Decoded}
-use Rattle.decode.specs.declared.Decoded.TheVariants.{Events, Refused}
-use Rattle.decode.specs.Decode.{events, final}
+use Rattle.decode.specs.Decode.{events}
+use Rattle.decode.specs.DecodeReply.{meant}
 use Rattle.phases.specs.declared.Mode.{Mode}
 use Rattle.phases.specs.Phases.{first_short}
 
@@ -21,9 +22,5 @@ checks_in mode stamps levels room =
     ∷ []
 
 -- the first of them that applies, else what the levels mean
-unfoldable pub decoded_in : Mode → List ℕ → List ℕ → ℕ → Decoded
-decoded_in mode stamps levels room =
-    let refusal = given (checks_in mode stamps levels room) in
-    cond (eqb refusal.number 0)
-    (Events (length (events levels)) (final levels).framed (final levels).pending (final levels).value)
-    (Refused refusal.number refusal.place)
+unfoldable pub decoded_in : Mode → List ℕ → List ℕ → ℕ → Result Decoded Refusal
+decoded_in mode stamps levels room = answer (checks_in mode stamps levels room) (meant levels)

@@ -6,6 +6,7 @@ ghost use Rattle.decode.specs.DecodeReply.{events_after};
 ghost use Rattle.phases.specs.DecodedIn.{decoded_in};
 
 use decode::Decoded;
+use laws::{Refusal, refused};
 
 mod phase; // phase.rt: the phases of SCL, and the first sample that ends a short one
 
@@ -20,21 +21,20 @@ pub enum Mode {
 
 // The events of a trace read in a mode. 18 comes after 5, 6, 4 and 7 and before 8; a refusal leaves the slice as it
 // was.
-pub fn decode_in(mode: Mode, stamps: &[u32], levels: &[u8], events: &mut [u16]) -> Decoded
+pub fn decode_in(
+    mode: Mode,
+    stamps: &[u32],
+    levels: &[u8],
+    events: &mut [u16],
+) -> Result<Decoded, Refusal>
     ensures answer { result ≡ decoded_in mode stamps.now levels.now
         (length events.old) }
     ensures buffer { events.new ≡ events_after result levels.now events.old }
 {
-    let refusal = trace::check(stamps, levels);
-    if refusal.number != 0 {
-        return Decoded::Refused {
-            number: refusal.number,
-            place: refusal.place,
-        };
-    }
+    trace::check(stamps, levels)?;
     let place = phase::first_short(mode, stamps, levels);
     if place < levels.len() {
-        return Decoded::Refused { number: 18, place };
+        return refused(18, place);
     }
     decode::decode(stamps, levels, events)
 }

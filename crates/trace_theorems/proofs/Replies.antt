@@ -9,22 +9,22 @@ use lib.ListN.{length, take}
 use lib.Seq.{take_at}
 use borrow.Author.Tests.{ne_eqb, le-ltb, eqb-true, eqb-false, ltb-false, not-false}
 use Rattle.laws.specs.Buffer.{filled}
-use Rattle.laws.specs.Refusals.{Check, check, given}
+use Rattle.std.specs.Prelude.{Ok}
+use Rattle.laws.specs.Refusals.{Check, check}
 use Rattle.laws.proofs.Bools.{neither}
-use Rattle.laws.proofs.Refusals.{Numbered, Passed, passed, unrefused, numbered-both, passed_first, passed-both}
+use Rattle.laws.proofs.Refusals.{Passed, passed_first, passed-both, passed_ok, ok_passed, ok_same}
 use Rattle.trace.specs.Limits.{max_samples, max_gap, largest_stamp}
 use Rattle.trace.specs.Trace.{trace_checks, Rising}
 use Rattle.trace.proofs.Pairs.{rising}
-use Rattle.trace.proofs.Checked.{Checked, trace-numbered, from-checks, to-checks}
-use Rattle.encode.specs.declared.Encoded.TheVariants.{Drawn, Refused as NotDrawn}
+use Rattle.trace.proofs.Checked.{Checked, from-checks, to-checks}
 use Rattle.encode.specs.Complete.{complete}
 use Rattle.encode.specs.Encode.{drawing, sample_count, stamps_from, last_stamp}
 use Rattle.encode.specs.EncodeReply.{encode_checks, encoded, stamps_after, levels_after}
 use Rattle.encode.proofs.Stamps.{length-stamps}
 use Rattle.encode.proofs.Samples.{drawing-length}
-use Rattle.decode.specs.declared.Decoded.TheVariants.{Events, Refused}
+use Rattle.decode.specs.declared.Decoded.{Decoded}
 use Rattle.decode.specs.Decode.{events, final}
-use Rattle.decode.specs.DecodeReply.{decode_checks, decoded, events_after}
+use Rattle.decode.specs.DecodeReply.{decode_checks, reading, meant, decoded, events_after}
 use Rattle.trace_theorems.proofs.Drawings.{drawing-legal, stamps-rise}
 use Rattle.trace_theorems.proofs.ReadBack.{events-back, frame_closed, none-pending, value-zero}
 use Rattle.trace_theorems.proofs.Redraw.{redraw-limit}
@@ -36,29 +36,17 @@ pub record Accepted (list : List ℕ) (gap count : ℕ) : Type 0 where
   pub few : sample_count list ≤ max_samples
   pub counted : sample_count list ≡ count
 
-encode-numbered : (list : List ℕ) (start gap stamp_room level_room : ℕ)
-    → Numbered (encode_checks list start gap stamp_room level_room)
-encode-numbered list start gap stamp_room level_room =
-    ((λ e. omega arith), ((λ e. omega arith), ((λ e. omega arith), ((λ e. omega arith), ((λ e. omega arith), tt)))))
-
-drawn-count : (none : Bool) (number samples count : ℕ) → cond none (Drawn samples) (NotDrawn number) ≡ Drawn count
-    → (none ≡ true) × (samples ≡ count)
-drawn-count true number samples count reply = (refl, cc)
-drawn-count false number samples count reply = let never : ◌≡◌ {A = ℕ} 0 1 = cc in absurd (omega arith)
-
 pub accepted : (list : List ℕ) (start gap stamp_room level_room count : ℕ)
-    → encoded list start gap stamp_room level_room ≡ Drawn count → Accepted list gap count
+    → encoded list start gap stamp_room level_room ≡ Ok count → Accepted list gap count
 unfolding encoded
 accepted list start gap stamp_room level_room count reply =
     let checks = encode_checks list start gap stamp_room level_room in
-    let found = drawn-count (eqb (given checks).number 0) (given checks).number (sample_count list) count reply in
-    let all = passed checks (encode-numbered list start gap stamp_room level_room)
-    (eqb-true (given checks).number 0 found.0) in
+    let all = passed_ok checks (sample_count list) count reply in
     record {
       whole = not-false (complete list) all.0;
       positive = omega (arith, eqb-false gap 0 (neither (eqb gap 0) (ltb max_gap gap) all.1.0).0);
       few = ltb-false max_samples (sample_count list) all.1.1.0;
-      counted = found.1;
+      counted = ok_same checks (sample_count list) count reply;
     }
 
 -- decode's last check
@@ -70,55 +58,42 @@ pub record Taken (stamps levels : List ℕ) (count : ℕ) : Type 0 where
   pub trace : Checked stamps levels
   pub counted : length (events levels) ≡ count
 
-module _ (stamps levels : List ℕ) (room count : ℕ) (framed : Bool) (pending value : ℕ) where
-  read_count : (none : Bool) (number place : ℕ) → cond none
-      (Events (length (events levels)) (final levels).framed (final levels).pending (final levels).value)
-      (Refused number place) ≡ Events count framed pending value → (none ≡ true) × (length (events levels) ≡ count)
-  read_count true number place reply = (refl, cc)
-  read_count false number place reply = let never : ◌≡◌ {A = ℕ} 0 1 = cc in absurd (omega arith)
-
-  pub taken : decoded stamps levels room ≡ Events count framed pending value → Taken stamps levels count
+module _ (stamps levels : List ℕ) (room : ℕ) (read : Decoded) where
+  pub taken : decoded stamps levels room ≡ Ok read → Taken stamps levels read.count
   unfolding decoded
   taken reply =
       let checks = decode_checks stamps levels room in
-      let found = read_count (eqb (given checks).number 0) (given checks).number (given checks).place reply in
-      let numbered : Numbered checks =
-      numbered-both (trace_checks stamps levels) (room_check levels room) (trace-numbered stamps levels)
-      ((λ e. omega arith), tt) in
-      let all = passed checks numbered (eqb-true (given checks).number 0 found.0) in
       record {
         trace = from-checks stamps levels (passed_first (trace_checks stamps levels) (room_check levels room)
-            all);
-        counted = found.1;
+            (passed_ok checks (meant levels) read reply));
+        counted = ap (λ (d : Decoded). d.count) (ok_same checks (meant levels) read reply);
       }
 
 -- a trace that is read rises at every sample
-pub read-rises : (stamps levels : List ℕ) (room count : ℕ) (framed : Bool) (pending value : ℕ)
-    → decoded stamps levels room ≡ Events count framed pending value → Rising stamps
-read-rises stamps levels room count framed pending value reply =
-    (taken stamps levels room count framed pending value reply).trace.rises
+pub read-rises : (stamps levels : List ℕ) (room : ℕ) (read : Decoded)
+    → decoded stamps levels room ≡ Ok read → Rising stamps
+read-rises stamps levels room read reply = (taken stamps levels room read reply).trace.rises
 
 -- decode replies with the events of each trace for which there is room
 pub reads : (stamps levels : List ℕ) (room : ℕ) → Checked stamps levels → length (events levels) ≤ room
-    → decoded stamps levels room
-    ≡ Events (length (events levels)) (final levels).framed (final levels).pending (final levels).value
+    → decoded stamps levels room ≡ Ok (meant levels)
 unfolding decoded
 reads stamps levels room trace fits =
     let all =
     passed-both (trace_checks stamps levels) (room_check levels room) (to-checks trace)
     (le-ltb room (length (events levels)) fits, tt) in
-    rw (unrefused (decode_checks stamps levels room) all)
+    ok_passed (decode_checks stamps levels room) (meant levels) all
 
 -- what encode leaves in the slices that it was lent, decode reads back into a slice: the same list, with no frame open
 -- and nothing pending, and the rest of that slice as it was
 module _ (list stamps levels buffer : List ℕ) (start gap count : ℕ)
-    (reply : encoded list start gap (length stamps) (length levels) ≡ Drawn count)
+    (reply : encoded list start gap (length stamps) (length levels) ≡ Ok count)
     (fits : length list ≤ length buffer) where
   abbrev drawn_stamps : List ℕ
-  drawn_stamps = take count (stamps_after (Drawn count) start gap stamps)
+  drawn_stamps = take count (stamps_after (Ok count) start gap stamps)
 
   abbrev drawn_levels : List ℕ
-  drawn_levels = take count (levels_after (Drawn count) list levels)
+  drawn_levels = take count (levels_after (Ok count) list levels)
 
   found : Accepted list gap count
   found = accepted list start gap (length stamps) (length levels) count reply
@@ -139,7 +114,7 @@ module _ (list stamps levels buffer : List ℕ) (start gap count : ℕ)
         rises = rising (stamps_from start gap count) (stamps-rise count start gap found.positive);
       }
 
-  pub drawn-reads-back : decoded drawn_stamps drawn_levels (length buffer) ≡ Events (length list) false 0 0
+  pub drawn-reads-back : decoded drawn_stamps drawn_levels (length buffer) ≡ Ok (reading (length list) false 0 0)
   drawn-reads-back =
       let whole = found.whole in
       rw (stamps_are, levels_are)
@@ -152,23 +127,23 @@ module _ (list stamps levels buffer : List ℕ) (start gap count : ℕ)
 
 -- a complete list that decode leaves in the slice that it was lent is drawn: from stamp 0 with gap 1 in room for 4,096
 -- samples with no condition, and from any start, gap and room that allow it
-module _ (stamps levels buffer : List ℕ) (count : ℕ) (framed : Bool) (pending value : ℕ)
-    (reply : decoded stamps levels (length buffer) ≡ Events count framed pending value) where
+module _ (stamps levels buffer : List ℕ) (read : Decoded)
+    (reply : decoded stamps levels (length buffer) ≡ Ok read) where
   abbrev read_events : List ℕ
-  read_events = take count (events_after (Events count framed pending value) levels buffer)
+  read_events = take read.count (events_after (Ok read) levels buffer)
 
   events-are : read_events ≡ events levels
   events-are =
-      take_at (events levels) _ count (taken stamps levels (length buffer) count framed pending value reply).counted
+      take_at (events levels) _ read.count (taken stamps levels (length buffer) read reply).counted
 
   module _ (whole : complete read_events ≡ true) where
     pub read-is-drawn : (start gap stamp_room level_room : ℕ) → 0 < gap → gap ≤ max_gap
         → last_stamp start gap (sample_count read_events) ≤ largest_stamp
         → sample_count read_events ≤ stamp_room → sample_count read_events ≤ level_room
-        → encoded read_events start gap stamp_room level_room ≡ Drawn (sample_count read_events)
+        → encoded read_events start gap stamp_room level_room ≡ Ok (sample_count read_events)
     unfolding encoded
     read-is-drawn start gap stamp_room level_room positive small in-time stamps-fit levels-fit =
-        let trace = (taken stamps levels (length buffer) count framed pending value reply).trace in
+        let trace = (taken stamps levels (length buffer) read reply).trace in
         let few : sample_count read_events ≤ max_samples =
         rw events-are (redraw-limit levels trace.few (rw events-are at whole)) in
         let all : Passed (encode_checks read_events start gap stamp_room level_room) = (
@@ -184,11 +159,11 @@ module _ (stamps levels buffer : List ℕ) (count : ℕ) (framed : Bool) (pendin
             ),
           ),
         ) in
-        rw (unrefused (encode_checks read_events start gap stamp_room level_room) all)
+        ok_passed (encode_checks read_events start gap stamp_room level_room) (sample_count read_events) all
 
-    pub drawable : encoded read_events 0 1 max_samples max_samples ≡ Drawn (sample_count read_events)
+    pub drawable : encoded read_events 0 1 max_samples max_samples ≡ Ok (sample_count read_events)
     drawable =
-        let trace = (taken stamps levels (length buffer) count framed pending value reply).trace in
+        let trace = (taken stamps levels (length buffer) read reply).trace in
         let few : sample_count read_events ≤ max_samples =
         rw events-are (redraw-limit levels trace.few (rw events-are at whole)) in
         read-is-drawn 0 1 max_samples max_samples (omega arith) (omega arith) (omega (arith, few)) few few

@@ -1,52 +1,41 @@
 -- `dump::dump` meets its contract: each return is the first check that applies, and the last is a piece from byte 0.
-use mathlib.Core.Path.{refl, sym, ap, ◌∙◌}
-use Prim.Native.Nat.{ℕ, ◌≤◌}
-use native.Mathlib.Omega.{arith}
-use lib.ListN.{length}
-use Rattle.laws.specs.declared.Refusal.{Refusal}
-use Rattle.trace.proofs.Checked.{checked}
-use Rattle.dump.specs.declared.Dumped.TheVariants.{Written}
+use Rattle.std.proofs.Common.{sym, ◌∙◌, refl, length, ◌≤◌, arith, ap, ℕ, Ok}
+use Rattle.std.proofs.lemmas.Result.{err_from_is_err_and}
+use borrow.Author.Tests.{eq-eqb, ne_eqb, lt-ltb, le-ltb}
 use Rattle.dump.specs.Text.{dump_text}
-use Rattle.dump.proofs.Reply.{trace-refused, empty-refused, room-refused, all-written, put_count, put-filled}
+use Rattle.dump.proofs.Reply.{in_order, put_count, put-filled}
 use Rattle.dump.proofs.dump.Goals as goal
 
-pub returns-then-refusal-ne0 : goal.returns-then-refusal-ne0
-returns-then-refusal-ne0 c = record {
-  answer = trace-refused _ _ _ c.check-refusal.result c.check-refusal.ensures c.if-refusal-ne0.true;
-  buffer = refl;
-}
+pub returns-in_err-check-clause-answer : goal.returns-in_err-check-clause-answer
+returns-in_err-check-clause-answer c =
+    let p = err_from_is_err_and c.from_residual.result c.from_residual.ensures.1 in
+    let first = sym c.check.ensures ∙ c.in_err-check.was in
+    rw (p.1, p.2, in_order c.args.stamps.now c.args.levels.now (length c.args.out.now), first) refl
 
-pub returns-then-levels-eq0 : goal.returns-then-levels-eq0
-returns-then-levels-eq0 c =
-    let check = c.check-refusal in
-    record {
-      answer = empty-refused _ _ _ check.result check.ensures c.if-refusal-ne0.false c.if-levels-eq0.true;
-      buffer = refl;
-    }
+pub returns-then-levels-eq0-clause-answer : goal.returns-then-levels-eq0-clause-answer
+returns-then-levels-eq0-clause-answer c =
+    let first = sym c.check.ensures ∙ c.in_ok-check.was in
+    let none = eq-eqb _ _ c.if-levels-eq0.true in
+    rw (c.refused.ensures, in_order c.args.stamps.now c.args.levels.now (length c.args.out.now), first, none) refl
 
-pub text_length-requires : goal.text_length-requires
-text_length-requires c =
-    let args = c.args in
-    let unrefused = sym (ap (λ (r : Refusal). r.number) c.check-refusal.ensures) ∙ c.if-refusal-ne0.false in
-    (checked args.stamps.now args.levels.now unrefused).few
-
-pub returns-then-out-text_length : goal.returns-then-out-text_length
-returns-then-out-text_length c =
-    let check = c.check-refusal in
-    let short = rw c.text_length.ensures at c.if-out-text_length.true in
-    record {
-      answer = room-refused _ _ _ check.result check.ensures c.if-refusal-ne0.false c.if-levels-eq0.false short;
-      buffer = refl;
-    }
+pub returns-then-out-text_length-clause-answer : goal.returns-then-out-text_length-clause-answer
+returns-then-out-text_length-clause-answer c =
+    let first = sym c.check.ensures ∙ c.in_ok-check.was in
+    let some = ne_eqb _ _ c.if-levels-eq0.false in
+    let short = lt-ltb _ _ (rw c.text_length.ensures at c.if-out-text_length.true) in
+    rw (c.refused-then-out-text_length.ensures, in_order c.args.stamps.now c.args.levels.now (length c.args.out.now),
+    first, some, short) refl
 
 pub returns : goal.returns
 returns c =
     let put = c.piece.ensures in
-    let check = c.check-refusal in
     let args = c.args in
     let text = dump_text args.stamps.now args.levels.now in
-    let enough : length text ≤ length args.out.now = omega (arith, c.if-out-text_length.false, c.text_length.ensures) in record {
-      answer = ap (λ (n : ℕ). Written n) (put_count _ text _ _ put enough)
-          ∙ all-written _ _ _ check.result check.ensures c.if-refusal-ne0.false c.if-levels-eq0.false enough;
+    let first = sym c.check.ensures ∙ c.in_ok-check.was in
+    let some = ne_eqb _ _ c.if-levels-eq0.false in
+    let enough : length text ≤ length args.out.now = omega (arith, c.if-out-text_length.false, c.text_length.ensures) in
+    let fits = le-ltb _ _ enough in record {
+      answer = rw (put_count _ text _ _ put enough, in_order args.stamps.now args.levels.now (length args.out.now),
+          first, some, fits) refl;
       buffer = put-filled _ text _ _ put enough;
     }
