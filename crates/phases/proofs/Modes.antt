@@ -10,16 +10,16 @@ use mir.Val.{bool_byte}
 use lib.Dec.{eqb, ltb}
 use lib.ListN.{length, take}
 use lib.Seq.{take_at}
-use borrow.Author.Tests.{eqb-true, eqb-false, ltb-true, ltb-false}
+use borrow.Author.Tests.{lt-ltb, ltb-true, ltb-false}
+use Rattle.std.specs.Prelude.{Result, Ok, Err}
 use Rattle.laws.specs.Buffer.{filled}
 use Rattle.laws.specs.declared.Refusal.{Refusal}
-use Rattle.laws.specs.Refusals.{given}
-use Rattle.laws.proofs.Refusals.{unrefused}
+use Rattle.laws.specs.Refusals.{refused_at, answer}
+use Rattle.laws.proofs.Refusals.{ok_passed}
 use Rattle.bits.specs.Positions.{is_set}
 use Rattle.trace.specs.Trace.{trace_checks, Rising}
 use Rattle.trace.proofs.Pairs.{rising}
 use Rattle.trace.proofs.Checked.{Checked, checked, to-checks}
-use Rattle.encode.specs.declared.Encoded.TheVariants.{Drawn}
 use Rattle.encode.specs.declared.Position.TheVariants.{Between}
 use Rattle.encode.specs.Complete.{Completes, ended, start, first}
 use Rattle.encode.specs.Encode.{bits_below, byte_bits, draw_bits, draw_event, draw_events, drawing, stamps_from}
@@ -28,16 +28,15 @@ use Rattle.encode.proofs.Grammar.{completes}
 use Rattle.encode.proofs.Samples.{drawing-length}
 use Rattle.encode.proofs.Stamps.{length-stamps}
 use Rattle.decode.specs.declared.Decoded.{Decoded}
-use Rattle.decode.specs.declared.Decoded.TheVariants.{Events, Refused}
-use Rattle.decode.specs.DecodeReply.{decoded, events_after}
-use Rattle.decode.proofs.Reply.{trace-refused as trace-refused-before}
+use Rattle.decode.specs.DecodeReply.{reading, decoded, events_after}
+use Rattle.decode.proofs.Reply.{in_order as in_order-before}
 use Rattle.trace_theorems.proofs.Drawings.{drawing-legal, stamps-rise}
 use Rattle.trace_theorems.proofs.Replies.{Accepted, accepted, drawn-reads-back, drawn-slice-holds}
 use Rattle.phases.specs.declared.Mode.{Mode}
 use Rattle.phases.specs.declared.Mode.TheVariants.{Unchecked, Standard, Fast}
 use Rattle.phases.specs.Phases.{least, first_short}
 use Rattle.phases.specs.DecodedIn.{decoded_in}
-use Rattle.phases.proofs.Reply.{trace-refused, short-refused, long-enough}
+use Rattle.phases.proofs.Reply.{in_order, long-enough}
 use Rattle.phases.proofs.Apart.{Apart, apart_none, stamps-apart, third-ends}
 
 -- ---- every mode: the reply as it was, or 18 with its place for a trace that decode does not refuse by 5, 6, 4 or 7
@@ -48,33 +47,26 @@ module _ (mode : Mode) (stamps levels : List ℕ) (room : ℕ) where
   pub record Short : Type 0 where
     pub trace : Checked stamps levels
     pub within : first_short mode stamps levels < length levels
-    pub reply : decoded_in mode stamps levels room ≡ Refused 18 (first_short mode stamps levels)
+    pub reply : decoded_in mode stamps levels room ≡ Err (refused_at 18 (first_short mode stamps levels))
 
   pub before-or-18 : AsBefore ⊎ Short
-  before-or-18 = go (eqb refusal.number 0) refl
+  before-or-18 = go (answer (trace_checks stamps levels) (tt {0})) refl
     where
-      refusal : Refusal
-      refusal = given (trace_checks stamps levels)
-
-      by_length : (short : Bool) → ltb (first_short mode stamps levels) (length levels) ≡ short → refusal.number ≡ 0
-          → AsBefore ⊎ Short
-      by_length true is none =
-          let less = ltb-true (first_short mode stamps levels) (length levels) is in
+      by_length : (u : Unit {0}) → answer (trace_checks stamps levels) (tt {0}) ≡ Ok u
+          → (short : Bool) → ltb (first_short mode stamps levels) (length levels) ≡ short → AsBefore ⊎ Short
+      by_length u passes true is =
           inr (record {
-            trace = checked stamps levels none;
-            within = less;
-            reply = sym (short-refused mode stamps levels room refusal refl none less);
+            trace = checked stamps levels tt u passes;
+            within = ltb-true (first_short mode stamps levels) (length levels) is;
+            reply = in_order mode stamps levels room ∙ rw (passes, is) refl;
           })
-      by_length false is none =
+      by_length u passes false is =
           inl (long-enough mode stamps levels room (ltb-false (first_short mode stamps levels) (length levels) is))
 
-      go : (none : Bool) → eqb refusal.number 0 ≡ none → AsBefore ⊎ Short
-      go true is =
-          by_length (ltb (first_short mode stamps levels) (length levels)) refl (eqb-true refusal.number 0 is)
-      go false is =
-          let some = eqb-false refusal.number 0 is in
-          inl (sym (trace-refused mode stamps levels room refusal refl some)
-          ∙ trace-refused-before stamps levels room refusal refl some)
+      go : (first : Result (Unit {0}) Refusal) → answer (trace_checks stamps levels) (tt {0}) ≡ first → AsBefore ⊎ Short
+      go (Ok u) is = by_length u is (ltb (first_short mode stamps levels) (length levels)) refl
+      go (Err refusal) is =
+          inl (in_order mode stamps levels room ∙ rw is (sym (in_order-before stamps levels room ∙ rw is refl)))
 
 -- ---- unchecked
 -- rising stamps are apart by no less than 0
@@ -117,12 +109,12 @@ begins _ (start (first {event} {events} byte rest)) some =
     }
 
 module _ (mode : Mode) (list stamps levels : List ℕ) (start gap count : ℕ)
-    (reply : encoded list start gap (length stamps) (length levels) ≡ Drawn count) where
+    (reply : encoded list start gap (length stamps) (length levels) ≡ Ok count) where
   abbrev drawn_stamps : List ℕ
-  drawn_stamps = take count (stamps_after (Drawn count) start gap stamps)
+  drawn_stamps = take count (stamps_after (Ok count) start gap stamps)
 
   abbrev drawn_levels : List ℕ
-  drawn_levels = take count (levels_after (Drawn count) list levels)
+  drawn_levels = take count (levels_after (Ok count) list levels)
 
   found : Accepted list gap count
   found = accepted list start gap (length stamps) (length levels) count reply
@@ -151,7 +143,7 @@ module _ (mode : Mode) (list stamps levels : List ℕ) (start gap count : ℕ)
         ))
 
     pub reads-back-in : (buffer : List ℕ) → length list ≤ length buffer
-        → decoded_in mode drawn_stamps drawn_levels (length buffer) ≡ Events (length list) false 0 0
+        → decoded_in mode drawn_stamps drawn_levels (length buffer) ≡ Ok (reading (length list) false 0 0)
     reads-back-in buffer fits =
         long-enough mode drawn_stamps drawn_levels (length buffer) enough
         ∙ drawn-reads-back list stamps levels buffer start gap count reply fits
@@ -159,13 +151,13 @@ module _ (mode : Mode) (list stamps levels : List ℕ) (start gap count : ℕ)
     pub slice-holds-in : (buffer : List ℕ) → length list ≤ length buffer
         → events_after (decoded_in mode drawn_stamps drawn_levels (length buffer)) drawn_levels buffer ≡ filled list buffer
     slice-holds-in buffer fits =
-        ap (λ (answer : Decoded). events_after answer drawn_levels buffer)
+        ap (λ (reply : Result Decoded Refusal). events_after reply drawn_levels buffer)
         (long-enough mode drawn_stamps drawn_levels (length buffer) enough)
         ∙ drawn-slice-holds list stamps levels buffer start gap count reply fits
 
   -- a smaller one: 18 at sample 3, for every list that is not empty and whatever room is lent
   pub refused-in : (room : ℕ) → gap < (least mode).low → (list ≡ [] → ⊥)
-      → decoded_in mode drawn_stamps drawn_levels room ≡ Refused 18 3
+      → decoded_in mode drawn_stamps drawn_levels room ≡ Err (refused_at 18 3)
   refused-in room small some =
       rw (stamps_are, levels_are) (go (begins list (completes Between list found.whole) some))
     where
@@ -178,15 +170,10 @@ module _ (mode : Mode) (list stamps levels : List ℕ) (start gap count : ℕ)
             rises = rising (stamps_from start gap count) (stamps-rise count start gap found.positive);
           }
 
-      refusal : Refusal
-      refusal = given (trace_checks (stamps_from start gap count) (drawing list))
+      passes : answer (trace_checks (stamps_from start gap count) (drawing list)) (tt {0}) ≡ Ok tt
+      passes = ok_passed (trace_checks (stamps_from start gap count) (drawing list)) tt (to-checks trace)
 
-      passes : refusal.number ≡ 0
-      passes =
-          ap (λ (r : Refusal). r.number)
-          (unrefused (trace_checks (stamps_from start gap count) (drawing list)) (to-checks trace))
-
-      go : Begins list → decoded_in mode (stamps_from start gap count) (drawing list) room ≡ Refused 18 3
+      go : Begins list → decoded_in mode (stamps_from start gap count) (drawing list) room ≡ Err (refused_at 18 3)
       go first-bit =
           let long : length (drawing list) ≡ suc (suc (suc (suc (length first-bit.levels)))) =
           ap length first-bit.are in
@@ -195,34 +182,34 @@ module _ (mode : Mode) (list stamps levels : List ℕ) (start gap count : ℕ)
           ∙ third-ends (least mode) start gap (length first-bit.levels) first-bit.bit first-bit.levels small in
           let within : first_short mode (stamps_from start gap count) (drawing list) < length (drawing list) =
           omega (arith, third, long) in
-          sym (short-refused mode (stamps_from start gap count) (drawing list) room refusal refl passes within)
-          ∙ ap (λ (place : ℕ). Refused 18 place) third
+          in_order mode (stamps_from start gap count) (drawing list) room
+          ∙ rw (passes, lt-ltb (first_short mode (stamps_from start gap count) (drawing list)) (length (drawing list)) within, third) refl
 
 -- ---- by NXP's numbers: 47 and 13 are wide enough, 46 and 12 are not
 module _ (list stamps levels : List ℕ) (start count : ℕ) where
   -- what encode drew with a gap, read in a mode
-  abbrev drawn_in : Mode → ℕ → ℕ → Decoded
+  abbrev drawn_in : Mode → ℕ → ℕ → Result Decoded Refusal
   drawn_in mode gap room =
-      decoded_in mode (take count (stamps_after (Drawn count) start gap stamps))
-      (take count (levels_after (Drawn count) list levels)) room
+      decoded_in mode (take count (stamps_after (Ok count) start gap stamps))
+      (take count (levels_after (Ok count) list levels)) room
 
   abbrev Draws : ℕ → Type 0
-  Draws gap = encoded list start gap (length stamps) (length levels) ≡ Drawn count
+  Draws gap = encoded list start gap (length stamps) (length levels) ≡ Ok count
 
   pub standard-reads-back : (gap : ℕ) (buffer : List ℕ) → Draws gap → 47 ≤ gap → length list ≤ length buffer
-      → drawn_in Standard gap (length buffer) ≡ Events (length list) false 0 0
+      → drawn_in Standard gap (length buffer) ≡ Ok (reading (length list) false 0 0)
   standard-reads-back gap buffer reply wide fits =
       reads-back-in Standard list stamps levels start gap count reply wide buffer fits
 
   pub fast-reads-back : (gap : ℕ) (buffer : List ℕ) → Draws gap → 13 ≤ gap → length list ≤ length buffer
-      → drawn_in Fast gap (length buffer) ≡ Events (length list) false 0 0
+      → drawn_in Fast gap (length buffer) ≡ Ok (reading (length list) false 0 0)
   fast-reads-back gap buffer reply wide fits =
       reads-back-in Fast list stamps levels start gap count reply wide buffer fits
 
-  pub standard-refuses-46 : (room : ℕ) → Draws 46 → (list ≡ [] → ⊥) → drawn_in Standard 46 room ≡ Refused 18 3
+  pub standard-refuses-46 : (room : ℕ) → Draws 46 → (list ≡ [] → ⊥) → drawn_in Standard 46 room ≡ Err (refused_at 18 3)
   standard-refuses-46 room reply some =
       refused-in Standard list stamps levels start 46 count reply room (omega arith) some
 
-  pub fast-refuses-12 : (room : ℕ) → Draws 12 → (list ≡ [] → ⊥) → drawn_in Fast 12 room ≡ Refused 18 3
+  pub fast-refuses-12 : (room : ℕ) → Draws 12 → (list ≡ [] → ⊥) → drawn_in Fast 12 room ≡ Err (refused_at 18 3)
   fast-refuses-12 room reply some =
       refused-in Fast list stamps levels start 12 count reply room (omega arith) some
