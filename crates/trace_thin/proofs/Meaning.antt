@@ -10,10 +10,11 @@ use lib.Seq.{take_at}
 use borrow.Author.Tests.{eqb-true, ltb-false, le-ltb}
 use Rattle.laws.specs.Buffer.{filled}
 use Rattle.laws.specs.Everyone.{Everyone, nobody, also}
-use Rattle.laws.specs.Refusals.{none, given}
+use Rattle.std.specs.Prelude.{Ok, Err}
+use Rattle.laws.specs.Refusals.{refused_at, answer}
 use Rattle.laws.specs.Search.{any}
 use Rattle.laws.proofs.Lists.{any_false, any_none}
-use Rattle.laws.proofs.Refusals.{Numbered, passed, unrefused, numbered-both, passed_first}
+use Rattle.laws.proofs.Refusals.{passed_first, passed-both, passed_ok, ok_passed, ok_same}
 use Rattle.trace.specs.Limits.{max_samples}
 use Rattle.trace.specs.Ordered.{Ordered}
 use Rattle.trace.specs.Samples.{samples, stamps_of, levels_of}
@@ -21,15 +22,13 @@ use Rattle.trace.specs.Trace.{bad_level, trace_checks}
 use Rattle.trace.proofs.Checked.{Checked, to-checks}
 use Rattle.trace.proofs.Ordered.{ordered-rising, rising-ordered}
 use Rattle.trace.proofs.Samples.{stamps-again, levels-again}
-use Rattle.decode.specs.declared.Decoded.TheVariants.{Events, Refused as NotRead}
 use Rattle.decode.specs.Decode.{events, final}
-use Rattle.decode.specs.DecodeReply.{decoded, events_after}
-use Rattle.decode.proofs.Reply.{room-refused, read_all}
-use Rattle.trace_thin.specs.declared.Thinned.TheVariants.{Left, Refused}
+use Rattle.decode.specs.DecodeReply.{meant, decoded, events_after}
+use Rattle.decode.proofs.Reply.{in_order}
 use Rattle.trace.specs.Changes.{changes_from, thinned}
 use Rattle.trace_thin.specs.ThinReply.{capture_checks, count_left, left_checks, thin_checks, thin_answer}
 use Rattle.trace_thin.specs.ThinReply.{stamps_after, levels_after}
-use Rattle.trace_thin.proofs.Reply.{Captured, captured, to_capture, capture-numbered, left_is, left-all}
+use Rattle.trace_thin.proofs.Reply.{Captured, from_capture, to_capture}
 use Rattle.trace_thin.proofs.Steady.{thinned-alike}
 
 -- what holds of every sample holds of those that are left
@@ -70,51 +69,40 @@ pub record Taken (stamps levels : List ℕ) (count : ℕ) : Type 0 where
   pub few : count_left stamps levels ≤ max_samples
   pub counted : count_left stamps levels ≡ count
 
-left-count : (none : Bool) (samples count number place : ℕ) → cond none (Left samples) (Refused number place) ≡ Left count
-    → (none ≡ true) × (samples ≡ count)
-left-count true samples count number place reply = (refl, cc)
-left-count false samples count number place reply = let never : ◌≡◌ {A = ℕ} 0 1 = cc in absurd (omega arith)
-
 pub taken : (stamps levels : List ℕ) (stamp_room level_room count : ℕ)
-    → thin_answer stamps levels stamp_room level_room ≡ Left count → Taken stamps levels count
+    → thin_answer stamps levels stamp_room level_room ≡ Ok count → Taken stamps levels count
 unfolding thin_answer
 taken stamps levels stamp_room level_room count reply =
     let checks = thin_checks stamps levels stamp_room level_room in
     let left = left_checks (count_left stamps levels) stamp_room level_room in
-    let found =
-    left-count (eqb (given checks).number 0) (count_left stamps levels) count (given checks).number
-    (given checks).place reply in
-    let numbered : Numbered checks =
-    numbered-both (capture_checks stamps levels) left (capture-numbered stamps levels)
-    ((λ e. omega arith), ((λ e. omega arith), tt)) in
-    let all = passed checks numbered (eqb-true (given checks).number 0 found.0) in
-    let shape = passed_first (capture_checks stamps levels) left all in
+    let all = passed_ok checks (count_left stamps levels) count reply in
     record {
-      capture = captured stamps levels (ap (λ r. r.number) (unrefused (capture_checks stamps levels) shape));
+      capture = from_capture stamps levels (passed_first (capture_checks stamps levels) left all);
       few = ltb-false max_samples (count_left stamps levels) all.1.1.1.0;
-      counted = found.1;
+      counted = ok_same checks (count_left stamps levels) count reply;
     }
 
 -- it thins every such capture, where the slices have room for what is left
 pub thins : (stamps levels : List ℕ) (stamp_room level_room : ℕ) → Captured stamps levels
     → count_left stamps levels ≤ max_samples → count_left stamps levels ≤ stamp_room → count_left stamps levels ≤ level_room
-    → thin_answer stamps levels stamp_room level_room ≡ Left (count_left stamps levels)
+    → thin_answer stamps levels stamp_room level_room ≡ Ok (count_left stamps levels)
+unfolding thin_answer
 thins stamps levels stamp_room level_room capture few stamps-fit levels-fit =
-    let counted = ap length (sym (left_is stamps levels capture)) in
-    let unrefused-capture : none ≡ given (capture_checks stamps levels) =
-    sym (unrefused (capture_checks stamps levels) (to_capture stamps levels capture)) in
-    sym (left-all stamps levels stamp_room level_room none unrefused-capture refl (count_left stamps levels) counted
-    (le-ltb max_samples (count_left stamps levels) few)
-    (ap₂ ◌||◌ (le-ltb stamp_room (count_left stamps levels) stamps-fit) (le-ltb level_room (count_left stamps levels) levels-fit)))
+    let left = left_checks (count_left stamps levels) stamp_room level_room in
+    let room = ap₂ ◌||◌ (le-ltb stamp_room (count_left stamps levels) stamps-fit)
+    (le-ltb level_room (count_left stamps levels) levels-fit) in
+    ok_passed (thin_checks stamps levels stamp_room level_room) (count_left stamps levels)
+    (passed-both (capture_checks stamps levels) left (to_capture stamps levels capture)
+    (le-ltb max_samples (count_left stamps levels) few, (room, tt)))
 
 module _ (stamps levels stamp_buffer level_buffer : List ℕ) (count : ℕ)
-    (reply : thin_answer stamps levels (length stamp_buffer) (length level_buffer) ≡ Left count) where
+    (reply : thin_answer stamps levels (length stamp_buffer) (length level_buffer) ≡ Ok count) where
   -- the samples that the lent slices hold after it
   abbrev thin_stamps : List ℕ
-  thin_stamps = take count (stamps_after (Left count) stamps levels stamp_buffer)
+  thin_stamps = take count (stamps_after (Ok count) stamps levels stamp_buffer)
 
   abbrev thin_levels : List ℕ
-  thin_levels = take count (levels_after (Left count) stamps levels level_buffer)
+  thin_levels = take count (levels_after (Ok count) stamps levels level_buffer)
 
   found : Taken stamps levels count
   found = taken stamps levels (length stamp_buffer) (length level_buffer) count reply
@@ -157,20 +145,19 @@ module _ (stamps levels stamp_buffer level_buffer : List ℕ) (count : ℕ)
       let whole = levels-again stamps levels found.capture.same in
       (ap events levels_are ∙ alike.0 ∙ ap events whole, ap final levels_are ∙ alike.1 ∙ ap final whole)
 
+  passes : answer (trace_checks thin_stamps thin_levels) (tt {0}) ≡ Ok tt
+  passes = ok_passed (trace_checks thin_stamps thin_levels) tt (to-checks thin-checked)
+
   -- decode answers what the definition of the events says of the whole capture, however long it is
-  pub thin-decodes : (room : ℕ) → length (events levels) ≤ room → decoded thin_stamps thin_levels room
-      ≡ Events (length (events levels)) (final levels).framed (final levels).pending (final levels).value
+  pub thin-decodes : (room : ℕ) → length (events levels) ≤ room → decoded thin_stamps thin_levels room ≡ Ok (meant levels)
   thin-decodes room fits =
-      sym (read_all thin_stamps thin_levels room none
-      (sym (unrefused (trace_checks thin_stamps thin_levels) (to-checks thin-checked))) refl (final levels)
-      (length (events levels)) (le-ltb room (length (events thin_levels)) (rw same-events.0 fits))
-      (sym same-events.1) (ap length (sym same-events.0)))
+      in_order thin_stamps thin_levels room
+      ∙ rw (passes, same-events.0, same-events.1) (rw (le-ltb room (length (events levels)) fits) refl)
 
   -- it is refused by 8 alone, where the slice is too short for those events
-  pub thin-short : (room : ℕ) → ltb room (length (events levels)) ≡ true → decoded thin_stamps thin_levels room ≡ NotRead 8 0
-  thin-short room short =
-      sym (room-refused thin_stamps thin_levels room none
-      (sym (unrefused (trace_checks thin_stamps thin_levels) (to-checks thin-checked))) refl (rw same-events.0 short))
+  pub thin-short : (room : ℕ) → ltb room (length (events levels)) ≡ true
+      → decoded thin_stamps thin_levels room ≡ Err (refused_at 8 0)
+  thin-short room short = in_order thin_stamps thin_levels room ∙ rw (passes, same-events.0, short) refl
 
   -- event for event: the slice lent to decode starts with the events of the whole capture, and its rest stays
   pub thin-slice-holds : (buffer : List ℕ) → length (events levels) ≤ length buffer

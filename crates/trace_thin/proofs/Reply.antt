@@ -7,23 +7,19 @@ use mathlib.Core.List.{List}
 use lib.Dec.{eqb, ltb}
 use lib.ListN.{length}
 use borrow.Author.Tests.{eqb-true, not-false, eq-eqb, ne_eqb}
-use Rattle.laws.specs.declared.Refusal.{Refusal}
+use Rattle.std.specs.Prelude.{Ok}
+use Rattle.std.specs.Result.{result_and}
 use Rattle.laws.specs.Search.{any}
-use Rattle.laws.specs.Refusals.{given, or_else}
-use Rattle.laws.proofs.Refusals.{Numbered, Passed, passed, in_parts}
+use Rattle.laws.specs.Refusals.{answer}
+use Rattle.laws.proofs.Refusals.{Passed, passed_ok, answer-in_order}
 use Rattle.trace.specs.Limits.{max_samples}
 use Rattle.trace.specs.Samples.{samples}
 use Rattle.trace.specs.Trace.{bad_level, Rising}
 use Rattle.trace.proofs.Pairs.{rising, rising-back}
 use Rattle.trace.proofs.Samples.{levels-again}
-use Rattle.trace_thin.specs.declared.Thinned.{Thinned}
-use Rattle.trace_thin.specs.declared.Thinned.TheVariants.{Left, Refused}
 use Rattle.trace.specs.Changes.{changes_from, thinned}
 use Rattle.trace_thin.specs.ThinReply.{capture_checks, count_left, left_checks, thin_answer}
 use Rattle.trace_thin.proofs.Keeping.{thinned-from}
-
-pub capture-numbered : (stamps levels : List ℕ) → Numbered (capture_checks stamps levels)
-capture-numbered stamps levels = ((λ e. omega arith), ((λ e. omega arith), ((λ e. omega arith), tt)))
 
 -- a capture that 5, 4 and 7 pass
 pub record Captured (stamps levels : List ℕ) : Type 0 where
@@ -31,14 +27,17 @@ pub record Captured (stamps levels : List ℕ) : Type 0 where
   pub legal : any bad_level levels ≡ false
   pub rises : Rising stamps
 
-pub captured : (stamps levels : List ℕ) → (given (capture_checks stamps levels)).number ≡ 0 → Captured stamps levels
-captured stamps levels unrefused =
-    let all = passed (capture_checks stamps levels) (capture-numbered stamps levels) unrefused in
+pub from_capture : (stamps levels : List ℕ) → Passed (capture_checks stamps levels) → Captured stamps levels
+from_capture stamps levels all =
     record {
       same = eqb-true (length stamps) (length levels) (not-false (eqb (length stamps) (length levels)) all.0);
       legal = all.1.0;
       rises = rising stamps all.1.1.0;
     }
+
+pub captured : (stamps levels : List ℕ) (u : Unit {0}) → answer (capture_checks stamps levels) (tt {0}) ≡ Ok u
+    → Captured stamps levels
+captured stamps levels u passes = from_capture stamps levels (passed_ok (capture_checks stamps levels) tt u passes)
 
 pub to_capture : (stamps levels : List ℕ) → Captured stamps levels → Passed (capture_checks stamps levels)
 to_capture stamps levels capture = (
@@ -52,41 +51,15 @@ pub left_is : (stamps levels : List ℕ) → Captured stamps levels
 left_is stamps levels capture =
     thinned-from (samples stamps levels) (rw (levels-again stamps levels capture.same) capture.legal)
 
-module _ (stamps levels : List ℕ) (stamp_room level_room : ℕ) (refusal : Refusal)
-    (is : refusal ≡ given (capture_checks stamps levels)) where
-  -- an answer by the refusal
-  abbrev by : Refusal → Thinned
-  by found =
-      cond (eqb found.number 0) (Left (count_left stamps levels)) (Refused found.number found.place)
+-- the checks of what is left come after the capture's
+pub in_order : (stamps levels : List ℕ) (stamp_room level_room : ℕ) → thin_answer stamps levels stamp_room level_room
+    ≡ result_and (answer (capture_checks stamps levels) (tt {0}))
+    (answer (left_checks (count_left stamps levels) stamp_room level_room) (count_left stamps levels))
+unfolding thin_answer
+in_order stamps levels stamp_room level_room =
+    answer-in_order (capture_checks stamps levels) (left_checks (count_left stamps levels) stamp_room level_room) (tt {0})
+    (count_left stamps levels)
 
-  answered : thin_answer stamps levels stamp_room level_room
-      ≡ by (or_else refusal (given (left_checks (count_left stamps levels) stamp_room level_room)))
-  unfolding thin_answer
-  answered =
-      ap by (in_parts (capture_checks stamps levels) (left_checks (count_left stamps levels) stamp_room level_room)
-      (capture-numbered stamps levels)
-      ∙ ap (λ (r : Refusal). or_else r (given (left_checks (count_left stamps levels) stamp_room level_room))) (sym is))
-
-  pub capture-refused : (refusal.number ≡ 0 → ⊥)
-      → Refused refusal.number refusal.place ≡ thin_answer stamps levels stamp_room level_room
-  capture-refused some = rw answered (rw (ne_eqb refusal.number 0 some) (rw (ne_eqb refusal.number 0 some)))
-
-  module _ (none : refusal.number ≡ 0) where
-    pub capture : Captured stamps levels
-    capture = captured stamps levels (sym (ap (λ (r : Refusal). r.number) is) ∙ none)
-
-    module _ (count : ℕ) (counted : count ≡ length (changes_from 4 (samples stamps levels))) where
-      pub count-is : count ≡ count_left stamps levels
-      count-is = counted ∙ ap length (left_is stamps levels capture)
-
-      pub many-refused : ltb max_samples count ≡ true → Refused 6 0 ≡ thin_answer stamps levels stamp_room level_room
-      many-refused many = rw answered (rw (eq-eqb refusal.number 0 none, ← count-is, many))
-
-      module _ (few : ltb max_samples count ≡ false) where
-        pub room-refused : ltb stamp_room count || ltb level_room count ≡ true
-            → Refused 8 0 ≡ thin_answer stamps levels stamp_room level_room
-        room-refused short = rw answered (rw (eq-eqb refusal.number 0 none, ← count-is, few, short))
-
-        pub left-all : ltb stamp_room count || ltb level_room count ≡ false
-            → Left count ≡ thin_answer stamps levels stamp_room level_room
-        left-all enough = rw answered (rw (eq-eqb refusal.number 0 none, ← count-is, few, enough))
+pub count-is : (stamps levels : List ℕ) (count : ℕ) → Captured stamps levels
+    → count ≡ length (changes_from 4 (samples stamps levels)) → count ≡ count_left stamps levels
+count-is stamps levels count capture counted = counted ∙ ap length (left_is stamps levels capture)

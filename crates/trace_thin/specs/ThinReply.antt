@@ -1,14 +1,13 @@
 -- What thin answers, and what the lent slices hold after it.
-use Rattle.std.specs.Prelude.{ℕ, cond, not, ◌||◌, List, [], ◌∷◌, ◌++◌, eqb, ltb, length}
+use Rattle.std.specs.Prelude.{ℕ, not, ◌||◌, List, [], ◌∷◌, ◌++◌, eqb, ltb, length, Result, Ok, Err}
 use Rattle.laws.specs.Buffer.{filled}
 use Rattle.laws.specs.Search.{first, any}
-use Rattle.laws.specs.Refusals.{Check, check, check_at, given}
+use Rattle.laws.specs.declared.Refusal.{Refusal}
+use Rattle.laws.specs.Refusals.{Check, check, check_at, answer}
 use Rattle.trace.specs.Limits.{max_samples}
 use Rattle.trace.specs.Samples.{samples}
 use Rattle.trace.specs.Changes.{thinned, changed_stamps, changed_levels}
 use Rattle.trace.specs.Trace.{bad_level, pairs, not_above, bad_stamp}
-use Rattle.trace_thin.specs.declared.Thinned.{Thinned}
-use Rattle.trace_thin.specs.declared.Thinned.TheVariants.{Left, Refused}
 
 -- 5, 4 and 7 as decode gives them, of a capture of any length
 abbrev pub capture_checks : List ℕ → List ℕ → List Check
@@ -33,10 +32,9 @@ thin_checks stamps levels stamp_room level_room =
     capture_checks stamps levels ++ left_checks (count_left stamps levels) stamp_room level_room
 
 -- the first of them that applies, else how many samples are left
-unfoldable pub thin_answer : List ℕ → List ℕ → ℕ → ℕ → Thinned
+unfoldable pub thin_answer : List ℕ → List ℕ → ℕ → ℕ → Result ℕ Refusal
 thin_answer stamps levels stamp_room level_room =
-    let refusal = given (thin_checks stamps levels stamp_room level_room) in
-    cond (eqb refusal.number 0) (Left (count_left stamps levels)) (Refused refusal.number refusal.place)
+    answer (thin_checks stamps levels stamp_room level_room) (count_left stamps levels)
 
 -- the numbers of an answer: the refusal (0: none), its place, the count of samples left; the others 0
 pub record ThinNumbers : Type 0 where
@@ -44,15 +42,15 @@ pub record ThinNumbers : Type 0 where
   pub place : ℕ
   pub count : ℕ
 
-abbrev pub thin_numbers : Thinned → ThinNumbers
-thin_numbers (Left count) = record { refusal = 0; place = 0; count = count }
-thin_numbers (Refused number place) = record { refusal = number; place = place; count = 0 }
+abbrev pub thin_numbers : Result ℕ Refusal → ThinNumbers
+thin_numbers (Ok count) = record { refusal = 0; place = 0; count = count }
+thin_numbers (Err refusal) = record { refusal = refusal.number; place = refusal.place; count = 0 }
 
 -- the samples left, and the rest of each slice as it was; after a refusal all as it was
-abbrev pub stamps_after : Thinned → List ℕ → List ℕ → List ℕ → List ℕ
-stamps_after answer stamps levels buffer =
-    cond (eqb (thin_numbers answer).refusal 0) (filled (changed_stamps stamps levels) buffer) buffer
+abbrev pub stamps_after : Result ℕ Refusal → List ℕ → List ℕ → List ℕ → List ℕ
+stamps_after (Ok count) stamps levels buffer = filled (changed_stamps stamps levels) buffer
+stamps_after (Err refusal) stamps levels buffer = buffer
 
-abbrev pub levels_after : Thinned → List ℕ → List ℕ → List ℕ → List ℕ
-levels_after answer stamps levels buffer =
-    cond (eqb (thin_numbers answer).refusal 0) (filled (changed_levels stamps levels) buffer) buffer
+abbrev pub levels_after : Result ℕ Refusal → List ℕ → List ℕ → List ℕ → List ℕ
+levels_after (Ok count) stamps levels buffer = filled (changed_levels stamps levels) buffer
+levels_after (Err refusal) stamps levels buffer = buffer

@@ -1,87 +1,64 @@
 -- `thin` tests in its order, and then writes.
-use mathlib.Core.Path.{refl, ◌∙◌}
-use lib.Dec.{ltb}
-use lib.ListN.{length}
-use borrow.Author.Tests.{ne_eqb, lt-ltb, le-ltb, ltb-false}
+use Rattle.std.proofs.Common.{refl, sym, ◌∙◌, length, nat_lt}
+use Rattle.std.proofs.lemmas.Result.{err_from_is_err_and}
+use borrow.Author.Tests.{lt-ltb, le-ltb, ltb-false}
 use Rattle.laws.proofs.Bools.{neither}
-use Rattle.trace_thin.proofs.Reply.{capture-refused, capture, many-refused, room-refused, left-all, left_is}
+use Rattle.trace.specs.Limits.{max_samples}
+use Rattle.trace_thin.proofs.Reply.{captured, in_order, count-is, left_is}
 use Rattle.trace_thin.proofs.thin.Goals as goal
 
-pub returns-then-refusal-ne0 : goal.returns-then-refusal-ne0
-returns-then-refusal-ne0 c =
-    let args = c.args in
-    let check = c.check-refusal in record {
-      answer = capture-refused args.stamps.now args.levels.now (length args.thin_stamps.now) (length args.thin_levels.now)
-          check.result check.ensures c.if-refusal-ne0.true;
-      stamp_buffer = rw (ne_eqb _ 0 c.if-refusal-ne0.true);
-      level_buffer = rw (ne_eqb _ 0 c.if-refusal-ne0.true);
-    }
+pub returns-in_err-check-clause-answer : goal.returns-in_err-check-clause-answer
+returns-in_err-check-clause-answer c =
+    let a = c.args in
+    let p = err_from_is_err_and c.from_residual.result c.from_residual.ensures.1 in
+    let first = sym c.check.ensures ∙ c.in_err-check.was in
+    rw (p.1, p.2, in_order a.stamps.now a.levels.now (length a.thin_stamps.now) (length a.thin_levels.now), first) refl
 
 pub count-count-requires : goal.count-count-requires
-count-count-requires c =
-    let args = c.args in
-    let stamps = args.stamps.now in
-    let levels = args.levels.now in
-    let check = c.check-refusal in
-    let none = c.if-refusal-ne0.false in
-    (capture stamps levels 0 0 check.result check.ensures none).same
+count-count-requires c = (captured _ _ _ (sym c.check.ensures ∙ c.in_ok-check.was)).same
 
-pub returns-then-count-gt-MAX_SAMPLES : goal.returns-then-count-gt-MAX_SAMPLES
-returns-then-count-gt-MAX_SAMPLES c =
-    let args = c.args in
-    let stamps = args.stamps.now in
-    let levels = args.levels.now in
-    let check = c.check-refusal in
-    let none = c.if-refusal-ne0.false in
-    let count = c.count-count in record {
-      answer = many-refused stamps levels (length args.thin_stamps.now) (length args.thin_levels.now) check.result
-          check.ensures none count.result count.ensures (lt-ltb _ _ c.if-count-gt-MAX_SAMPLES.true);
-      stamp_buffer = refl;
-      level_buffer = refl;
-    }
+pub returns-then-count-gt-MAX_SAMPLES-clause-answer : goal.returns-then-count-gt-MAX_SAMPLES-clause-answer
+returns-then-count-gt-MAX_SAMPLES-clause-answer c =
+    let a = c.args in
+    let first = sym c.check.ensures ∙ c.in_ok-check.was in
+    let count = count-is a.stamps.now a.levels.now c.count-count.result (captured _ _ _ first) c.count-count.ensures in
+    let many = lt-ltb max_samples c.count-count.result c.if-count-gt-MAX_SAMPLES.true in
+    rw (c.refused.ensures, in_order a.stamps.now a.levels.now (length a.thin_stamps.now) (length a.thin_levels.now), first,
+    ← count, many) refl
 
-pub returns-then-thin_stamps-count : goal.returns-then-thin_stamps-count
-returns-then-thin_stamps-count c =
-    let args = c.args in
-    let stamps = args.stamps.now in
-    let levels = args.levels.now in
-    let check = c.check-refusal in
-    let none = c.if-refusal-ne0.false in
-    let count = c.count-count in record {
-      answer = room-refused stamps levels (length args.thin_stamps.now) (length args.thin_levels.now) check.result
-          check.ensures none count.result count.ensures (le-ltb _ _ c.if-count-gt-MAX_SAMPLES.false) c.if-thin_stamps-count.true;
-      stamp_buffer = refl;
-      level_buffer = refl;
-    }
+pub returns-then-thin_stamps-count-clause-answer : goal.returns-then-thin_stamps-count-clause-answer
+returns-then-thin_stamps-count-clause-answer c =
+    let a = c.args in
+    let first = sym c.check.ensures ∙ c.in_ok-check.was in
+    let count = count-is a.stamps.now a.levels.now c.count-count.result (captured _ _ _ first) c.count-count.ensures in
+    let few = le-ltb max_samples c.count-count.result c.if-count-gt-MAX_SAMPLES.false in
+    rw (c.refused-then-thin_stamps-count.ensures,
+    in_order a.stamps.now a.levels.now (length a.thin_stamps.now) (length a.thin_levels.now), first, ← count, few,
+    c.if-thin_stamps-count.true) refl
 
 pub write-requires : goal.write-requires
 write-requires c =
-    let args = c.args in
-    let stamps = args.stamps.now in
-    let levels = args.levels.now in
-    let check = c.check-refusal in
-    let none = c.if-refusal-ne0.false in
+    let a = c.args in
     let count = c.count-count in
     let room =
-    neither (ltb (length args.thin_stamps.now) count.result) (ltb (length args.thin_levels.now) count.result)
+    neither (nat_lt (length a.thin_stamps.now) count.result) (nat_lt (length a.thin_levels.now) count.result)
     c.if-thin_stamps-count.false in (
-      (capture stamps levels 0 0 check.result check.ensures none).same,
+      (captured _ _ _ (sym c.check.ensures ∙ c.in_ok-check.was)).same,
       rw (← count.ensures) (ltb-false _ _ room.0),
       rw (← count.ensures) (ltb-false _ _ room.1),
     )
 
 pub returns : goal.returns
 returns c =
-    let args = c.args in
-    let stamps = args.stamps.now in
-    let levels = args.levels.now in
-    let check = c.check-refusal in
-    let none = c.if-refusal-ne0.false in
-    let count = c.count-count in
+    let a = c.args in
+    let first = sym c.check.ensures ∙ c.in_ok-check.was in
+    let capture = captured _ _ _ first in
+    let count = count-is a.stamps.now a.levels.now c.count-count.result capture c.count-count.ensures in
+    let few = le-ltb max_samples c.count-count.result c.if-count-gt-MAX_SAMPLES.false in
     let wrote = c.write.ensures in
-    let left = left_is stamps levels (capture stamps levels 0 0 check.result check.ensures none) in record {
-      answer = left-all stamps levels (length args.thin_stamps.now) (length args.thin_levels.now) check.result
-          check.ensures none count.result count.ensures (le-ltb _ _ c.if-count-gt-MAX_SAMPLES.false) c.if-thin_stamps-count.false;
+    let left = left_is a.stamps.now a.levels.now capture in record {
+      answer = rw (in_order a.stamps.now a.levels.now (length a.thin_stamps.now) (length a.thin_levels.now), first,
+          ← count, few, c.if-thin_stamps-count.false) refl;
       stamp_buffer = wrote.stamps_stored ∙ rw left;
       level_buffer = wrote.levels_stored ∙ rw left;
     }
