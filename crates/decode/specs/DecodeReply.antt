@@ -13,13 +13,13 @@ abbrev pub decode_checks : List ℕ → List ℕ → ℕ → List Check
 decode_checks stamps levels room = trace_checks stamps levels ++ check 8 (ltb room (length (events levels))) ∷ []
 
 -- how many events, whether a frame is open, how many bits are pending, and their value
-abbrev pub reading : ℕ → Bool → ℕ → ℕ → Decoded
-reading count framed pending value =
+abbrev pub read_as : ℕ → Bool → ℕ → ℕ → Decoded
+read_as count framed pending value =
     record { count = count; framed = framed; pending = pending; value = value }
 
 -- what the levels mean
 abbrev pub meant : List ℕ → Decoded
-meant levels = reading (length (events levels)) (final levels).framed (final levels).pending (final levels).value
+meant levels = read_as (length (events levels)) (final levels).framed (final levels).pending (final levels).value
 
 -- the first check that applies, else what the levels mean
 unfoldable pub decoded : List ℕ → List ℕ → ℕ → Result Decoded Refusal

@@ -28,7 +28,7 @@ use Rattle.encode.proofs.Grammar.{completes}
 use Rattle.encode.proofs.Samples.{drawing-length}
 use Rattle.encode.proofs.Stamps.{length-stamps}
 use Rattle.decode.specs.declared.Decoded.{Decoded}
-use Rattle.decode.specs.DecodeReply.{reading, decoded, events_after}
+use Rattle.decode.specs.DecodeReply.{read_as, decoded, events_after}
 use Rattle.decode.proofs.Reply.{in_order as in_order-before}
 use Rattle.trace_theorems.proofs.Drawings.{drawing-legal, stamps-rise}
 use Rattle.trace_theorems.proofs.Replies.{Accepted, accepted, drawn-reads-back, drawn-slice-holds}
@@ -143,7 +143,7 @@ module _ (mode : Mode) (list stamps levels : List ℕ) (start gap count : ℕ)
         ))
 
     pub reads-back-in : (buffer : List ℕ) → length list ≤ length buffer
-        → decoded_in mode drawn_stamps drawn_levels (length buffer) ≡ Ok (reading (length list) false 0 0)
+        → decoded_in mode drawn_stamps drawn_levels (length buffer) ≡ Ok (read_as (length list) false 0 0)
     reads-back-in buffer fits =
         long-enough mode drawn_stamps drawn_levels (length buffer) enough
         ∙ drawn-reads-back list stamps levels buffer start gap count reply fits
@@ -197,12 +197,12 @@ module _ (list stamps levels : List ℕ) (start count : ℕ) where
   Draws gap = encoded list start gap (length stamps) (length levels) ≡ Ok count
 
   pub standard-reads-back : (gap : ℕ) (buffer : List ℕ) → Draws gap → 47 ≤ gap → length list ≤ length buffer
-      → drawn_in Standard gap (length buffer) ≡ Ok (reading (length list) false 0 0)
+      → drawn_in Standard gap (length buffer) ≡ Ok (read_as (length list) false 0 0)
   standard-reads-back gap buffer reply wide fits =
       reads-back-in Standard list stamps levels start gap count reply wide buffer fits
 
   pub fast-reads-back : (gap : ℕ) (buffer : List ℕ) → Draws gap → 13 ≤ gap → length list ≤ length buffer
-      → drawn_in Fast gap (length buffer) ≡ Ok (reading (length list) false 0 0)
+      → drawn_in Fast gap (length buffer) ≡ Ok (read_as (length list) false 0 0)
   fast-reads-back gap buffer reply wide fits =
       reads-back-in Fast list stamps levels start gap count reply wide buffer fits
 

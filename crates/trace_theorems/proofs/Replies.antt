@@ -24,7 +24,7 @@ use Rattle.encode.proofs.Stamps.{length-stamps}
 use Rattle.encode.proofs.Samples.{drawing-length}
 use Rattle.decode.specs.declared.Decoded.{Decoded}
 use Rattle.decode.specs.Decode.{events, final}
-use Rattle.decode.specs.DecodeReply.{decode_checks, reading, meant, decoded, events_after}
+use Rattle.decode.specs.DecodeReply.{decode_checks, read_as, meant, decoded, events_after}
 use Rattle.trace_theorems.proofs.Drawings.{drawing-legal, stamps-rise}
 use Rattle.trace_theorems.proofs.ReadBack.{events-back, frame_closed, none-pending, value-zero}
 use Rattle.trace_theorems.proofs.Redraw.{redraw-limit}
@@ -114,7 +114,7 @@ module _ (list stamps levels buffer : List ℕ) (start gap count : ℕ)
         rises = rising (stamps_from start gap count) (stamps-rise count start gap found.positive);
       }
 
-  pub drawn-reads-back : decoded drawn_stamps drawn_levels (length buffer) ≡ Ok (reading (length list) false 0 0)
+  pub drawn-reads-back : decoded drawn_stamps drawn_levels (length buffer) ≡ Ok (read_as (length list) false 0 0)
   drawn-reads-back =
       let whole = found.whole in
       rw (stamps_are, levels_are)

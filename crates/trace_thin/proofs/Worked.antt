@@ -7,7 +7,7 @@ use lib.ListN.{replicate}
 use Rattle.std.specs.Prelude.{Ok, Err}
 use Rattle.laws.specs.Refusals.{refused_at}
 use Rattle.decode.specs.Decode.{takes, next, cut, lists}
-use Rattle.decode.specs.DecodeReply.{reading, decoded}
+use Rattle.decode.specs.DecodeReply.{read_as, decoded}
 use Rattle.levels.specs.Levels.{starts, stops}
 use Rattle.trace_thin.specs.ThinReply.{thin_answer, stamps_after, levels_after}
 
@@ -25,7 +25,7 @@ unfolding thin_answer
 start-thinned = (refl, refl, refl)
 
 -- decode finds the START in both
-pub start-found : (decoded stamps levels 6 ≡ Ok (reading 1 true 0 0)) × (decoded (10 ∷ 13 ∷ []) (3 ∷ 1 ∷ []) 6 ≡ Ok (reading 1 true 0 0))
+pub start-found : (decoded stamps levels 6 ≡ Ok (read_as 1 true 0 0)) × (decoded (10 ∷ 13 ∷ []) (3 ∷ 1 ∷ []) 6 ≡ Ok (read_as 1 true 0 0))
 unfolding decoded lists starts stops takes next cut
 start-found = (refl, refl)
 

@@ -1,6 +1,7 @@
 -- The replies as they compute: all that each is made of unfolds with it.
 use Prim.Native.Nat.{ℕ}
 use mathlib.Core.List.{List, zip_with}
+use Rattle.std.specs.Prelude.{Result}
 use Rattle.levels.specs.Levels.{starts, stops}
 use Rattle.usi_registers.specs.Rules.{count_flags}
 use Rattle.usi_i2c.specs.Rules.{condition_flags, condition_count, loss_control, loss_flags, end_flags, phase_after}
@@ -9,7 +10,6 @@ use Rattle.usi.specs.declared.Step.{Step}
 use Rattle.usi.specs.declared.Read.{Read}
 use Rattle.usi.specs.Step as step
 use Rattle.usi.specs.Step.{followed, settled, write_byte, read_byte, edged, fallen, risen}
-use Rattle.encode.specs.declared.Encoded.{Encoded}
 use Rattle.encode.specs.Complete.{advance}
 use Rattle.encode.specs.Encode.{byte_bits, draw_event}
 use Rattle.encode.specs.EncodeReply as encode
@@ -56,19 +56,19 @@ unfolding phase_after followed step.tick
 tick u = step.tick u
 
 -- what encode and decode reply
-unfoldable pub encoded : List ℕ → ℕ → ℕ → ℕ → ℕ → Encoded
+unfoldable pub encoded : List ℕ → ℕ → ℕ → ℕ → ℕ → Result ℕ Refusal
 unfolding advance encode.encoded
 encoded events start gap stamp_room level_room = encode.encoded events start gap stamp_room level_room
 
-unfoldable pub drawn : Encoded → List ℕ → List ℕ → List ℕ
+unfoldable pub drawn : Result ℕ Refusal → List ℕ → List ℕ → List ℕ
 unfolding byte_bits draw_event
 drawn answer events buffer = encode.levels_after answer events buffer
 
-unfoldable pub decoded : List ℕ → List ℕ → ℕ → Decoded
+unfoldable pub decoded : List ℕ → List ℕ → ℕ → Result Decoded Refusal
 unfolding starts stops takes with_bit next cut lists decode.decoded
 decoded stamps levels room = decode.decoded stamps levels room
 
-unfoldable pub read-into : Decoded → List ℕ → List ℕ → List ℕ
+unfoldable pub read-into : Result Decoded Refusal → List ℕ → List ℕ → List ℕ
 unfolding starts stops takes with_bit next cut lists
 read-into answer levels buffer = decode.events_after answer levels buffer
 

@@ -11,9 +11,8 @@ use Rattle.usi.specs.declared.Read.TheVariants.{Value}
 use Rattle.usi.specs.Module.{power_up, pulls_scl, pulls_sda}
 use Rattle.usi.specs.Step.{module_of}
 use Rattle.usi.specs.Step as step
-use Rattle.encode.specs.declared.Encoded.TheVariants.{Drawn}
+use Rattle.std.specs.Prelude.{Ok}
 use Rattle.encode.specs.EncodeReply as encode
-use Rattle.decode.specs.declared.Decoded.TheVariants.{Events}
 use Rattle.decode.specs.DecodeReply as decode
 use Rattle.arbitration_rules.specs.declared.Arbitrated.{Arbitrated}
 use Rattle.arbitration_rules.specs.declared.Seat.{Seat}
@@ -112,7 +111,7 @@ abbrev seventh_stamps : List ℕ
 seventh_stamps =
     0 ∷ 1 ∷ 2 ∷ 3 ∷ 4 ∷ 5 ∷ 6 ∷ 7 ∷ 8 ∷ 9 ∷ 10 ∷ 11 ∷ 12 ∷ 13 ∷ 14 ∷ 15 ∷ 16 ∷ 17 ∷ 18 ∷ 19 ∷ 20 ∷ 21 ∷ 22 ∷ []
 
-pub P7-count : encode.encoded seventh 0 1 23 23 ≡ Drawn 23
+pub P7-count : encode.encoded seventh 0 1 23 23 ≡ Ok 23
 unfolding encoded
 P7-count = refl
 
@@ -125,7 +124,7 @@ pub P7-stamps : encode.stamps_after (encode.encoded seventh 0 1 24 23) 0 1 (repl
 unfolding encoded
 P7-stamps = refl
 
-pub P7-back : decode.decoded seventh_stamps seventh_levels 3 ≡ Events 3 false 0 0
+pub P7-back : decode.decoded seventh_stamps seventh_levels 3 ≡ Ok (decode.read_as 3 false 0 0)
 unfolding decoded
 P7-back = refl
 
