@@ -111,7 +111,9 @@ def types(text):
         if not inside:
             kept.append(line)
         inside = inside and line != "}"
-    named, inner = words("\n".join(kept)), {"crate", *re.findall(r"^(?:pub )?mod (\w+);", text, re.M)}
+    # a word of a comment names no item
+    named = words("\n".join(line.partition("//")[0] for line in kept))
+    inner = {"crate", *re.findall(r"^(?:pub )?mod (\w+);", text, re.M)}
     uses = [f"use {path}::{item};" for path, item in imports(text)
             if item in named and (path.partition("::")[0] not in inner or path.startswith("crate") and item[0].isupper())]
     # what speaks of the whole file (#![..]) is for functions

@@ -8,9 +8,10 @@ use lib.Dec.{eqb, ltb}
 use lib.ListN.{length, get_or, length-append}
 use lib.Seq.{get_or_at}
 use borrow.Author.Tests.{eq-eqb, eqb-true, le-ltb}
-use Rattle.laws.specs.Refusals.{given, none}
+use Rattle.std.specs.Prelude.{Ok}
 use Rattle.laws.specs.Search.{all}
 use Rattle.laws.proofs.Bools.{both}
+use Rattle.laws.proofs.Refusals.{Passed, passed-both, ok_passed}
 use Rattle.laws.proofs.Search.{all-below}
 use Rattle.levels.specs.Levels.{scl, sda, level_of}
 use Rattle.trace.specs.Limits.{largest_stamp, max_samples}
@@ -21,10 +22,9 @@ use Rattle.dump_reader.specs.declared.reader.Reader.{Reader}
 use Rattle.dump_reader.specs.Words.{belongs, words}
 use Rattle.dump_reader.specs.Reader.{started, no_sample}
 use Rattle.dump_reader.specs.Reading as read
-use Rattle.dump_reader.specs.declared.DumpRead.TheVariants.{Written}
-use Rattle.dump_reader.specs.DumpRead.{longest_text, closed, text_checks, dump_read}
+use Rattle.dump_reader.specs.DumpRead.{longest_text, closed, text_checks, read_checks, samples_in_unit, held, dump_read}
 use Rattle.dump_reader.proofs.Spelled.{Spelt, spelled, proper, placed, words-spelled, up_to, same_text}
-use Rattle.dump_reader.proofs.Reply.{none-given, all-written}
+use Rattle.dump_reader.proofs.Reply.{text_passed, others}
 use Rattle.dump_reader.proofs.Header.{header_words, header-proper, after_header, header_read, header-listed}
 use Rattle.dump_reader.proofs.Samples.{scl_wire, sda_wire, stamp_word, value_word, change_words, sample_words}
 use Rattle.dump_reader.proofs.Samples.{first_words, words_after, spelled-append}
@@ -220,15 +220,16 @@ module _
         (last_byte (spelled header_words) (stamp_word stamp) (values ++ words_after level stamps levels)
         (after-lines level stamps levels)))
 
-    unrefused : none ≡ given (text_checks text (read.final text))
+    unrefused : Passed (text_checks text (read.final text))
     unrefused =
-        sym (none-given text (read.final text) (ap (λ (r : Reader). r.part) last ∙ after-header.part) closed-text
-        (ap (λ (r : Reader). r.wave.known) last ∙ after-header.known))
+        text_passed text (read.final text) (ap (λ (r : Reader). r.part) last ∙ after-header.part) closed-text
+        (ap (λ (r : Reader). r.wave.known) last ∙ after-header.known)
 
     -- what is read of a dump within the limits, into slices with room for the samples
     pub read_back : (room room-too : ℕ) → length text ≤ longest_text → length stamps_back ≤ max_samples
         → length stamps_back ≤ room → length stamps_back ≤ room-too
-        → dump_read text room room-too ≡ Written (length stamps_back) 100000000
+        → dump_read text room room-too ≡ Ok (samples_in_unit (length stamps_back) 100000000)
+    unfolding dump_read
     read_back room room-too fits few enough enough-too =
         let count : length (read.stamps_in text) ≡ length stamps_back = ap length read-stamps in
         let short : ltb room (length (read.stamps_in text)) || ltb room-too (length (read.stamps_in text)) ≡ false =
@@ -236,5 +237,9 @@ module _
           le-ltb room (length (read.stamps_in text)) (rw count enough),
           le-ltb room-too (length (read.stamps_in text)) (rw count enough-too),
         ) in
-        sym (all-written text room room-too fits none unrefused refl (rw count few) short)
-        ∙ ap₂ (λ (n t : ℕ). Written n t) count read-timescale
+        let rest : Passed (others text room room-too) =
+        (le-ltb max_samples (length (read.stamps_in text)) (rw count few), (short, tt)) in
+        ok_passed (read_checks text room room-too) (held text)
+        (le-ltb longest_text (length text) fits,
+        passed-both (text_checks text (read.final text)) (others text room room-too) unrefused rest)
+        ∙ ap₂ (λ (n t : ℕ). Ok (samples_in_unit n t)) count read-timescale

@@ -4,28 +4,30 @@ use mathlib.Core.List.{List, [], ◌∷◌, ◌++◌, map}
 use Prim.Native.Nat.{ℕ}
 use Prim.Native.String.{String}
 use lib.ListN.{replicate}
+use Rattle.std.specs.Prelude.{Result, Ok, Err}
 use Rattle.laws.specs.Same.{same}
+use Rattle.laws.specs.declared.Refusal.{Refusal}
+use Rattle.laws.specs.Refusals.{refused_at}
 use Rattle.text.specs.Bytes.{ascii}
 use Rattle.text.specs.Words.{run_length}
 use Rattle.text.specs.Numbers.{digit_value, all_digits, value_after, fitting, number_in}
 use Rattle.dump_reader.specs.declared.DumpRead.{DumpRead}
-use Rattle.dump_reader.specs.declared.DumpRead.TheVariants.{Written, Refused}
 use Rattle.dump_reader.specs.Words.{words_up_to}
 use Rattle.dump_reader.specs.Timescale.{power_of, number_of, unit_of, unit, number}
 use Rattle.dump_reader.specs.Definitions as definitions
 use Rattle.dump_reader.specs.Values as values
 use Rattle.dump_reader.specs.Reading.{step, completed}
-use Rattle.dump_reader.specs.DumpRead.{dump_read, stamps_after, levels_after}
+use Rattle.dump_reader.specs.DumpRead.{samples_in_unit, dump_read, stamps_after, levels_after}
 
 -- a text, and values after sound definitions of 67 bytes
-abbrev reads : String → DumpRead
+abbrev reads : String → Result DumpRead Refusal
 reads text = dump_read (ascii text) 4 4
 
 abbrev with_values : String → List ℕ
 with_values text =
     ascii "$var wire 1 ! scl $end\n$var wire 1 \" sda $end\n$enddefinitions $end\n" ++ ascii text
 
-abbrev reads_values : String → DumpRead
+abbrev reads_values : String → Result DumpRead Refusal
 reads_values text = dump_read (with_values text) 4 4
 
 -- 02's case: stamps 5 6 9 and levels 3 3 1 as a dump
@@ -37,7 +39,7 @@ case =
 
 -- its reply, and 8 where either slice is too short
 pub case-read : dump_read case 2 2 ∷ dump_read case 1 2 ∷ dump_read case 2 1 ∷ []
-    ≡ Written 2 100000000 ∷ Refused 8 0 ∷ Refused 8 0 ∷ []
+    ≡ Ok (samples_in_unit 2 100000000) ∷ Err (refused_at 8 0) ∷ Err (refused_at 8 0) ∷ []
 unfolding dump_read words_up_to run_length same digit_value all_digits value_after fitting number_in power_of number_of unit_of
     unit number definitions.close definitions.skip definitions.name definitions.note definitions.wire
     definitions.opening definitions.command definitions.scope definitions.scope_type definitions.wire_type definitions.one
@@ -74,20 +76,20 @@ pub definitions-answered : map reads (
     ∷ "$enddefinitions $end\n"
     ∷ "x! \n"
     ∷ [])
-    ≡ Refused 24 0
-    ∷ Refused 24 1
-    ∷ Refused 23 1
-    ∷ Refused 23 15
-    ∷ Refused 27 11
-    ∷ Refused 27 13
-    ∷ Refused 27 7
-    ∷ Refused 24 5
-    ∷ Refused 24 10
-    ∷ Refused 27 15
-    ∷ Refused 27 12
-    ∷ Refused 24 33
-    ∷ Refused 24 0
-    ∷ Refused 27 0
+    ≡ Err (refused_at 24 0)
+    ∷ Err (refused_at 24 1)
+    ∷ Err (refused_at 23 1)
+    ∷ Err (refused_at 23 15)
+    ∷ Err (refused_at 27 11)
+    ∷ Err (refused_at 27 13)
+    ∷ Err (refused_at 27 7)
+    ∷ Err (refused_at 24 5)
+    ∷ Err (refused_at 24 10)
+    ∷ Err (refused_at 27 15)
+    ∷ Err (refused_at 27 12)
+    ∷ Err (refused_at 24 33)
+    ∷ Err (refused_at 24 0)
+    ∷ Err (refused_at 27 0)
     ∷ []
 unfolding dump_read words_up_to run_length same digit_value all_digits value_after fitting number_in power_of number_of unit_of
     unit number definitions.close definitions.skip definitions.name definitions.note definitions.wire
@@ -118,25 +120,25 @@ pub values-answered : map reads_values (
     ∷ "#5 0! 1! 1\" #6 0! 1! #7 $comment $endless $end #8 0\"\n"
     ∷ "#5 $dumpvars 1! 0\" $end\n"
     ∷ [])
-    ≡ Refused 20 67
-    ∷ Refused 20 67
-    ∷ Refused 21 76
-    ∷ Refused 21 73
-    ∷ Refused 22 70
-    ∷ Refused 22 67
-    ∷ Refused 23 75
-    ∷ Refused 23 85
-    ∷ Refused 24 73
-    ∷ Refused 24 73
-    ∷ Refused 24 67
-    ∷ Refused 24 70
-    ∷ Refused 25 67
-    ∷ Refused 25 77
-    ∷ Refused 27 67
-    ∷ Refused 27 77
-    ∷ Refused 27 67
-    ∷ Written 2 0
-    ∷ Written 1 0
+    ≡ Err (refused_at 20 67)
+    ∷ Err (refused_at 20 67)
+    ∷ Err (refused_at 21 76)
+    ∷ Err (refused_at 21 73)
+    ∷ Err (refused_at 22 70)
+    ∷ Err (refused_at 22 67)
+    ∷ Err (refused_at 23 75)
+    ∷ Err (refused_at 23 85)
+    ∷ Err (refused_at 24 73)
+    ∷ Err (refused_at 24 73)
+    ∷ Err (refused_at 24 67)
+    ∷ Err (refused_at 24 70)
+    ∷ Err (refused_at 25 67)
+    ∷ Err (refused_at 25 77)
+    ∷ Err (refused_at 27 67)
+    ∷ Err (refused_at 27 77)
+    ∷ Err (refused_at 27 67)
+    ∷ Ok (samples_in_unit 2 0)
+    ∷ Ok (samples_in_unit 1 0)
     ∷ []
 unfolding dump_read words_up_to run_length same digit_value all_digits value_after fitting number_in power_of number_of unit_of
     unit number definitions.close definitions.skip definitions.name definitions.note definitions.wire
@@ -146,6 +148,6 @@ unfolding dump_read words_up_to run_length same digit_value all_digits value_aft
 values-answered = refl
 
 -- 26 comes first
-pub refused-by-26 : dump_read (replicate 60001 0x20) 0 0 ≡ Refused 26 0
+pub refused-by-26 : dump_read (replicate 60001 0x20) 0 0 ≡ Err (refused_at 26 0)
 unfolding dump_read
 refused-by-26 = refl

@@ -1,14 +1,15 @@
 -- What read answers, refusals in their order, and what the lent slices hold after it.
 use Rattle.std.specs.Prelude.{ℕ, ◌-◌, Bool, true, false, cond, not, ◌&&◌, ◌||◌, List, [], ◌∷◌, ◌++◌, eqb, ltb, length, get_or}
+use Rattle.std.specs.Prelude.{Result, Ok, Err}
 use Rattle.laws.specs.Buffer.{filled}
-use Rattle.laws.specs.Refusals.{Check, check, check_at, given}
+use Rattle.laws.specs.declared.Refusal.{Refusal}
+use Rattle.laws.specs.Refusals.{Check, check, check_at, answer}
 use Rattle.levels.specs.Levels.{max_level}
 use Rattle.trace.specs.Limits.{max_samples}
 use Rattle.dump_reader.specs.declared.reader.Part as part
 use Rattle.dump_reader.specs.declared.reader.Part.TheVariants as next
 use Rattle.dump_reader.specs.declared.reader.Reader.{Reader}
 use Rattle.dump_reader.specs.declared.DumpRead.{DumpRead}
-use Rattle.dump_reader.specs.declared.DumpRead.TheVariants.{Written, Refused}
 use Rattle.dump_reader.specs.Reading.{final, stamps_in, levels_in}
 
 -- the longest text
@@ -76,19 +77,23 @@ read_checks text stamps-room levels-room =
     ∷ check 8 (ltb stamps-room (length (stamps_in text)) || ltb levels-room (length (stamps_in text)))
     ∷ []
 
--- the first of them that applies, else how many samples there are, and the timescale
-unfoldable pub dump_read : List ℕ → ℕ → ℕ → DumpRead
-dump_read text stamps-room levels-room =
-    let refusal = given (read_checks text stamps-room levels-room) in
-    cond (eqb refusal.number 0)
-    (Written (length (stamps_in text)) (final text).timescale)
-    (Refused refusal.number refusal.place)
+-- so many samples, whose stamps count units of so many femtoseconds
+abbrev pub samples_in_unit : ℕ → ℕ → DumpRead
+samples_in_unit count timescale = record { count = count; timescale = timescale }
+
+-- what a text holds: its samples and its timescale
+abbrev pub held : List ℕ → DumpRead
+held text = samples_in_unit (length (stamps_in text)) (final text).timescale
+
+-- the first of the checks that applies, else what the text holds
+unfoldable pub dump_read : List ℕ → ℕ → ℕ → Result DumpRead Refusal
+dump_read text stamps-room levels-room = answer (read_checks text stamps-room levels-room) (held text)
 
 -- the lent slices after it: the samples, and their rest as it was; after a refusal all as it was
-abbrev pub stamps_after : DumpRead → List ℕ → List ℕ → List ℕ
-stamps_after (Written count timescale) text buffer = filled (stamps_in text) buffer
-stamps_after (Refused number place) text buffer = buffer
+abbrev pub stamps_after : Result DumpRead Refusal → List ℕ → List ℕ → List ℕ
+stamps_after (Ok read) text buffer = filled (stamps_in text) buffer
+stamps_after (Err refusal) text buffer = buffer
 
-abbrev pub levels_after : DumpRead → List ℕ → List ℕ → List ℕ
-levels_after (Written count timescale) text buffer = filled (levels_in text) buffer
-levels_after (Refused number place) text buffer = buffer
+abbrev pub levels_after : Result DumpRead Refusal → List ℕ → List ℕ → List ℕ
+levels_after (Ok read) text buffer = filled (levels_in text) buffer
+levels_after (Err refusal) text buffer = buffer

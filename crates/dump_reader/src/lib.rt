@@ -2,11 +2,11 @@
 #![tactic(auto)]
 
 ghost use Rattle.std.specs.Prelude.{◌≡◌, length};
-ghost use Rattle.laws.specs.Refusals.{given, refused_at};
+ghost use Rattle.laws.specs.Refusals.{answer};
 ghost use Rattle.dump_reader.specs.DumpRead.{closed, may_end, refusal_of, text_checks};
 ghost use Rattle.dump_reader.specs.DumpRead.{dump_read, stamps_after, levels_after};
 
-use laws::Refusal;
+use laws::{Refusal, refused};
 use reader::{Part, Reader};
 use trace::MAX_SAMPLES;
 
@@ -20,12 +20,11 @@ mod passes; // passes.rt: all words, one after the other
 // The longest text that is read.
 pub const LONGEST_TEXT: usize = 60000;
 
-// The answer of read: how many samples it wrote and the unit of their stamps in femtoseconds, 0 if the text says none;
-// or a refusal.
+// What a text holds: how many samples, and the unit of their stamps in femtoseconds, 0 if the text says none.
 #[derive(Clone, Copy)]
-pub enum DumpRead {
-    Written { count: usize, timescale: u64 },
-    Refused { number: u8, place: usize },
+pub struct DumpRead {
+    pub count: usize,
+    pub timescale: u64,
 }
 
 // Whether a text may end here: in no command and no section.
@@ -49,12 +48,6 @@ fn refusal_of(part: Part) -> u8
     }
 }
 
-fn refused(number: u8, place: usize) -> Refusal
-    ensures { result ≡ refused_at number place }
-{
-    Refusal { number, place }
-}
-
 // Whether the last line is closed.
 fn is_closed(text: &[u8]) -> bool
     ensures { result ≡ closed text.now }
@@ -66,8 +59,8 @@ fn is_closed(text: &[u8]) -> bool
 }
 
 // What is refused of a text that was read to its end.
-fn check(text: &[u8], reader: Reader) -> Refusal
-    ensures { result ≡ given (text_checks text.now reader) }
+fn check(text: &[u8], reader: Reader) -> Result<(), Refusal>
+    ensures { result ≡ answer (text_checks text.now reader) tt }
 {
     let part = reader.part;
     let number = refusal_of(part);
@@ -80,47 +73,32 @@ fn check(text: &[u8], reader: Reader) -> Refusal
     if reader.wave.known != levels::MAX_LEVEL {
         return refused(24, text.len());
     }
-    refused(0, 0)
+    Ok(())
 }
 
 // Reads a text into two slices, whose rest stays. 26 comes first, then what is refused at the earliest place, then 6
 // and 8; a refusal leaves the slices as they were.
-pub fn read(text: &[u8], stamps: &mut [u32], levels: &mut [u8]) -> DumpRead
+pub fn read(text: &[u8], stamps: &mut [u32], levels: &mut [u8]) -> Result<DumpRead, Refusal>
     ensures answer { result ≡ dump_read
         text.now (length stamps.old) (length levels.old) }
     ensures stamped { stamps.new ≡ stamps_after result text.now stamps.old }
     ensures stored { levels.new ≡ levels_after result text.now levels.old }
 {
     if text.len() > LONGEST_TEXT {
-        return DumpRead::Refused {
-            number: 26,
-            place: 0,
-        };
+        return refused(26, 0);
     }
     let scanned = passes::scan(text);
-    let refusal = check(text, scanned.reader);
-    if refusal.number != 0 {
-        return DumpRead::Refused {
-            number: refusal.number,
-            place: refusal.place,
-        };
-    }
+    check(text, scanned.reader)?;
     let count = scanned.count;
     if count > MAX_SAMPLES {
-        return DumpRead::Refused {
-            number: 6,
-            place: 0,
-        };
+        return refused(6, 0);
     }
     if (stamps.len() < count) | (levels.len() < count) {
-        return DumpRead::Refused {
-            number: 8,
-            place: 0,
-        };
+        return refused(8, 0);
     }
     passes::write(text, stamps, levels);
-    DumpRead::Written {
+    Ok(DumpRead {
         count,
         timescale: scanned.reader.timescale,
-    }
+    })
 }

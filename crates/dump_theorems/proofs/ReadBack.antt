@@ -7,6 +7,7 @@ use native.Mathlib.Omega.{arith}
 use borrow.Author.Tests.{eqb-true, ltb-true, ltb-false, not-false}
 use lib.Dec.{eqb, ltb}
 use lib.ListN.{length, length-map}
+use Rattle.std.specs.Prelude.{Ok}
 use Rattle.laws.specs.Buffer.{filled}
 use Rattle.laws.specs.Everyone.{also}
 use Rattle.laws.specs.Search.{any}
@@ -22,9 +23,8 @@ use Rattle.trace.proofs.Samples.{samples-length}
 use Rattle.trace.proofs.Checked.{Checked}
 use Rattle.dump.specs.Text.{dump_text}
 use Rattle.dump.proofs.Bound.{Stamps}
-use Rattle.dump_reader.specs.declared.DumpRead.TheVariants.{Written}
 use Rattle.dump_reader.specs.Reading.{stamps_in, levels_in}
-use Rattle.dump_reader.specs.DumpRead.{longest_text, dump_read, stamps_after, levels_after}
+use Rattle.dump_reader.specs.DumpRead.{longest_text, samples_in_unit, dump_read, stamps_after, levels_after}
 use Rattle.dump_reader.proofs.Samples.{Above, Legal}
 use Rattle.dump_reader.proofs.ReadBack.{read-stamps, read-levels, read_back}
 use Rattle.dump_theorems.proofs.Words.{dump-spelled}
@@ -65,7 +65,7 @@ changes-few last (sample ∷ list) = go (eqb sample.1 last) (changes-few sample.
 -- the replies and slices of dump, and of read where it is handed what dump wrote
 pub record ReadBack (stamps levels text stamp-slice level-slice : List ℕ) : Type 0 where
   pub reply : dump_read text (length stamp-slice) (length level-slice)
-      ≡ Written (length (changed_stamps stamps levels)) 100000000
+      ≡ Ok (samples_in_unit (length (changed_stamps stamps levels)) 100000000)
   pub stamped : stamps_after (dump_read text (length stamp-slice) (length level-slice)) text stamp-slice
       ≡ filled (changed_stamps stamps levels) stamp-slice
   pub leveled : levels_after (dump_read text (length stamp-slice) (length level-slice)) text level-slice

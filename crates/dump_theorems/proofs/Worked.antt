@@ -7,8 +7,8 @@ use lib.ListN.{take, replicate}
 use Rattle.laws.specs.Everyone.{nobody, also}
 use Rattle.dump.specs.Dumped.{text_after}
 use Rattle.dump.proofs.Worked.{case, case-reply}
-use Rattle.dump_reader.specs.declared.DumpRead.TheVariants.{Written}
-use Rattle.dump_reader.specs.DumpRead.{dump_read, stamps_after, levels_after}
+use Rattle.std.specs.Prelude.{Ok}
+use Rattle.dump_reader.specs.DumpRead.{samples_in_unit, dump_read, stamps_after, levels_after}
 use Rattle.dump_theorems.proofs.ReadBack.{ReadBack}
 use Rattle.dump_theorems.proofs.Slices.{written-reads-back}
 
@@ -23,7 +23,7 @@ case-back =
     case-reply (omega arith) (omega arith) (omega arith)
 
 -- two samples of 100 ns, and the rest of each slice as it was
-pub case-read : dump_read text 3 3 ≡ Written 2 100000000
+pub case-read : dump_read text 3 3 ≡ Ok (samples_in_unit 2 100000000)
 case-read = case-back.reply
 
 pub case-stamps : stamps_after (dump_read text 3 3) text (7 ∷ 7 ∷ 7 ∷ []) ≡ 5 ∷ 9 ∷ 7 ∷ []

@@ -1,4 +1,5 @@
 -- `dump_reader::check` meets its contract.
+use mathlib.Core.Path.{refl}
 use borrow.Author.Tests.{eq-eqb, ne_eqb}
 use Rattle.std.proofs.Common.{ap, not}
 use Rattle.dump_reader.proofs.check.Goals as goal
@@ -33,4 +34,4 @@ returns c = rw (
   ← c.may_end.ensures,
   (ap not c.if-not-is_closed-may_end.false),
   eq-eqb _ _ c.if-reader-ne-MAX_LEVEL.false,
-) c.refused-2.ensures
+) refl
