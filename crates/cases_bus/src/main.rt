@@ -5,8 +5,6 @@ mod list;
 mod script;
 mod show;
 
-use check::same;
-
 const STDIN: i32 = 0;
 
 // The longest trace, event list and buffer of a command.
@@ -19,8 +17,8 @@ fn decode(arguments: &[u8]) {
     let mut levels = [0u8; ROOM];
     let mut events = [u16::MAX; ROOM];
     let samples = text::after_word(arguments);
-    script::read_stamps(samples, &mut stamps);
-    let n = script::read_levels(samples, &mut levels);
+    script::read_words(samples, &mut stamps, script::stamp_of);
+    let n = script::read_words(samples, &mut levels, script::level_of);
     show::decoding(&stamps, &levels, n, &mut events, room);
 }
 
@@ -36,9 +34,9 @@ fn encode(arguments: &[u8]) {
     let mut events = [0u16; ROOM];
     let mut stamps = [u32::MAX; ROOM];
     let mut levels = [u8::MAX; ROOM];
-    let n = script::read_events(text::after_word(past_stamps), &mut events);
+    let n = script::read_words(text::after_word(past_stamps), &mut events, script::event);
     show::encoding(
-        &events[0..n],
+        &events[..n],
         start,
         gap,
         &mut stamps,
@@ -72,41 +70,23 @@ fn long(arguments: &[u8]) {
     let mut stamps = [u32::MAX; ROOM];
     let mut levels = [u8::MAX; ROOM];
     let n = list::frames(&mut events, frames, bytes, repeats);
-    show::long_encoding(&events[0..n], start, gap, &mut stamps, &mut levels);
+    show::long_encoding(&events[..n], start, gap, &mut stamps, &mut levels);
 }
 
 fn run_command(name: &[u8], arguments: &[u8]) {
-    if same(name, b"decode") {
-        decode(arguments);
-        return;
+    match name {
+        b"decode" => decode(arguments),
+        b"encode" => encode(arguments),
+        b"fill" => fill(arguments),
+        b"long" => long(arguments),
+        _ => show::line(b"unknown command"),
     }
-    if same(name, b"encode") {
-        encode(arguments);
-        return;
-    }
-    if same(name, b"fill") {
-        fill(arguments);
-        return;
-    }
-    if same(name, b"long") {
-        long(arguments);
-        return;
-    }
-    show::line(b"unknown command");
-}
-
-fn is_comment(line: &[u8]) -> bool {
-    if line.len() == 0 {
-        return false;
-    }
-    line[0] == b'#'
 }
 
 // A comment is copied to the output.
 fn run_line(line: &[u8]) {
-    if is_comment(line) {
-        show::line(line);
-        return;
+    if line.starts_with(b"#") {
+        return show::line(line);
     }
     run_command(text::first_word(line), text::after_word(line));
 }
@@ -115,8 +95,7 @@ fn run(script: &[u8]) {
     let mut rest = script;
     while rest.len() > 0 {
         run_line(text::first_line(rest));
-        let next = text::after_line(rest);
-        rest = next;
+        rest = text::after_line(rest);
     }
 }
 

@@ -1,5 +1,5 @@
 // The numbers of a command's line. One that cannot be read counts as the largest of its type.
-ghost use Rattle.std.specs.Prelude.{◌≤◌, length};
+ghost use Rattle.std.specs.Prelude.{◌≤◌, ◌<◌, length, IfSome};
 
 use text::Number;
 
@@ -12,8 +12,7 @@ fn value(word: &[u8]) -> u64 {
 }
 
 pub fn number(word: &[u8]) -> u32 {
-    let v = value(word);
-    if v <= 0xffff_ffff { v as u32 } else { u32::MAX }
+    u32::try_from(value(word)).unwrap_or(u32::MAX)
 }
 
 // The length of a buffer, a list or a trace.
@@ -21,95 +20,48 @@ pub fn size(word: &[u8]) -> usize {
     value(word) as usize
 }
 
-fn event(word: &[u8]) -> u16 {
-    let v = value(word);
-    if v <= 0xffff { v as u16 } else { u16::MAX }
+pub fn event(word: &[u8]) -> u16 {
+    u16::try_from(value(word)).unwrap_or(u16::MAX)
 }
 
 fn level(word: &[u8]) -> u8 {
-    let v = value(word);
-    if v <= 0xff { v as u8 } else { u8::MAX }
+    u8::try_from(value(word)).unwrap_or(u8::MAX)
 }
 
-// Where the colon of a sample S:L stands: the word's length where there is none.
-fn colon(word: &[u8]) -> usize
-    ensures { result ≤ length word.now }
+// Where the colon of a sample S:L stands.
+fn colon(sample: &[u8]) -> Option<usize>
+    ensures { IfSome result (λ place. place < length sample.now) }
 {
-    let mut i = 0;
-    while i < word.len() {
-        if word[i] == b':' {
-            return i;
-        }
-        i += 1;
-    }
-    i
+    sample.iter().position(|b| *b == b':')
 }
 
-fn stamp_of(sample: &[u8]) -> u32 {
-    let end = colon(sample);
-    if end == sample.len() {
-        return u32::MAX;
+pub fn stamp_of(sample: &[u8]) -> u32 {
+    match colon(sample) {
+        Some(end) => number(&sample[..end]),
+        None => u32::MAX,
     }
-    number(&sample[0..end])
 }
 
-fn level_of(sample: &[u8]) -> u8 {
-    let end = colon(sample);
-    if end == sample.len() {
-        return u8::MAX;
+pub fn level_of(sample: &[u8]) -> u8 {
+    match colon(sample) {
+        Some(end) => level(&sample[end + 1..]),
+        None => u8::MAX,
     }
-    let from = end + 1;
-    level(&sample[from..])
 }
 
-// The stamps of the samples of a line, as many as there is room for.
-pub fn read_stamps(line: &[u8], stamps: &mut [u32]) {
+// What `read` makes of each word of a line, as many as there is room for, and how many those are.
+pub fn read_words<T: Copy, F: Fn(&[u8]) -> T>(line: &[u8], items: &mut [T], read: F) -> usize
+    requires { F.IsAlwaysCallable read }
+    ensures { result ≤ length items.new }
+{
     let mut rest = line;
-    let mut n = 0;
-    while n < stamps.len() {
-        let word = text::first_word(rest);
-        if word.len() == 0 {
-            return;
-        }
-        stamps[n] = stamp_of(word);
-        let next = text::after_word(rest);
-        rest = next;
-        n += 1;
-    }
-}
-
-// The levels of the samples of a line, and how many there are.
-pub fn read_levels(line: &[u8], levels: &mut [u8]) -> usize {
-    let mut rest = line;
-    let mut n = 0;
-    while n < levels.len() {
+    for (n, item) in items.iter_mut().enumerate() {
         let word = text::first_word(rest);
         if word.len() == 0 {
             return n;
         }
-        levels[n] = level_of(word);
-        let next = text::after_word(rest);
-        rest = next;
-        n += 1;
+        *item = read(word);
+        rest = text::after_word(rest);
     }
-    n
-}
-
-// The events of a line, and how many there are.
-pub fn read_events(line: &[u8], events: &mut [u16]) -> usize
-    ensures { result ≤ length events.new }
-{
-    let mut rest = line;
-    let mut n = 0;
-    while n < events.len() {
-        let word = text::first_word(rest);
-        if word.len() == 0 {
-            return n;
-        }
-        events[n] = event(word);
-        let next = text::after_word(rest);
-        rest = next;
-        n += 1;
-    }
-    n
+    items.len()
 }

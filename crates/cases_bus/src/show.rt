@@ -1,7 +1,6 @@
 // The lines that answer the commands.
 use decode::Decoded;
 use encode::Encoded;
-use std::num::wrapping_add_u32;
 
 const STDOUT: i32 = 1;
 
@@ -60,41 +59,24 @@ fn sample(stamp: u32, level: u8) {
 }
 
 fn all_events(events: &[u16]) {
-    let mut i = 0;
-    while i < events.len() {
-        event(events[i]);
-        i += 1;
+    for number in events {
+        event(*number);
     }
 }
 
 // The samples for which both buffers have room.
 fn all_samples(stamps: &[u32], levels: &[u8]) {
-    let mut i = 0;
-    while i < stamps.len() {
-        if i >= levels.len() {
-            return;
-        }
-        sample(stamps[i], levels[i]);
-        i += 1;
+    for (stamp, level) in stamps.iter().zip(levels) {
+        sample(*stamp, *level);
     }
 }
 
 // The sum of two buffers of one length, modulo 2^32.
 fn sum(stamps: &[u32], levels: &[u8]) -> u32 {
-    let mut total = 0;
-    let mut i = 0;
-    while i < stamps.len() {
-        if i >= levels.len() {
-            return total;
-        }
-        total = with_sample(total, stamps[i], levels[i]);
-        i += 1;
-    }
-    total
-}
-
-fn with_sample(total: u32, stamp: u32, level: u8) -> u32 {
-    wrapping_add_u32(wrapping_add_u32(total, stamp), level as u32)
+    let samples = stamps.iter().zip(levels);
+    samples.fold(0, |total: u32, (stamp, level)| {
+        total.wrapping_add(*stamp).wrapping_add(u32::from(*level))
+    })
 }
 
 // Decodes a trace into a buffer, and prints the answer and the buffer.
@@ -106,16 +88,10 @@ fn decode_into(stamps: &[u32], levels: &[u8], events: &mut [u16]) {
 
 // The same with the first n samples, and a buffer of a given length.
 pub fn decoding(stamps: &[u32], levels: &[u8], n: usize, events: &mut [u16], room: usize) {
-    if n > stamps.len() {
+    if n > stamps.len() || n > levels.len() || room > events.len() {
         return line(b"no room");
     }
-    if n > levels.len() {
-        return line(b"no room");
-    }
-    if room > events.len() {
-        return line(b"no room");
-    }
-    decode_into(&stamps[0..n], &levels[0..n], &mut events[0..room]);
+    decode_into(&stamps[..n], &levels[..n], &mut events[..room]);
 }
 
 // Encodes an event list into two buffers, and prints the answer and the buffers.
@@ -136,18 +112,15 @@ pub fn encoding(
     levels: &mut [u8],
     levels_room: usize,
 ) {
-    if stamps_room > stamps.len() {
-        return line(b"no room");
-    }
-    if levels_room > levels.len() {
+    if stamps_room > stamps.len() || levels_room > levels.len() {
         return line(b"no room");
     }
     encode_into(
         events,
         start,
         gap,
-        &mut stamps[0..stamps_room],
-        &mut levels[0..levels_room],
+        &mut stamps[..stamps_room],
+        &mut levels[..levels_room],
     );
 }
 

@@ -54,13 +54,11 @@ fn count_events(levels: &[u8]) -> usize
 {
     let mut decoder = Decoder::idle();
     let mut count: usize = 0;
-    let mut i: usize = 0;
-    while i < levels.len() {
-        let step = decoder.next(levels[i]);
+    for level in levels {
+        let step = decoder.next(*level);
         let listed = step.listed;
         count = counted(count, listed);
         decoder = step.decoder;
-        i += 1;
     }
     count
 }
@@ -85,13 +83,11 @@ pub(crate) fn write_events(levels: &[u8], events: &mut [u16]) -> Written
 {
     let mut decoder = Decoder::idle();
     let mut count: usize = 0;
-    let mut i: usize = 0;
-    while i < levels.len() {
-        let step = decoder.next(levels[i]);
+    for level in levels {
+        let step = decoder.next(*level);
         let listed = step.listed;
         count = put(events, count, listed);
         decoder = step.decoder;
-        i += 1;
     }
     Written { decoder, count }
 }

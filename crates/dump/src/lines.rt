@@ -1,5 +1,5 @@
 // The lines of one sample, put into a scratch line that holds the longest.
-ghost use Rattle.std.specs.Prelude.{◌≡◌, min, ◌≤◌, length};
+ghost use Rattle.std.specs.Prelude.{◌≡◌, ◌≤◌, length};
 ghost use Rattle.text.specs.Output.{Put};
 ghost use Rattle.dump.specs.Text.{stamp_line, value_line, change_line, sample_text, unlike_first};
 
@@ -14,12 +14,6 @@ const LINE_END: u8 = b'\n';
 const SCL: u8 = b'!';
 
 const SDA: u8 = b'"';
-
-pub(crate) fn least(a: usize, b: usize) -> usize
-    ensures { result ≡ min a b }
-{
-    if a < b { a } else { b }
-}
 
 fn put_stamp(out: &mut [u8], at: usize, stamp: u32) -> usize
     ensures { Put out.old at (stamp_line stamp) out.new result }
@@ -42,7 +36,7 @@ fn put_change(out: &mut [u8], at: usize, was: bool, high: bool, wire: u8) -> usi
     ensures { Put out.old at (change_line was high wire) out.new result }
 {
     if high == was {
-        return least(at, out.len());
+        return at.min(out.len());
     }
     put_value(out, at, high, wire)
 }

@@ -4,7 +4,7 @@ ghost use Rattle.dump.specs.Text.{header, dump_text};
 ghost use Rattle.dump.specs.Window.{PutPast, begun};
 ghost use Rattle.trace.specs.Limits.{max_samples};
 
-use crate::lines::{LONGEST_SAMPLE, before_first, least, put_sample};
+use crate::lines::{LONGEST_SAMPLE, before_first, put_sample};
 use text::put_bytes;
 
 // The longest text: that of 4,096 samples.
@@ -22,7 +22,7 @@ fn put(out: &mut [u8], point: Point, chunk: &[u8]) -> Point
     ensures { PutPast out.old point chunk.now out.new result }
 {
     let skip = point.skip;
-    let first = least(skip, chunk.len());
+    let first = skip.min(chunk.len());
     let at = put_bytes(out, point.at, &chunk[first..]);
     Point {
         skip: skip - first,
@@ -50,17 +50,13 @@ pub(crate) fn write(stamps: &[u32], levels: &[u8], from: usize, out: &mut [u8]) 
     ensures bound { length (dump_text stamps.now levels.now)
         ≤ 127 + 18 * length levels.now }
 {
-    let count = least(stamps.len(), levels.len());
     let mut last = before_first(levels);
     let mut line = [0u8; LONGEST_SAMPLE];
     let mut point = put_header(out, from);
-    let mut i: usize = 0;
-    while i < count {
-        let level = levels[i];
-        let n = put_sample(&mut line, last, stamps[i], level);
+    for (stamp, level) in stamps.iter().zip(levels) {
+        let n = put_sample(&mut line, last, *stamp, *level);
         point = put(out, point, &line[..n]);
-        last = level;
-        i += 1;
+        last = *level;
     }
     point
 }

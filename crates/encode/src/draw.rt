@@ -22,11 +22,9 @@ fn put_byte(levels: &mut [u8], at: usize, byte: u8, ninth: bool)
     requires { at + 18 ≤ length levels.old }
     ensures { levels.new ≡ sets levels.old at (draw_bits (byte_bits byte ++ ninth ∷ [])) }
 {
-    let mut k: usize = 0;
-    while k < 8 {
+    for k in 0..8 {
         let bit = (byte >> (7 - k)) % 2 == 1;
         put_bit(levels, at + 2 * k, bit);
-        k += 1;
     }
     put_bit(levels, at + 16, ninth);
 }
@@ -76,10 +74,8 @@ pub(crate) fn write_levels(events: &[u16], levels: &mut [u8])
 {
     levels[0] = 3;
     let mut at: usize = 1;
-    let mut i: usize = 0;
-    while i < events.len() {
-        at = put_event(levels, at, events[i]);
-        i += 1;
+    for event in events {
+        at = put_event(levels, at, *event);
     }
 }
 
@@ -88,9 +84,7 @@ pub(crate) fn write_stamps(start: u32, gap: u32, count: usize, stamps: &mut [u32
     requires { (count ≤ max_samples) × (last_stamp start gap count ≤ largest_stamp) × (count ≤ length stamps.old) }
     ensures { stamps.new ≡ filled (stamps_from start gap count) stamps.old }
 {
-    let mut i: usize = 0;
-    while i < count {
+    for i in 0..count {
         stamps[i] = start + gap * (i as u32);
-        i += 1;
     }
 }

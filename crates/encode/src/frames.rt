@@ -36,12 +36,7 @@ fn advance(position: Position, event: u16) -> Position
 fn ends(position: Position) -> bool
     ensures { result ≡ lists.ends position }
 {
-    match position {
-        Position::Between => true,
-        Position::Opened => false,
-        Position::Within => false,
-        Position::Broken => false,
-    }
+    matches!(position, Position::Between)
 }
 
 // Whether a list is complete.
@@ -49,10 +44,8 @@ pub(crate) fn complete(events: &[u16]) -> bool
     ensures { result ≡ lists.complete events.now }
 {
     let mut position = Position::Between;
-    let mut i: usize = 0;
-    while i < events.len() {
-        position = advance(position, events[i]);
-        i += 1;
+    for event in events {
+        position = advance(position, *event);
     }
     ends(position)
 }
@@ -77,13 +70,11 @@ pub(crate) fn count_samples(events: &[u16]) -> usize
     ensures { result ≡ min (sample_count events.now) (max_samples + 1) }
 {
     let mut count: usize = 1;
-    let mut i: usize = 0;
-    while i < events.len() {
-        count += event_samples(events[i]);
+    for event in events {
+        count += event_samples(*event);
         if count > MAX_SAMPLES {
             return MAX_SAMPLES + 1;
         }
-        i += 1;
     }
     count
 }

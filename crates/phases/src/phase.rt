@@ -86,15 +86,13 @@ pub(crate) fn first_short(mode: Mode, stamps: &[u32], levels: &[u8]) -> usize
     }
     let limits = least(mode);
     let mut phase = Phase::cut_off(levels[0]);
-    let mut i: usize = 1;
-    while i < levels.len() {
+    for i in 1..levels.len() {
         let stamp = stamps[i];
         let level = levels[i];
         if phase.ends_short(limits, stamp, level) {
             return i;
         }
         phase = phase.next(stamp, level);
-        i += 1;
     }
-    i
+    levels.len()
 }

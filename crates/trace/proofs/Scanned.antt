@@ -1,5 +1,5 @@
 -- The search through the stamps, which looks at the pair that ends at i: one index ahead of the search through the pairs.
-use Prim.Native.Nat.{ℕ, suc, ◌+◌, ◌-◌, ◌≤◌, ◌<◌}
+use Prim.Native.Nat.{ℕ, suc, ◌+◌, ◌-◌, ◌≤◌, ◌<◌, max}
 use native.Mathlib.Omega.{arith}
 use mathlib.Core.Path.{◌≡◌, ap, ◌∙◌}
 use mathlib.Core.Bool.{not}
@@ -13,10 +13,11 @@ use Rattle.trace.proofs.Pairs.{pair-count, pair-at}
 
 pub record Scanned (stamps : List ℕ) (i : ℕ) : Type 0 where
   pub some : 1 ≤ i
+  pub few : i ≤ max (length stamps) 1
   pub passed : Passed not_above (pairs stamps) (i - 1)
 
 pub scanned-start : (stamps : List ℕ) → Scanned stamps 1
-scanned-start stamps = record { some = omega arith; passed = passed_start not_above (pairs stamps) }
+scanned-start stamps = record { some = omega arith; few = omega arith; passed = passed_start not_above (pairs stamps) }
 
 module _ (stamps : List ℕ) (i : ℕ) (scanned : Scanned stamps i) where
   module _ (less : i < length stamps) where
@@ -42,6 +43,7 @@ module _ (stamps : List ℕ) (i : ℕ) (scanned : Scanned stamps i) where
         let back : i - 1 + 1 ≡ i + 1 - 1 = omega (arith, scanned.some) in
         record {
           some = omega arith;
+          few = omega arith;
           passed =
               rw back at (passed-more not_above (pairs stamps) (i - 1) (0, 0) scanned.passed before
               (here ∙ ap not (lt-ltb (get_or stamps (i - 1) 0) (get_or stamps i 0) above)));

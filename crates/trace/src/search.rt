@@ -7,26 +7,22 @@ ghost use Rattle.trace.specs.Trace.{bad_level, bad_stamp};
 pub fn bad_level(levels: &[u8]) -> usize
     ensures { result ≡ first bad_level levels.now }
 {
-    let mut i: usize = 0;
-    while i < levels.len() {
-        if levels[i] > levels::MAX_LEVEL {
+    for (i, level) in levels.iter().enumerate() {
+        if *level > levels::MAX_LEVEL {
             return i;
         }
-        i += 1;
     }
-    i
+    levels.len()
 }
 
 // The place of the first stamp not above the one before, or one past the last pair.
 pub fn bad_stamp(stamps: &[u32]) -> usize
     ensures { result ≡ bad_stamp stamps.now }
 {
-    let mut i: usize = 1;
-    while i < stamps.len() {
+    for i in 1..stamps.len() {
         if stamps[i] <= stamps[i - 1] {
             return i;
         }
-        i += 1;
     }
-    i
+    stamps.len().max(1)
 }

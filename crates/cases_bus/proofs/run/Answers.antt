@@ -5,4 +5,4 @@ use Rattle.cases_bus.proofs.run.Goals as goal
 pub loop-rest-smaller : goal.loop-rest-smaller
 loop-rest-smaller c =
     let rest = c.loop-rest.rest.now in
-    omega (arith, ap length c.after_line-next.ensures, after-line-shorter rest (omega arith))
+    omega (arith, ap length c.after_line-rest.ensures, after-line-shorter rest (omega arith))

@@ -6,7 +6,7 @@ use Rattle.dump.proofs.lines.put_change.Goals as goal
 
 pub returns-then-high-was : goal.returns-then-high-was
 unfolding change_line
-returns-then-high-was c = rw c.if-high-was.true (put-none _ _ _ c.least.ensures)
+returns-then-high-was c = rw c.if-high-was.true (put-none _ _ _ c.min.ensures)
 
 pub returns : goal.returns
 unfolding change_line

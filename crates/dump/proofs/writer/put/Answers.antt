@@ -8,6 +8,6 @@ use Rattle.dump.proofs.writer.put.Goals as goal
 pub returns : goal.returns
 returns c =
     let chunk = c.args.chunk.now in
-    let first = c.least-first in
+    let first = c.min-first in
     past-holds _ chunk _ c.args.point _ first.result first.ensures refl
     (put_as _ _ (sym (to_end first.result chunk)) c.put_bytes-at.ensures)

@@ -11,7 +11,7 @@ abbrev nine : ℕ → Bool → List Bool
 nine byte ninth = byte_bits byte ++ ninth ∷ []
 
 pub loop-k-init : goal.loop-k-init
-loop-k-init c = (omega arith, refl, refl)
+loop-k-init c = refl
 
 pub loop-k-preserved : goal.loop-k-preserved
 unfolding byte_bits
@@ -20,12 +20,9 @@ loop-k-preserved c =
     let args = c.args in
     let bits = nine args.byte args.ninth in
     let more : head.k < 8 = omega arith in
-    let first = bit-from-first args.byte head.k args.ninth more in (
-      omega arith,
-      omega (arith, c.put_bit.auto),
-      drawn-more bits args.levels.now head.levels _ args.at head.k _ head.invariant.2
-          c.put_bit.ensures first (omega arith),
-    )
+    let first = bit-from-first args.byte head.k args.ninth more in
+    drawn-more bits args.levels.now head.levels _ args.at head.k _ head.invariant
+    c.put_bit.ensures first (omega arith)
 
 pub returns : goal.returns
 unfolding byte_bits
@@ -34,5 +31,5 @@ returns c =
     let args = c.args in
     let bits = nine args.byte args.ninth in
     let all : head.k ≡ 8 = omega arith in
-    drawn-more bits args.levels.now head.levels _ args.at 8 _ (rw all at head.invariant.2)
+    drawn-more bits args.levels.now head.levels _ args.at 8 _ (rw all at head.invariant)
     c.put_bit-2.ensures refl (omega arith)

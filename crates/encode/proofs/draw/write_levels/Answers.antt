@@ -12,49 +12,47 @@ use Rattle.encode.proofs.draw.write_levels.Goals as goal
 enough : (drawn levels : List ℕ) → length drawn ≤ length levels → length drawn ≤ length (set levels 0 3)
 enough drawn levels h = rw length-set h
 
-pub loop-i-init : goal.loop-i-init
-loop-i-init c =
+pub loop-event-init : goal.loop-event-init
+loop-event-init c =
     let levels = c.args.levels.now in
     let some : 0 < length levels = omega arith in
-    (omega arith, writing-first 3 _ levels some)
+    writing-first 3 _ levels some
 
 pub put_event-at-requires : goal.put_event-at-requires
 put_event-at-requires c =
-    let head = c.loop-i in
+    let head = c.loop-event in
     let events = c.args.events.now in
     let levels = c.args.levels.now in
-    let more : head.i < length events = omega arith in
+    let more : head.event-index < length events = omega arith in
     let room = enough (drawing events) levels c.requires in
-    let event = get_or events head.i 0 in
-    writing-room _ _ _ _ _ room head.invariant.1 (draw_event event) _ (draw-more events head.i more)
+    let event = get_or events head.event-index 0 in
+    writing-room _ _ _ _ _ room head.invariant (draw_event event) _ (draw-more events head.event-index more)
 
-pub loop-i-preserved : goal.loop-i-preserved
-loop-i-preserved c =
-    let head = c.loop-i in
+pub loop-event-preserved : goal.loop-event-preserved
+loop-event-preserved c =
+    let head = c.loop-event in
     let events = c.args.events.now in
     let levels = c.args.levels.now in
     let stored = c.put_event-at.ensures in
     let room = enough (drawing events) levels c.requires in
-    let event = get_or events head.i 0 in
-    let more : head.i < length events = omega arith in (
-      omega arith,
-      rw (stored.next, stored.stored)
-          (writing_more _ _ _ _ _ room head.invariant.1 (draw_event event) _ (draw-more events head.i more)),
-    )
+    let event = get_or events head.event-index 0 in
+    let more : head.event-index < length events = omega arith in
+    rw (stored.next, stored.stored)
+    (writing_more _ _ _ _ _ room head.invariant (draw_event event) _ (draw-more events head.event-index more))
 
 pub shape_of-levels : goal.shape_of-levels
 shape_of-levels c =
     let events = c.args.events.now in
     let levels = c.args.levels.now in
     let room = enough (drawing events) levels c.requires in
-    writing-long _ _ _ _ _ room c.loop-i.invariant.1 ∙ length-set levels 0 3
+    writing-long _ _ _ _ _ room c.loop-event.invariant ∙ length-set levels 0 3
 
 pub returns : goal.returns
 returns c =
-    let head = c.loop-i in
+    let head = c.loop-event in
     let events = c.args.events.now in
     let levels = c.args.levels.now in
-    let done : length events ≤ head.i = omega arith in
-    writing-done _ _ _ _ _ (enough (drawing events) levels c.requires) head.invariant.1
-    (draw-end events head.i done)
+    let done : length events ≤ head.event-index = omega arith in
+    writing-done _ _ _ _ _ (enough (drawing events) levels c.requires) head.invariant
+    (draw-end events head.event-index done)
     ∙ filled-first 3 3 (draw_events events) levels

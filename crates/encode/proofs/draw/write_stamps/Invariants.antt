@@ -1,5 +1,4 @@
 -- `write_stamps` puts the first stamps at the slice's start, and its rest stays.
--- `write_stamps` puts the first stamps at the slice's start, and its rest stays.
 use Rattle.laws.proofs.Buffer.{Writing}
 use Rattle.encode.specs.Encode.{stamps_from}
 use Prim.Native.Nat.{◌+◌, ◌*◌, ◌-◌}
@@ -7,6 +6,3 @@ use Rattle.encode.proofs.draw.write_stamps.Given as goal
 
 abbrev pub invariant-loop-i : goal.invariant-loop-i
 invariant-loop-i l = Writing (stamps_from l.start l.gap l.count) (stamps_from (l.start + l.gap * l.i) l.gap (l.count - l.i)) l.initial.stamps l.stamps l.i
-
-abbrev pub decreases-loop-i : goal.decreases-loop-i
-decreases-loop-i l = l.count - l.i

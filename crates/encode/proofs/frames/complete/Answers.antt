@@ -6,19 +6,19 @@ use Prim.Native.Nat.{◌≤◌, ◌<◌}
 use native.Mathlib.Omega.{arith}
 use Rattle.encode.proofs.frames.complete.Goals as goal
 
-pub loop-i-init : goal.loop-i-init
-loop-i-init c = (omega arith, refl)
+pub loop-event-init : goal.loop-event-init
+loop-event-init c = refl
 
-pub loop-i-preserved : goal.loop-i-preserved
-loop-i-preserved c =
-    let head = c.loop-i in
+pub loop-event-preserved : goal.loop-event-preserved
+loop-event-preserved c =
+    let head = c.loop-event in
     let events = c.args.events.now in
-    let more : head.i < length events = omega arith in
-    (omega arith, rw c.advance-position.ensures (head.invariant.1 ∙ complete-more events head.position head.i more))
+    let more : head.event-index < length events = omega arith in
+    rw c.advance-position.ensures (head.invariant ∙ complete-more events head.position head.event-index more)
 
 pub returns : goal.returns
 returns c =
-    let head = c.loop-i in
+    let head = c.loop-event in
     let events = c.args.events.now in
-    let done : length events ≤ head.i = omega arith in
-    c.ends.ensures ∙ sym (head.invariant.1 ∙ ap (complete_from head.position) (drop_of_length-le events done))
+    let done : length events ≤ head.event-index = omega arith in
+    c.ends.ensures ∙ sym (head.invariant ∙ ap (complete_from head.position) (drop_of_length-le events done))

@@ -1,5 +1,5 @@
 use native.Mathlib.Omega.{arith}
-use mathlib.Core.Path.{sym, ap, ◌∙◌}
+use mathlib.Core.Path.{◌≡◌, sym, ap, ◌∙◌}
 use Prim.Native.Nat.{◌<◌, ◌≤◌}
 use lib.ListN.{length}
 use Rattle.phases.specs.declared.phase.Limits.{Limits}
@@ -52,5 +52,6 @@ returns c =
     let levels = c.args.levels.now in
     let limits = c.least-limits in
     let done : length levels ≤ head.i = omega arith in
-    searched-none limits.result stamps levels head.phase head.i head.invariant done (omega (arith, c.requires.0))
+    let all : length levels ≡ head.i = omega (arith, head.invariant.within) in
+    all ∙ searched-none limits.result stamps levels head.phase head.i head.invariant done (omega (arith, c.requires.0))
     ∙ ap (λ (l : Limits). first_under l stamps levels) limits.ensures

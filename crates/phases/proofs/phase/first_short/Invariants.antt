@@ -1,11 +1,6 @@
 -- The search goes on while no sample ends a short phase.
-use Prim.Native.Nat.{◌-◌}
-use lib.ListN.{length}
 use Rattle.phases.proofs.Searched.{Searched}
 use Rattle.phases.proofs.phase.first_short.Given as goal
 
 abbrev pub invariant-loop-i : goal.invariant-loop-i
 invariant-loop-i l = Searched l.limits l.stamps l.levels l.phase l.i
-
-abbrev pub decreases-loop-i : goal.decreases-loop-i
-decreases-loop-i l = length l.levels - l.i

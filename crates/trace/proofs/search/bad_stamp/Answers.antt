@@ -1,4 +1,5 @@
 use native.Mathlib.Omega.{arith}
+use mathlib.Core.Path.{◌≡◌, ◌∙◌}
 use Prim.Native.Nat.{◌<◌, ◌≤◌}
 use lib.ListN.{length}
 use Rattle.trace.proofs.Scanned.{scanned-start, scanned-more, scanned-bad, scanned-end}
@@ -26,4 +27,5 @@ returns c =
     let head = c.loop-i in
     let stamps = c.args.stamps.now in
     let done : length stamps ≤ head.i = omega arith in
-    scanned-end stamps head.i head.invariant done
+    let all : c.max.result ≡ head.i = omega (arith, c.max.ensures, head.invariant.some, head.invariant.few) in
+    all ∙ scanned-end stamps head.i head.invariant done

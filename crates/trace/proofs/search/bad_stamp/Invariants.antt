@@ -1,11 +1,6 @@
 -- The search for a pair of stamps that does not rise.
-use Prim.Native.Nat.{◌-◌}
-use lib.ListN.{length}
 use Rattle.trace.proofs.Scanned.{Scanned}
 use Rattle.trace.proofs.search.bad_stamp.Given as goal
 
 abbrev pub invariant-loop-i : goal.invariant-loop-i
 invariant-loop-i l = Scanned l.stamps l.i
-
-abbrev pub decreases-loop-i : goal.decreases-loop-i
-decreases-loop-i l = length l.stamps - l.i
