@@ -1,16 +1,21 @@
 -- What a catalogue that is not refused is; the first refusal of two catalogues; where a board's message lies.
-use Prim.Native.Nat.{ℕ, ◌+◌, ◌<◌, ◌≤◌}
-use mathlib.Core.Path.{◌≡◌, refl, sym, ◌∙◌}
+use Prim.Native.Nat.{ℕ, suc, ◌+◌, ◌<◌, ◌≤◌}
+use mathlib.Core.Path.{◌≡◌, refl, sym, ap, ◌∙◌}
 use mathlib.Core.Bool.{Bool, cond, true, false, not, ◌||◌}
 use mathlib.Core.List.{[], ◌∷◌}
 use native.Mathlib.Omega.{arith}
-use lib.Dec.{eqb, ltb}
-use borrow.Author.Tests.{eqb-true, ne_eqb, ltb-true, lt-ltb, le-ltb, not-false}
+use lib.Dec.{eqb}
+use borrow.Author.Tests.{eqb-true, ne_eqb, ltb-true, not-false}
 use lib.ListN.{length}
 use Rattle.laws.specs.Refusals.{check, given}
 use Rattle.laws.proofs.Bools.{neither}
 use Rattle.laws.proofs.Refusals.{passed}
 use Rattle.laws.proofs.Search.{any-first}
+use Rattle.laws.specs.Search.{first}
+use Rattle.std.specs.List.{position}
+use Rattle.std.proofs.lemmas.List.Recursion.{is_position_or_len}
+use Rattle.std.proofs.lemmas.Option.{cond_some, none-some}
+use Rattle.std.specs.Prelude.{Some, None}
 use Rattle.catalogue.specs.Catalogue.{Catalogue, rises, total, bad_lengths, catalogue_checks, judged, is, lists}
 use Rattle.catalogue.specs.Catalogue.{index_in, number_of, offset_at, length_at, refused_by, found_at, located}
 use Rattle.catalogue.proofs.Sums.{both-within}
@@ -45,16 +50,33 @@ module _ (board : ℕ) (catalogue : Catalogue) (good : Sound catalogue) (listed 
       ≤ length catalogue.block
   message-within = omega (arith, good.summed, both-within catalogue.lengths (index_in board catalogue) index-within)
 
--- a board is listed exactly where its index is one of the list's
-module _ (board : ℕ) (catalogue : Catalogue) (index : ℕ) (is-index : index ≡ index_in board catalogue) where
-  by_index : lists board catalogue ≡ ltb index (length catalogue.boards)
-  by_index = rw is-index (any-first (is board) catalogue.boards)
+-- a board is listed exactly where it has a position
+module _ (board : ℕ) (catalogue : Catalogue) where
+  position_is : position (is board) catalogue.boards ≡ cond (lists board catalogue) (Some (index_in board catalogue)) None
+  position_is =
+      let one = is_position_or_len (first (is board)) (is board) refl (λ x xs. step x (first (is board) xs))
+      catalogue.boards in
+      rw (← one, ← any-first (is board) catalogue.boards) refl
+    where
+      step : (x n : ℕ) → cond (is board x) 0 (suc n) ≡ cond (is board x) 0 (1 + n)
+      step x n = let one : suc n ≡ 1 + n = omega arith in ap (λ (k : ℕ). cond (is board x) 0 k) one
 
-  listed_at : index < length catalogue.boards → lists board catalogue ≡ true
-  listed_at less = by_index ∙ lt-ltb index (length catalogue.boards) less
+  listed_at : (index : ℕ) → Some index ≡ position (is board) catalogue.boards
+      → (lists board catalogue ≡ true) × (index_in board catalogue ≡ index)
+  listed_at index is = cond_some _ _ _ (sym position_is ∙ sym is)
 
-  not_listed : length catalogue.boards ≤ index → lists board catalogue ≡ false
-  not_listed past = by_index ∙ le-ltb index (length catalogue.boards) past
+  pub position-within : Sound catalogue → (index : ℕ) → Some index ≡ position (is board) catalogue.boards
+      → index < length catalogue.lengths
+  position-within good index found =
+      let two = listed_at index found in
+      omega (arith, index-within board catalogue good two.0, two.1)
+
+  not_listed : None ≡ position (is board) catalogue.boards → lists board catalogue ≡ false
+  not_listed is = go (lists board catalogue) refl
+    where
+      go : (listed : Bool) → lists board catalogue ≡ listed → listed ≡ false
+      go true so = absurd (none-some (index_in board catalogue) (is ∙ rw so at position_is))
+      go false so = refl
 
 -- the five checks, by catalogue
 in-turn : (a b c d e : Bool)
@@ -102,27 +124,26 @@ module _ (board : ℕ) (corrections standing : Catalogue) where
           ≡ cond (not (lists board corrections || lists board standing)) 42 0
       sought = number_is ∙ rw (corrections-pass, standing-pass) refl
 
-      pub corrected-found : (index : ℕ) → index ≡ index_in board corrections → index < length corrections.boards
+      pub corrected-found : (index : ℕ) → Some index ≡ position (is board) corrections.boards
           → found_at true index corrections.lengths ≡ located board corrections standing
       unfolding located
-      corrected-found index is-index less =
-          let listed = listed_at board corrections index is-index less in
-          rw (is-index, sought, listed) refl
+      corrected-found index found =
+          let two = listed_at board corrections index found in
+          rw (← two.1, sought, two.0) refl
 
-      module _ (other : ℕ) (is-other : other ≡ index_in board corrections) (past : length corrections.boards ≤ other)
-          (index : ℕ) (is-index : index ≡ index_in board standing) where
+      module _ (absent : None ≡ position (is board) corrections.boards) where
         unlisted : lists board corrections ≡ false
-        unlisted = not_listed board corrections other is-other past
+        unlisted = not_listed board corrections absent
 
-        pub standing-found : index < length standing.boards
+        pub standing-found : (index : ℕ) → Some index ≡ position (is board) standing.boards
             → found_at false index standing.lengths ≡ located board corrections standing
         unfolding located
-        standing-found less =
-            let listed = listed_at board standing index is-index less in
-            rw (is-index, sought, unlisted, listed) refl
+        standing-found index found =
+            let two = listed_at board standing index found in
+            rw (← two.1, sought, unlisted, two.0) refl
 
-        pub neither-found : length standing.boards ≤ index → Refuses 42
+        pub neither-found : None ≡ position (is board) standing.boards → Refuses 42
         unfolding located
-        neither-found beyond =
-            let absent = not_listed board standing index is-index beyond in
+        neither-found none =
+            let absent = not_listed board standing none in
             rw (sought, unlisted, absent) refl

@@ -1,14 +1,17 @@
 -- Lengths taken off a size one after the other, and summed from the front.
-use Prim.Native.Nat.{ℕ, zero, suc, ◌+◌, ◌-◌, ◌<◌, ◌≤◌}
+use Prim.Native.Nat.{ℕ, suc, ◌+◌, ◌-◌, ◌<◌, ◌≤◌}
 use mathlib.Core.Path.{◌≡◌, refl, sym, ap}
 use mathlib.Core.Bool.{Bool, true, false}
-use mathlib.Core.List.{List, [], ◌∷◌}
+use mathlib.Core.List.{List}
 use native.Mathlib.Numerals.{add-one}
 use native.Mathlib.Omega.{arith}
 use lib.Dec.{eqb}
 use borrow.Author.Tests.{eqb-true, eqb-false, eq-eqb, ne_eqb}
 use lib.ListN.{length, get_or, take, drop, drop_of_length-le}
 use lib.Seq.{drop-cons}
+use Rattle.std.specs.List.{sum}
+use Rattle.std.proofs.lemmas.List.Recursion.{is_sum_by}
+use Rattle.std.proofs.lemmas.List.Sums.{sum_by_more_le}
 use Rattle.catalogue.specs.Catalogue.{total}
 
 -- what is left of a size, the first i lengths being taken off it
@@ -41,20 +44,17 @@ module _ (lengths : List ℕ) (size left i : ℕ) (so : Left lengths size left i
       go true is = sym (eq-eqb (total lengths) size (omega (arith, all, eqb-true left 0 is)))
       go false is = sym (ne_eqb (total lengths) size (λ e. eqb-false left 0 is (omega (arith, all, e))))
 
--- one length more from the front, and no more than all
-pub taken_more : (lengths : List ℕ) (i : ℕ) → i < length lengths
-    → total (take (suc i) lengths) ≡ total (take i lengths) + get_or lengths i 0
-taken_more [] i less = absurd (omega arith)
-taken_more (count ∷ counts) zero less = omega arith
-taken_more (count ∷ counts) (suc i) less = omega (arith, taken_more counts i (omega arith))
-
-pub taken-within : (lengths : List ℕ) (i : ℕ) → total (take i lengths) ≤ total lengths
-taken-within [] zero = omega arith
-taken-within [] (suc i) = omega arith
-taken-within (count ∷ counts) zero = omega arith
-taken-within (count ∷ counts) (suc i) = omega (arith, taken-within counts i)
+-- a total is the library's sum
+pub total-sum : (lengths : List ℕ) → total lengths ≡ sum lengths
+total-sum = is_sum_by total (λ x. x) refl (λ x xs. refl)
 
 -- what is before an index and what stands there
 pub both-within : (lengths : List ℕ) (i : ℕ) → i < length lengths
     → total (take i lengths) + get_or lengths i 0 ≤ total lengths
-both-within lengths i less = omega (arith, taken_more lengths i less, taken-within lengths (suc i))
+both-within lengths i less =
+    omega (
+      arith,
+      total-sum lengths,
+      total-sum (take i lengths),
+      sum_by_more_le (λ x. x) lengths i 0 less,
+    )

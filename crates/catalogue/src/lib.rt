@@ -24,21 +24,17 @@ pub fn locate(
         (lent corrections.now correction_boards.now correction_lengths.now)
         (lent standing.now standing_boards.now standing_lengths.now) }
 {
-    let correction_number = places::judge(corrections, correction_boards, correction_lengths);
-    if correction_number != 0 {
-        return places::refused(correction_number);
+    if let Err(number) = places::judge(corrections, correction_boards, correction_lengths) {
+        return places::refused(number);
     }
-    let standing_number = places::judge(standing, standing_boards, standing_lengths);
-    if standing_number != 0 {
-        return places::refused(standing_number);
+    if let Err(number) = places::judge(standing, standing_boards, standing_lengths) {
+        return places::refused(number);
     }
-    let index = lists::index_of(board, correction_boards);
-    if index < correction_boards.len() {
+    if let Some(index) = lists::index_of(board, correction_boards) {
         return places::found(true, index, correction_lengths);
     }
-    let other = lists::index_of(board, standing_boards);
-    if other < standing_boards.len() {
-        return places::found(false, other, standing_lengths);
+    if let Some(index) = lists::index_of(board, standing_boards) {
+        return places::found(false, index, standing_lengths);
     }
     places::refused(42)
 }

@@ -1,5 +1,5 @@
 // One catalogue judged, and where a message lies in its block.
-ghost use Rattle.std.specs.Prelude.{◌≡◌, ◌≤◌, ◌<◌, length, get_or, take};
+ghost use Rattle.std.specs.Prelude.{◌≡◌, ◌≤◌, ◌<◌, MatchResult, length, get_or, sum, take, ◌^◌};
 ghost use Rattle.catalogue.specs.Catalogue.{found_at, judged, lent, refused_by, total};
 
 use crate::lists;
@@ -14,17 +14,18 @@ pub struct Located {
     pub length: u32,
 }
 
-// The number of a catalogue's refusal: 40, then 41; 0 where there is none.
-pub(crate) fn judge(block: &[u8], boards: &[u32], lengths: &[u32]) -> u8
-    ensures { result ≡ judged (lent block.now boards.now lengths.now) }
+// A catalogue is good, or the number of its refusal: 40, then 41.
+pub(crate) fn judge(block: &[u8], boards: &[u32], lengths: &[u32]) -> Result<(), u8>
+    ensures { MatchResult result (λ good. judged (lent block.now boards.now lengths.now) ≡ 0)
+        (λ number. (0 < number) × (number ≡ judged (lent block.now boards.now lengths.now))) }
 {
     if !lists::rises(boards) {
-        return 40;
+        return Err(40);
     }
     if (lengths.len() != boards.len()) | !lists::sum_to(lengths, block.len()) {
-        return 41;
+        return Err(41);
     }
-    0
+    Ok(())
 }
 
 pub(crate) fn refused(number: u8) -> Located
@@ -40,16 +41,10 @@ pub(crate) fn refused(number: u8) -> Located
 
 // The bytes before the message of an index.
 fn offset_of(index: usize, lengths: &[u32]) -> usize
-    requires { (index ≤ length lengths.now) × (total lengths.now < 18446744073709551616) }
-    ensures { result ≡ total (take index lengths.now) }
+    requires { (index ≤ length lengths.now) × (sum (take index lengths.now) < 2 ^ 64) }
+    ensures { result ≡ sum (take index lengths.now) }
 {
-    let mut offset: usize = 0;
-    let mut i: usize = 0;
-    while i < index {
-        offset += lengths[i] as usize;
-        i += 1;
-    }
-    offset
+    lengths[..index].iter().map(|length| *length as usize).sum()
 }
 
 // The message of an index of a catalogue that is not refused.

@@ -1,6 +1,6 @@
 -- Words read as numbers: a digit's range, the digits passed, and the number that they spell.
-use mathlib.Core.Path.{◌≡◌, refl, sym, ap, subst, ◌∙◌}
-use mathlib.Core.Bool.{Bool, true, false, not, ◌&&◌}
+use mathlib.Core.Path.{◌≡◌, refl, sym, ap, ◌∙◌}
+use mathlib.Core.Bool.{Bool, true, false, not}
 use mathlib.Core.List.{List, [], ◌∷◌}
 use Prim.Native.Nat.{ℕ, suc, ◌+◌, ◌-◌, ◌*◌, ◌/◌, ◌^◌, ◌≤◌, ◌<◌}
 use native.Mathlib.Nat.{le-div_iff_mul-le, div-lt_iff_lt-mul, le-mul_of_pos_right}
@@ -9,7 +9,9 @@ use native.Mathlib.Omega.{arith}
 use lib.Dec.{leb, ltb}
 use lib.ListN.{length, get_or, drop, drop_of_length-le}
 use lib.Seq.{drop-cons}
-use borrow.Author.Tests.{le-leb, lt-leb, lt-ltb, le-ltb, not-true, not-false}
+use borrow.Author.Tests.{le-leb, lt-leb, ltb-true, lt-ltb, le-ltb, not-true, not-false}
+use mathlib.Core.Logic.{◌↔◌}
+use Rattle.std.proofs.lemmas.List.Recursion.{and_at, and_from_places}
 use Rattle.text.specs.declared.numbers.Number.{Number}
 use Rattle.text.specs.declared.numbers.Number.TheVariants.{Value, TooLarge, Bad}
 use Rattle.laws.proofs.Bools.{and-false}
@@ -23,11 +25,6 @@ under low high b h = rw (lt-leb low b h)
 
 pub over : (low high b : ℕ) → high < b → between low high b ≡ false
 over low high b h = rw (lt-leb b high h) (and-false (leb low b))
-
--- the bytes before i are digits, so the answer lies with the others
-pub record Passed (base : ℕ) (s : List ℕ) (i : ℕ) : Type 0 where
-  pub within : i ≤ length s
-  pub same : all_digits base s ≡ all_digits base (drop i s)
 
 -- the bytes before i spell v
 pub record Spelled (base : ℕ) (s : List ℕ) (v i : ℕ) : Type 0 where
@@ -45,28 +42,26 @@ one-too-many base v d most g pos =
     let large : most - d < v * base = (div-lt_iff_lt-mul pos).0 g in omega arith
 
 module _ (base : ℕ) (s : List ℕ) where
-  pub passed_none : Passed base s 0
-  passed_none = record { within = omega arith; same = refl }
-
-  passed-next : (i : ℕ) (b : Bool) → i < length s → ltb (digit_value (get_or s i 0)) base ≡ b
-      → all_digits base (drop i s) ≡ b && all_digits base (drop (i + 1) s)
+  -- each byte is a digit, or one is not
+  digits-are : (digits : Bool) → (digits ≡ true ↔ ((k : ℕ) → k < length s → digit_value (get_or s k 0) < base))
+      → digits ≡ all_digits base s
   unfolding all_digits
-  passed-next i b h t = rw (drop-cons s i 0, t, add-one)
+  digits-are digits is = go digits is
+    where
+      test : ℕ → Bool
+      test b = ltb (digit_value b) base
 
-  pub passed-more : (i d : ℕ) → d ≡ digit_value (get_or s i 0) → Passed base s i → i < length s → d < base
-      → Passed base s (i + 1)
-  passed-more i d e p h small =
-      let digit = lt-ltb _ base (subst (λ (x : ℕ). x < base) e small) in
-      record { within = omega arith; same = p.same ∙ passed-next i true h digit }
-
-  pub passed-stop : (i d : ℕ) → d ≡ digit_value (get_or s i 0) → Passed base s i → i < length s → base ≤ d
-      → false ≡ all_digits base s
-  passed-stop i d e p h large =
-      sym (p.same ∙ passed-next i false h (le-ltb _ base (subst (λ (x : ℕ). base ≤ x) e large)))
-
-  pub passed-all : (i : ℕ) → Passed base s i → length s ≤ i → true ≡ all_digits base s
-  unfolding all_digits
-  passed-all i p h = sym (p.same ∙ ap (all_digits base) (drop_of_length-le s h))
+      go : (digits : Bool) → (digits ≡ true ↔ ((k : ℕ) → k < length s → digit_value (get_or s k 0) < base))
+          → digits ≡ all_digits base s
+      go true is =
+          let each = is.0 refl in
+          sym (and_from_places (all_digits base) test refl (λ x xs. refl) s 0 (λ k less. lt-ltb _ _ (each k less)))
+      go false is = by (all_digits base s) refl
+        where
+          by : (every : Bool) → all_digits base s ≡ every → false ≡ every
+          by true so =
+              is.1 (λ k less. ltb-true _ _ (and_at (all_digits base) test refl (λ x xs. refl) s k 0 less so))
+          by false so = refl
 
   pub spelled_none : Spelled base s 0 0
   spelled_none = record { within = omega arith; small = omega arith; same = refl }
@@ -101,13 +96,15 @@ module _ (base : ℕ) (s : List ℕ) where
   unfolding number_in
   number-empty e = rw e
 
-  pub number-bad : (digits : Bool) → digits ≡ all_digits base s → not digits ≡ true → Bad ≡ number_in base s
+  pub number-bad : (digits : Bool)
+      → (digits ≡ true ↔ ((k : ℕ) → k < length s → digit_value (get_or s k 0) < base)) → not digits ≡ true → Bad ≡ number_in base s
   unfolding number_in
-  number-bad digits e t = rw (← e, not-true digits t, and-false)
+  number-bad digits e t = rw (← digits-are digits e, not-true digits t, and-false)
 
-  pub number-good : (r : Number) (digits : Bool) → digits ≡ all_digits base s → not digits ≡ false → (length s ≡ 0 → ⊥)
+  pub number-good : (r : Number) (digits : Bool)
+      → (digits ≡ true ↔ ((k : ℕ) → k < length s → digit_value (get_or s k 0) < base)) → not digits ≡ false → (length s ≡ 0 → ⊥)
       → r ≡ fitting (value_of base s) → r ≡ number_in base s
   unfolding number_in
   number-good r digits e t some q =
       let long : 0 < length s = omega arith in
-      rw (← e, not-false digits t, lt-ltb 0 (length s) long) q
+      rw (← digits-are digits e, not-false digits t, lt-ltb 0 (length s) long) q

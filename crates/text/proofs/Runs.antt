@@ -1,5 +1,5 @@
 -- The run at the front of a text, counted byte by byte.
-use mathlib.Core.Path.{◌≡◌, sym, ap, ◌∙◌}
+use mathlib.Core.Path.{◌≡◌, refl, sym, ap, ◌∙◌}
 use mathlib.Core.Bool.{Bool, true, false, cond}
 use mathlib.Core.List.{List, [], ◌∷◌}
 use Prim.Native.Nat.{ℕ, suc, ◌+◌, ◌-◌, ◌≤◌, ◌<◌}
@@ -8,6 +8,8 @@ use native.Mathlib.Omega.{arith}
 use lib.ListN.{length, get_or, take, drop, length-take, length-drop, drop_of_length-le}
 use lib.Seq.{drop-cons, take_all}
 use Rattle.text.specs.declared.words.Run.TheVariants.{Line, Blanks, Word}
+use Rattle.std.specs.List.{take_while, prefix_len}
+use Rattle.std.proofs.lemmas.List.Folds.{length-prefix_len}
 use Rattle.text.specs.Words.{belongs, run_length, after_line, first_word, after_word}
 
 module _ (test : ℕ → Bool) where
@@ -46,6 +48,20 @@ module _ (test : ℕ → Bool) where
       at-most : (v : Bool) (n : ℕ) → n ≤ length bs → cond v (suc n) 0 ≤ suc (length bs)
       at-most true n h = omega arith
       at-most false n h = omega arith
+
+  -- what the library counts
+  counted : (s : List ℕ) → prefix_len test s ≡ run_length test s
+  unfolding run_length
+  counted [] = refl
+  counted (b ∷ bs) = go (test b) (counted bs)
+    where
+      go : (v : Bool) → prefix_len test bs ≡ run_length test bs
+          → cond v (1 + prefix_len test bs) 0 ≡ cond v (suc (run_length test bs)) 0
+      go true rest = omega (arith, rest)
+      go false rest = refl
+
+  pub counted-run : (s : List ℕ) → length (take_while test s) ≡ run_length test s
+  counted-run s = length-prefix_len test s ∙ counted s
 
 -- the part from n to the end is what `drop` leaves
 pub to_end : (n : ℕ) (l : List ℕ) → take (length l - n) (drop n l) ≡ drop n l

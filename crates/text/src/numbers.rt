@@ -1,6 +1,6 @@
 // Numbers of a text: a digit's value, and a word read as a decimal or a hexadecimal number.
-ghost use Rattle.std.specs.Prelude.{◌≡◌, true, ◌<◌};
-ghost use Rattle.text.specs.Numbers.{digit_value, all_digits, number_in, value_of, fitting};
+ghost use Rattle.std.specs.Prelude.{◌≡◌, ◌<◌, ◌↔◌, IsTrue, EachIndex, slice_index};
+ghost use Rattle.text.specs.Numbers.{digit_value, number_in, value_of, fitting};
 
 #[derive(Clone, Copy)]
 pub enum Number {
@@ -58,16 +58,9 @@ fn digit_wide(b: u8) -> u64
 }
 
 fn all_digits(word: &[u8], base: u64) -> bool
-    ensures { result ≡ all_digits base word.now }
+    ensures { IsTrue result ↔ EachIndex word.now (λ k. digit_value (slice_index word.now k) < base) }
 {
-    let mut i = 0;
-    while i < word.len() {
-        if digit_wide(word[i]) >= base {
-            return false;
-        }
-        i += 1;
-    }
-    true
+    word.iter().all(|b| digit_wide(*b) < base)
 }
 
 // The number that the word's digits spell.
@@ -76,14 +69,12 @@ fn value(word: &[u8], base: u64) -> Number
     ensures { result ≡ fitting (value_of base word.now) }
 {
     let mut v: u64 = 0;
-    let mut i = 0;
-    while i < word.len() {
-        let d = digit_wide(word[i]);
+    for b in word {
+        let d = digit_wide(*b);
         if v > (u64::MAX - d) / base {
             return Number::TooLarge;
         }
         v = v * base + d;
-        i += 1;
     }
     Number::Value(v)
 }

@@ -1,6 +1,6 @@
 // Text put into a lent buffer at a position. Each function answers the position after the text;
 // what would fall past the buffer's end is dropped, and the position is then the buffer's length.
-ghost use Rattle.std.specs.Prelude.{◌≡◌, [], ◌∷◌, ◌<◌, min};
+ghost use Rattle.std.specs.Prelude.{◌≡◌, [], ◌∷◌, ◌<◌};
 ghost use Rattle.text.specs.Output.{Put, digit_byte, decimal_text, hex_text};
 
 pub fn put_byte(out: &mut [u8], at: usize, b: u8) -> usize
@@ -13,20 +13,12 @@ pub fn put_byte(out: &mut [u8], at: usize, b: u8) -> usize
     out.len()
 }
 
-fn least(a: usize, b: usize) -> usize
-    ensures { result ≡ min a b }
-{
-    if a < b { a } else { b }
-}
-
 pub fn put_bytes(out: &mut [u8], at: usize, text: &[u8]) -> usize
     ensures { Put out.old at text.now out.new result }
 {
-    let mut next = least(at, out.len());
-    let mut i = 0;
-    while i < text.len() {
-        next = put_byte(out, next, text[i]);
-        i += 1;
+    let mut next = at.min(out.len());
+    for b in text {
+        next = put_byte(out, next, *b);
     }
     next
 }

@@ -1,6 +1,6 @@
 // Lines of a text and words of a line: each function answers a part of the slice that it is lent.
-ghost use Rattle.std.specs.Prelude.{◌≡◌, ◌≤◌, length};
-ghost use Rattle.text.specs.Words.{blank, belongs, run_length};
+ghost use Rattle.std.specs.Prelude.{◌≡◌, ◌≤◌, length, take_while};
+ghost use Rattle.text.specs.Words.{blank, belongs};
 ghost use Rattle.text.specs.Words.{first_line, after_line, from_word, first_word, after_word};
 
 const SPACE: u8 = 0x20;
@@ -11,7 +11,7 @@ const RETURN: u8 = 0x0d;
 
 const NEWLINE: u8 = 0x0a;
 
-// Bytes that stand together.
+// Bytes that stand together: an enum, since the definition `belongs` goes by it.
 #[derive(Clone, Copy)]
 enum Run {
     Line,
@@ -38,17 +38,10 @@ fn is_in(run: Run, b: u8) -> bool
 
 // The length of the run at the start of s.
 fn run_length(s: &[u8], run: Run) -> usize
-    ensures value { result ≡ run_length (belongs run) s.now }
+    ensures value { result ≡ length (take_while (belongs run) s.now) }
     ensures upper_bound { result ≤ length s.now }
 {
-    let mut i = 0;
-    while i < s.len() {
-        if !is_in(run, s[i]) {
-            return i;
-        }
-        i += 1;
-    }
-    i
+    s.iter().take_while(|b| is_in(run, **b)).count()
 }
 
 // The text up to its first newline, which is not part of it.

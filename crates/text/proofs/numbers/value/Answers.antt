@@ -8,21 +8,21 @@ use Rattle.text.proofs.numbers.value.Goals as goal
 use Rattle.text.proofs.numbers.value.Goals.{Else-v-d}
 
 fits : (c : Else-v-d)
-    → c.loop-i.v * c.args.base
+    → c.loop-b.v * c.args.base
     + c.digit_wide-d.result < 2 ^ 64
 fits c =
     let base-positive = c.requires in
     omega (arith, one-more _ _ _ _ c.if-v-d.false base-positive (search rules))
 
-pub loop-i-init : goal.loop-i-init
-loop-i-init c = spelled_none _ _
+pub loop-b-init : goal.loop-b-init
+loop-b-init c = spelled_none _ _
 
 pub returns-then-v-d : goal.returns-then-v-d
 returns-then-v-d c =
     let large = one-too-many _ _ _ _ c.if-v-d.true (search rules) in
     spelled-large _ _ _ _ _
     c.digit_wide-d.ensures
-    c.loop-i.invariant
+    c.loop-b.invariant
     (search rules)
     (search rules)
     (omega (arith, large))
@@ -33,8 +33,8 @@ overflow_mul-v c = Fits-under w64 _ (2 ^ 64) (omega (arith, fits c)) tt
 pub overflow_add-v : goal.overflow_add-v
 overflow_add-v c = Fits-under w64 _ (2 ^ 64) (fits c) tt
 
-pub loop-i-preserved : goal.loop-i-preserved
-loop-i-preserved c = spelled-more _ _ _ _ _ c.digit_wide-d.ensures c.loop-i.invariant (search rules) (fits c)
+pub loop-b-preserved : goal.loop-b-preserved
+loop-b-preserved c = spelled-more _ _ _ _ _ c.digit_wide-d.ensures c.loop-b.invariant (search rules) (fits c)
 
 pub returns : goal.returns
-returns c = spelled-all _ _ _ _ c.loop-i.invariant (search rules)
+returns c = spelled-all _ _ _ _ c.loop-b.invariant (search rules)

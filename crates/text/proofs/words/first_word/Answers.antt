@@ -1,10 +1,13 @@
 -- `text::words::first_word` meets its contract.
-use mathlib.Core.Path.{sym}
+use mathlib.Core.Path.{sym, ◌∙◌}
 use lib.Seq.{length-take-le}
+use Rattle.text.specs.Words.{belongs}
+use Rattle.text.specs.declared.words.Run.TheVariants.{Word}
+use Rattle.text.proofs.Runs.{counted-run}
 use Rattle.text.proofs.words.first_word.Goals as goal
 
 pub slice_bounds-result-end : goal.slice_bounds-result-end
 slice_bounds-result-end c = sym (length-take-le _ _ c.run_length-length.ensures.upper_bound)
 
 pub returns : goal.returns
-returns c = rw (c.run_length-length.ensures.value, c.from_word-word.ensures)
+returns c = rw (c.run_length-length.ensures.value ∙ counted-run (belongs Word) c.from_word-word.result.now, c.from_word-word.ensures)
