@@ -69,7 +69,7 @@ pub fn thin(
             place: refusal.place,
         };
     }
-    let count = changes::count(stamps, levels);
+    let count = changes::count(levels);
     if count > MAX_SAMPLES {
         return Thinned::Refused {
             number: 6,

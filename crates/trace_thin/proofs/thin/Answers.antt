@@ -17,15 +17,6 @@ returns-then-refusal-ne0 c =
       level_buffer = rw (ne_eqb _ 0 c.if-refusal-ne0.true);
     }
 
-pub count-count-requires : goal.count-count-requires
-count-count-requires c =
-    let args = c.args in
-    let stamps = args.stamps.now in
-    let levels = args.levels.now in
-    let check = c.check-refusal in
-    let none = c.if-refusal-ne0.false in
-    (capture stamps levels 0 0 check.result check.ensures none).same
-
 pub returns-then-count-gt-MAX_SAMPLES : goal.returns-then-count-gt-MAX_SAMPLES
 returns-then-count-gt-MAX_SAMPLES c =
     let args = c.args in
@@ -33,9 +24,9 @@ returns-then-count-gt-MAX_SAMPLES c =
     let levels = args.levels.now in
     let check = c.check-refusal in
     let none = c.if-refusal-ne0.false in
-    let count = c.count-count in record {
+    let counted = c.count-count.ensures stamps (capture stamps levels 0 0 check.result check.ensures none).same in record {
       answer = many-refused stamps levels (length args.thin_stamps.now) (length args.thin_levels.now) check.result
-          check.ensures none count.result count.ensures (lt-ltb _ _ c.if-count-gt-MAX_SAMPLES.true);
+          check.ensures none c.count-count.result counted (lt-ltb _ _ c.if-count-gt-MAX_SAMPLES.true);
       stamp_buffer = refl;
       level_buffer = refl;
     }
@@ -47,9 +38,9 @@ returns-then-thin_stamps-count c =
     let levels = args.levels.now in
     let check = c.check-refusal in
     let none = c.if-refusal-ne0.false in
-    let count = c.count-count in record {
+    let counted = c.count-count.ensures stamps (capture stamps levels 0 0 check.result check.ensures none).same in record {
       answer = room-refused stamps levels (length args.thin_stamps.now) (length args.thin_levels.now) check.result
-          check.ensures none count.result count.ensures (le-ltb _ _ c.if-count-gt-MAX_SAMPLES.false) c.if-thin_stamps-count.true;
+          check.ensures none c.count-count.result counted (le-ltb _ _ c.if-count-gt-MAX_SAMPLES.false) c.if-thin_stamps-count.true;
       stamp_buffer = refl;
       level_buffer = refl;
     }
@@ -61,13 +52,14 @@ write-requires c =
     let levels = args.levels.now in
     let check = c.check-refusal in
     let none = c.if-refusal-ne0.false in
-    let count = c.count-count in
+    let same = (capture stamps levels 0 0 check.result check.ensures none).same in
+    let counted = c.count-count.ensures stamps same in
     let room =
-    neither (ltb (length args.thin_stamps.now) count.result) (ltb (length args.thin_levels.now) count.result)
+    neither (ltb (length args.thin_stamps.now) c.count-count.result) (ltb (length args.thin_levels.now) c.count-count.result)
     c.if-thin_stamps-count.false in (
-      (capture stamps levels 0 0 check.result check.ensures none).same,
-      rw (← count.ensures) (ltb-false _ _ room.0),
-      rw (← count.ensures) (ltb-false _ _ room.1),
+      same,
+      rw (← counted) (ltb-false _ _ room.0),
+      rw (← counted) (ltb-false _ _ room.1),
     )
 
 pub returns : goal.returns
@@ -77,11 +69,12 @@ returns c =
     let levels = args.levels.now in
     let check = c.check-refusal in
     let none = c.if-refusal-ne0.false in
-    let count = c.count-count in
+    let same = (capture stamps levels 0 0 check.result check.ensures none).same in
+    let counted = c.count-count.ensures stamps same in
     let wrote = c.write.ensures in
     let left = left_is stamps levels (capture stamps levels 0 0 check.result check.ensures none) in record {
       answer = left-all stamps levels (length args.thin_stamps.now) (length args.thin_levels.now) check.result
-          check.ensures none count.result count.ensures (le-ltb _ _ c.if-count-gt-MAX_SAMPLES.false) c.if-thin_stamps-count.false;
+          check.ensures none c.count-count.result counted (le-ltb _ _ c.if-count-gt-MAX_SAMPLES.false) c.if-thin_stamps-count.false;
       stamp_buffer = wrote.stamps_stored ∙ rw left;
       level_buffer = wrote.levels_stored ∙ rw left;
     }
