@@ -1,60 +1,24 @@
--- Two lists that begin alike: the loop through them, and what their agreement says of both.
+-- Two lists that begin alike, and what their agreement says of both.
 use Prim.Native.Nat.{ℕ, suc, ◌+◌, ◌≤◌, ◌<◌}
-use native.Mathlib.Numerals.{add-one}
 use native.Mathlib.Omega.{arith}
-use mathlib.Core.Path.{◌≡◌, refl, ap, ap₂, ◌∙◌}
+use mathlib.Core.Path.{◌≡◌, refl, ap, ap₂}
 use mathlib.Core.Bool.{Bool, true, false, cond}
 use mathlib.Core.List.{List, [], ◌∷◌}
 use lib.Dec.{eqb}
-use lib.ListN.{length, get_or, take, drop, drop_of_length-le}
-use lib.Seq.{drop-cons}
-use borrow.Author.Tests.{eq-eqb, ne_eqb, eqb-true, eqb-false}
+use lib.ListN.{length, get_or, take}
+use borrow.Author.Tests.{eq-eqb, eqb-true, eqb-false}
+use Rattle.std.specs.List.{zip, prefix_len}
 use Rattle.laws.specs.Same.{same}
 use Rattle.laws.proofs.Same.{same_self, same-equal}
 use Rattle.event_match.specs.Match.{agreed}
 
-agreed-none : (rehearsed : List ℕ) → agreed rehearsed [] ≡ 0
-agreed-none [] = refl
-agreed-none (event ∷ rehearsed) = refl
-
--- the first i events are alike
-pub record Agreeing (rehearsed seen : List ℕ) (i : ℕ) : Type 0 where
-  pub in-rehearsed : i ≤ length rehearsed
-  pub in-seen : i ≤ length seen
-  pub rest : agreed rehearsed seen ≡ i + agreed (drop i rehearsed) (drop i seen)
-
-pub agree-start : (rehearsed seen : List ℕ) → Agreeing rehearsed seen 0
-agree-start rehearsed seen = record { in-rehearsed = omega arith; in-seen = omega arith; rest = omega arith }
-
-module _ (rehearsed seen : List ℕ) (i : ℕ) (agreeing : Agreeing rehearsed seen i) where
-  pub agree-rehearsed : length rehearsed ≤ i → i ≡ agreed rehearsed seen
-  agree-rehearsed end = omega (
-    arith,
-    agreeing.rest ∙ ap (λ (l : List ℕ). i + agreed l (drop i seen)) (drop_of_length-le rehearsed end),
-  )
-
-  pub agree-seen : length seen ≤ i → i ≡ agreed rehearsed seen
-  agree-seen end = omega (
-    arith,
-    agreeing.rest ∙ ap (λ (l : List ℕ). i + agreed (drop i rehearsed) l) (drop_of_length-le seen end),
-    agreed-none (drop i rehearsed),
-  )
-
-  module _ (more : i < length rehearsed) (also : i < length seen) where
-    next : agreed rehearsed seen ≡ i + cond (eqb (get_or rehearsed i 0) (get_or seen i 0))
-        (suc (agreed (drop (suc i) rehearsed) (drop (suc i) seen))) 0
-    next = agreeing.rest ∙ rw (drop-cons rehearsed i 0 more, drop-cons seen i 0 also)
-
-    pub agree-not : (get_or rehearsed i 0 ≡ get_or seen i 0 → ⊥) → i ≡ agreed rehearsed seen
-    agree-not differ = omega (arith, rw (ne_eqb (get_or rehearsed i 0) (get_or seen i 0) differ) at next)
-
-    pub agree-more : get_or rehearsed i 0 ≡ get_or seen i 0 → Agreeing rehearsed seen (i + 1)
-    agree-more alike =
-        record {
-          in-rehearsed = omega arith;
-          in-seen = omega arith;
-          rest = rw add-one (omega (arith, rw (eq-eqb (get_or rehearsed i 0) (get_or seen i 0) alike) at next));
-        }
+-- the pairs from the front on that are alike
+pub agreed-prefix : (rehearsed seen : List ℕ) → prefix_len (λ p. eqb p.0 p.1) (zip rehearsed seen) ≡ agreed rehearsed seen
+agreed-prefix [] seen = refl
+agreed-prefix (event ∷ rehearsed) [] = refl
+agreed-prefix (event ∷ rehearsed) (other ∷ seen) =
+    let more : 1 + agreed rehearsed seen ≡ suc (agreed rehearsed seen) = omega arith in
+    rw (agreed-prefix rehearsed seen) (ap (λ (n : ℕ). cond (eqb event other) n 0) more)
 
 -- ---- what their agreement says
 by_heads : (A : ℕ → Type 0) (event other : ℕ) (rest : ℕ) → (event ≡ other → A (suc rest)) → ((event ≡ other → ⊥) → A 0)

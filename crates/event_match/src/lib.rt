@@ -34,7 +34,7 @@ pub fn compare(rehearsed: &[u16], seen: &[u16]) -> Difference
     if (index == rehearsed.len()) & (index == seen.len()) {
         return Difference::Equal;
     }
-    let byte = lists::byte_at(rehearsed, index);
+    let byte = lists::byte_at(&rehearsed[..index]);
     Difference::At {
         index,
         byte,

@@ -9,12 +9,10 @@ use trace::START;
 fn first_bit(event: u16, other: u16) -> Part
     ensures { result ≡ matching.first_bit 8 event other }
 {
-    let mut position: u8 = 8;
-    while position > 0 {
-        if (event >> (position - 1)) % 2 != (other >> (position - 1)) % 2 {
-            return Part::Bit(position - 1);
+    for position in (0..8u8).rev() {
+        if (event >> position) % 2 != (other >> position) % 2 {
+            return Part::Bit(position);
         }
-        position -= 1;
     }
     Part::Acknowledge
 }
@@ -33,11 +31,8 @@ fn part_of(event: u16, other: u16) -> Part
 pub(crate) fn part_at(rehearsed: &[u16], seen: &[u16], index: usize) -> Part
     ensures { result ≡ matching.part_at rehearsed.now seen.now index }
 {
-    if index >= rehearsed.len() {
-        return Part::Other;
+    match (rehearsed.get(index), seen.get(index)) {
+        (Some(event), Some(other)) => part_of(*event, *other),
+        _ => Part::Other,
     }
-    if index >= seen.len() {
-        return Part::Other;
-    }
-    part_of(rehearsed[index], seen[index])
 }

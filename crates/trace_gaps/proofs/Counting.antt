@@ -2,12 +2,12 @@
 use mathlib.Core.Path.{◌≡◌, refl, sym, ap, ◌∙◌}
 use mathlib.Core.Bool.{Bool, true, false, cond}
 use mathlib.Core.List.{List, [], ◌∷◌}
-use Prim.Native.Nat.{ℕ, suc, ◌+◌, ◌-◌, ◌*◌, ◌/◌, ◌^◌, ◌≤◌, ◌<◌}
+use Prim.Native.Nat.{ℕ, suc, ◌+◌, ◌-◌, ◌*◌, ◌/◌, ◌^◌, ◌≤◌, ◌<◌, min}
 use native.Mathlib.Nat.{div-eq_of_lt}
 use native.Mathlib.Numerals.{add-one}
 use native.Mathlib.Omega.{arith}
 use lib.Dec.{ltb}
-use lib.ListN.{length, get_or, drop, drop_of_length-le}
+use lib.ListN.{length, get_or, drop, length-drop, drop_of_length-le}
 use lib.Seq.{drop-cons}
 use borrow.Author.Tests.{eq-eqb, le-leb, le-ltb}
 use Rattle.decode.specs.declared.Decoder.{Decoder}
@@ -139,16 +139,17 @@ module _ (stamps levels : List ℕ) (limit : ℕ) where
         let sum : tally.sum + 0 ≡ tally.sum = omega arith in
         sym (counting.whole ∙ ap (λ (l : List ℕ). joined tally (tally_of l)) none ∙ rw (one, sum))
 
--- the lists have ended
-pub stamps-end : (limit last i : ℕ) (decoder : Decoder) (stamps levels : List ℕ) → length stamps ≤ i
+-- the shorter list has ended
+pub either-end : (limit last i : ℕ) (decoder : Decoder) (stamps levels : List ℕ) → i ≡ min (length stamps) (length levels)
     → left limit decoder last (drop i stamps) (drop i levels) ≡ []
 unfolding gaps_inside up_to
-stamps-end limit last i decoder stamps levels h = rw (drop_of_length-le stamps h)
-
-pub levels-end : (limit last i : ℕ) (decoder : Decoder) (stamps levels : List ℕ) → i < length stamps
-    → length levels ≤ i → left limit decoder last (drop i stamps) (drop i levels) ≡ []
-unfolding gaps_inside up_to
-levels-end limit last i decoder stamps levels h k = rw (drop-cons stamps i 0 h, drop_of_length-le levels k)
+either-end limit last i decoder stamps levels end = by-stamps (drop i stamps) refl
+  where
+    by-stamps : (rest : List ℕ) → drop i stamps ≡ rest → left limit decoder last rest (drop i levels) ≡ []
+    by-stamps [] is = refl
+    by-stamps (stamp ∷ rest) is =
+        let more : length levels ≤ i = omega (arith, length-drop i stamps, ap length is) in
+        rw (drop_of_length-le levels more)
 
 -- no gap is above a limit that no stamp is above
 pub all-up-to : (limit : ℕ) (decoder : Decoder) (last : ℕ) (stamps levels : List ℕ)

@@ -1,12 +1,11 @@
 // The gaps of a trace, from sample to sample: whether all are alike, and which are so long that samples may be lost.
 #![tactic(auto)]
 
-ghost use Rattle.std.specs.Prelude.{◌≡◌, ◌-◌, ◌*◌, ◌≤◌, ltb, length, drop};
+ghost use Rattle.std.specs.Prelude.{◌≡◌, ◌-◌, ◌*◌, ◌≤◌, ltb, length};
 ghost use Rattle.trace_gaps.specs.Gaps.{max_gaps, all_apart, even_gap, inside, up_to, tally_of, with_gap};
 ghost use Rattle.trace_gaps.specs.Gaps.{average as average_of, fourfold as fourfold_of, usual_gap};
 
 use decode::Decoder;
-use trace::MAX_STAMP;
 
 // A gap is long above so many times the usual one.
 const MOST: u64 = 4;
@@ -25,21 +24,19 @@ struct Tally {
 pub fn apart(low: u32, high: u32) -> u32
     ensures { result ≡ high - low }
 {
-    if low < high { high - low } else { 0 }
+    high.saturating_sub(low)
 }
 
-// Whether each stamp after the first is so far from the one before it.
+// Whether each stamp is so far from the one before it, which for the first one is given.
 fn all_apart(stamps: &[u32], first: u32, gap: u32) -> bool
-    ensures { result ≡ all_apart gap first (drop 1 stamps.now) }
+    ensures { result ≡ all_apart gap first stamps.now }
 {
     let mut last = first;
-    let mut i: usize = 1;
-    while i < stamps.len() {
-        if apart(last, stamps[i]) != gap {
+    for stamp in stamps {
+        if apart(last, *stamp) != gap {
             return false;
         }
-        last = stamps[i];
-        i += 1;
+        last = *stamp;
     }
     true
 }
@@ -52,7 +49,7 @@ pub fn even(stamps: &[u32]) -> u32
         return 0;
     }
     let gap = apart(stamps[0], stamps[1]);
-    if all_apart(stamps, stamps[0], gap) {
+    if all_apart(&stamps[1..], stamps[0], gap) {
         return gap;
     }
     0
@@ -106,16 +103,10 @@ fn counted(stamps: &[u32], levels: &[u8], limit: u64) -> Tally
     let mut decoder = Decoder::idle();
     let mut tally = Tally { count: 0, sum: 0 };
     let mut last: u32 = 0;
-    let mut i: usize = 0;
-    while i < stamps.len() {
-        if i >= levels.len() {
-            return tally;
-        }
-        tally = tally.with_gap(decoder.framed, apart(last, stamps[i]), limit);
-        let step = decoder.step(levels[i]);
-        decoder = step.decoder;
-        last = stamps[i];
-        i += 1;
+    for (stamp, level) in stamps.iter().zip(levels) {
+        tally = tally.with_gap(decoder.framed, apart(last, *stamp), limit);
+        decoder = decoder.step(*level).decoder;
+        last = *stamp;
     }
     tally
 }
@@ -136,8 +127,5 @@ pub fn usual(stamps: &[u32], levels: &[u8]) -> u64
 pub fn is_long(gap: u32, usual: u64) -> bool
     ensures { result ≡ ltb (4 * usual) gap }
 {
-    if usual > MAX_STAMP {
-        return false;
-    }
-    gap as u64 > MOST * usual
+    u64::from(gap) > MOST.saturating_mul(usual)
 }

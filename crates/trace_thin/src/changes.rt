@@ -1,5 +1,5 @@
 // The samples of a capture that change a level, counted and written.
-ghost use Rattle.std.specs.Prelude.{◌+◌, ◌≤◌, ◌≡◌, length};
+ghost use Rattle.std.specs.Prelude.{ℕ, ◌+◌, ◌≤◌, ◌≡◌, List, length};
 ghost use Rattle.std.proofs.lemmas.List.Edits.{sets};
 ghost use Rattle.laws.specs.Buffer.{filled};
 ghost use Rattle.trace.specs.Samples.{samples, stamps_of, levels_of};
@@ -34,18 +34,15 @@ fn put(
 }
 
 // How many samples differ in level from the one before, the first from a level that no sample has.
-pub(crate) fn count(stamps: &[u32], levels: &[u8]) -> usize
-    requires { length stamps.now ≡ length levels.now }
-    ensures { result ≡ length (changes_from 4 (samples stamps.now levels.now)) }
+pub(crate) fn count(levels: &[u8]) -> usize
+    ensures { (stamps : List ℕ) → length stamps ≡ length levels.now
+        → result ≡ length (changes_from 4 (samples stamps levels.now)) }
 {
     let mut last = NO_LEVEL;
     let mut found: usize = 0;
-    let mut i: usize = 0;
-    while i < stamps.len() {
-        let level = levels[i];
-        found += (level != last) as usize;
-        last = level;
-        i += 1;
+    for level in levels {
+        found += (*level != last) as usize;
+        last = *level;
     }
     found
 }
@@ -64,11 +61,8 @@ pub(crate) fn write(stamps: &[u32], levels: &[u8], thin_stamps: &mut [u32], thin
 {
     let mut last = NO_LEVEL;
     let mut found: usize = 0;
-    let mut i: usize = 0;
-    while i < stamps.len() {
-        let level = levels[i];
-        found = put(thin_stamps, thin_levels, found, last, stamps[i], level);
-        last = level;
-        i += 1;
+    for (stamp, level) in stamps.iter().zip(levels) {
+        found = put(thin_stamps, thin_levels, found, last, *stamp, *level);
+        last = *level;
     }
 }

@@ -44,7 +44,7 @@ pub fn thin(
         thin_levels.old }
 {
     check(stamps, levels)?;
-    let count = changes::count(stamps, levels);
+    let count = changes::count(levels);
     if count > MAX_SAMPLES {
         return refused(6, 0);
     }

@@ -1,36 +1,27 @@
-use lib.ListN.{get_or}
 use Prim.Native.Nat.{◌<◌}
 use native.Mathlib.Omega.{arith}
-use Rattle.trace_gaps.proofs.Counting.{counting-none, counting_more, counting-done}
-use Rattle.trace_gaps.proofs.Counting.{stamps-end, levels-end}
+use lib.ListN.{length, get_or, length-append}
+use Rattle.std.proofs.lemmas.Slice.Zip.{zip_turn, zip_end}
+use Rattle.trace_gaps.proofs.Counting.{counting_more, counting-done, either-end}
 use Rattle.trace_gaps.proofs.counted.Goals as goal
 
-pub loop-i-init : goal.loop-i-init
-loop-i-init c = rw c.idle-decoder.ensures (counting-none _ _ _)
-
-pub returns-then-i-levels : goal.returns-then-i-levels
-returns-then-i-levels c = record {
-  tally = counting-done _ _ _ _ _ _ _ c.loop-i.invariant
-      (levels-end _ _ _ _ _ _ c.loop-i-test.true c.if-i-levels.true);
-  small = omega
-      (arith, c.loop-i.invariant.small, c.loop-i.invariant.within);
-}
-
-pub with_gap-tally-requires : goal.with_gap-tally-requires
-with_gap-tally-requires c = (omega (arith, c.loop-i.invariant.few), omega (arith, c.loop-i.invariant.small))
-
-pub loop-i-preserved : goal.loop-i-preserved
-loop-i-preserved c =
+pub loop-stamp-preserved : goal.loop-stamp-preserved
+loop-stamp-preserved c =
     let stamps = c.args.stamps.now in
-    let fits : get_or stamps c.loop-i.i 0 < 4294967296
-    = omega (arith, c.shared_slice_known-1.given c.loop-i.i) in
-    counting_more _ _ _ _ _ _ _ c.loop-i.invariant _ c.loop-i-test.true c.if-i-levels.false
-    c.apart.ensures fits
-    c.with_gap-tally.ensures c.step-step.ensures.decoder_is
+    let levels = c.args.levels.now in
+    let i = length c.loop-stamp.yielded in
+    let turn = zip_turn stamps levels c.loop-stamp.yielded c.into_iter-stamp-iterator.result c.loop-stamp.stamp-iterator
+    c.next.new.self _ (cc) (cc) c.loop-stamp.yielded_by _ c.in-Some.is c.next.ensures.steps in
+    let fits : get_or stamps i 0 < 4294967296 = omega (arith, c.type_inv.stamps i) in
+    rw (length-append, turn.2 0)
+    (counting_more stamps levels c.args.limit c.loop-stamp.decoder c.loop-stamp.tally c.loop-stamp.last i
+    c.loop-stamp.invariant _ turn.0 turn.1 (rw (turn.2 0) at c.apart.ensures) fits c.with_gap-tally.ensures
+    (rw (turn.3 0) at c.step.ensures.decoder_is))
 
-pub returns : goal.returns
-returns c = record {
-  tally = counting-done _ _ _ _ _ _ _ c.loop-i.invariant (stamps-end _ _ _ _ _ _ c.loop-i-test.false);
-  small = omega
-      (arith, c.loop-i.invariant.small, c.loop-i.invariant.within);
-}
+pub returns-clause-tally : goal.returns-clause-tally
+returns-clause-tally c =
+    let stamps = c.args.stamps.now in
+    let levels = c.args.levels.now in
+    let end = zip_end stamps levels c.loop-stamp.yielded c.into_iter-stamp-iterator.result c.loop-stamp.stamp-iterator
+    c.next.new.self _ (cc) (cc) c.loop-stamp.yielded_by c.in-None.is c.next.ensures.steps in
+    counting-done _ _ _ _ _ _ _ c.loop-stamp.invariant (either-end _ _ _ _ stamps levels end)

@@ -1,5 +1,6 @@
 -- `trace_gaps::even` meets its contract.
 use borrow.Author.Tests.{lt-ltb, le-ltb}
+use Rattle.std.proofs.lemmas.List.{take_rest}
 use Rattle.trace_gaps.specs.Gaps.{even_gap}
 use Rattle.trace_gaps.proofs.even.Goals as goal
 
@@ -9,8 +10,12 @@ returns-then-stamps-lt2 c = rw (lt-ltb _ _ c.if-stamps-lt2.true)
 
 pub returns-then-all_apart : goal.returns-then-all_apart
 unfolding even_gap
-returns-then-all_apart c = rw (le-ltb _ _ c.if-stamps-lt2.false, ← c.apart-gap.ensures, ← c.all_apart.ensures, c.if-all_apart.true)
+returns-then-all_apart c =
+    let alike = rw take_rest at c.all_apart.ensures in
+    rw (le-ltb _ _ c.if-stamps-lt2.false, ← c.apart-gap.ensures, ← alike, c.if-all_apart.true)
 
 pub returns : goal.returns
 unfolding even_gap
-returns c = rw (le-ltb _ _ c.if-stamps-lt2.false, ← c.apart-gap.ensures, ← c.all_apart.ensures, c.if-all_apart.false)
+returns c =
+    let alike = rw take_rest at c.all_apart.ensures in
+    rw (le-ltb _ _ c.if-stamps-lt2.false, ← c.apart-gap.ensures, ← alike, c.if-all_apart.false)

@@ -1,5 +1,4 @@
 -- `trace_gaps::usual` meets its contract.
--- `trace_gaps::usual` meets its contract.
 use mathlib.Core.Path.{◌≡◌, ap, ◌∙◌}
 use Prim.Native.Nat.{ℕ, ◌≤◌}
 use lib.ListN.{get_or}
@@ -19,7 +18,7 @@ unfolding usual_gap
 returns c =
     let stamps = c.args.stamps.now in
     let few : (i : ℕ) → get_or stamps i 0 ≤ 18446744073709551615
-    = λ i. omega (arith, c.shared_slice_known-1.given i) in
+    = λ i. omega (arith, c.type_inv.stamps i) in
     let first : c.counted.result ≡ tally_of (inside stamps c.args.levels.now)
     = c.counted.ensures.tally ∙ ap tally_of (all-up-to _ _ _ _ _ few) in
     rw (

@@ -14,14 +14,13 @@ returns-in_err-check-clause-answer c =
     let first = sym c.check.ensures ∙ c.in_err-check.was in
     rw (p.1, p.2, in_order a.stamps.now a.levels.now (length a.thin_stamps.now) (length a.thin_levels.now), first) refl
 
-pub count-count-requires : goal.count-count-requires
-count-count-requires c = (captured _ _ _ (sym c.check.ensures ∙ c.in_ok-check.was)).same
-
 pub returns-then-count-gt-MAX_SAMPLES-clause-answer : goal.returns-then-count-gt-MAX_SAMPLES-clause-answer
 returns-then-count-gt-MAX_SAMPLES-clause-answer c =
     let a = c.args in
     let first = sym c.check.ensures ∙ c.in_ok-check.was in
-    let count = count-is a.stamps.now a.levels.now c.count-count.result (captured _ _ _ first) c.count-count.ensures in
+    let capture = captured _ _ _ first in
+    let counted = c.count-count.ensures a.stamps.now capture.same in
+    let count = count-is a.stamps.now a.levels.now c.count-count.result capture counted in
     let many = lt-ltb max_samples c.count-count.result c.if-count-gt-MAX_SAMPLES.true in
     rw (c.refused.ensures, in_order a.stamps.now a.levels.now (length a.thin_stamps.now) (length a.thin_levels.now), first,
     ← count, many) refl
@@ -30,7 +29,9 @@ pub returns-then-thin_stamps-count-clause-answer : goal.returns-then-thin_stamps
 returns-then-thin_stamps-count-clause-answer c =
     let a = c.args in
     let first = sym c.check.ensures ∙ c.in_ok-check.was in
-    let count = count-is a.stamps.now a.levels.now c.count-count.result (captured _ _ _ first) c.count-count.ensures in
+    let capture = captured _ _ _ first in
+    let counted = c.count-count.ensures a.stamps.now capture.same in
+    let count = count-is a.stamps.now a.levels.now c.count-count.result capture counted in
     let few = le-ltb max_samples c.count-count.result c.if-count-gt-MAX_SAMPLES.false in
     rw (c.refused-then-thin_stamps-count.ensures,
     in_order a.stamps.now a.levels.now (length a.thin_stamps.now) (length a.thin_levels.now), first, ← count, few,
@@ -39,13 +40,14 @@ returns-then-thin_stamps-count-clause-answer c =
 pub write-requires : goal.write-requires
 write-requires c =
     let a = c.args in
-    let count = c.count-count in
+    let capture = captured _ _ _ (sym c.check.ensures ∙ c.in_ok-check.was) in
+    let counted = c.count-count.ensures a.stamps.now capture.same in
     let room =
-    neither (nat_lt (length a.thin_stamps.now) count.result) (nat_lt (length a.thin_levels.now) count.result)
-    c.if-thin_stamps-count.false in (
-      (captured _ _ _ (sym c.check.ensures ∙ c.in_ok-check.was)).same,
-      rw (← count.ensures) (ltb-false _ _ room.0),
-      rw (← count.ensures) (ltb-false _ _ room.1),
+    neither (nat_lt (length a.thin_stamps.now) c.count-count.result)
+    (nat_lt (length a.thin_levels.now) c.count-count.result) c.if-thin_stamps-count.false in (
+      capture.same,
+      rw (← counted) (ltb-false _ _ room.0),
+      rw (← counted) (ltb-false _ _ room.1),
     )
 
 pub returns : goal.returns
@@ -53,7 +55,8 @@ returns c =
     let a = c.args in
     let first = sym c.check.ensures ∙ c.in_ok-check.was in
     let capture = captured _ _ _ first in
-    let count = count-is a.stamps.now a.levels.now c.count-count.result capture c.count-count.ensures in
+    let counted = c.count-count.ensures a.stamps.now capture.same in
+    let count = count-is a.stamps.now a.levels.now c.count-count.result capture counted in
     let few = le-ltb max_samples c.count-count.result c.if-count-gt-MAX_SAMPLES.false in
     let wrote = c.write.ensures in
     let left = left_is a.stamps.now a.levels.now capture in record {

@@ -1,37 +1,21 @@
-use Prim.Native.Nat.{◌≤◌, ◌<◌}
-use native.Mathlib.Omega.{arith}
-use lib.ListN.{length}
-use Rattle.event_match.proofs.Agreeing.{agree-start, agree-seen, agree-not, agree-more, agree-rehearsed}
+use mathlib.Core.Path.{◌∙◌}
+use Prim.Native.Nat.{ℕ}
+use lib.Dec.{eqb}
+use Rattle.std.specs.List.{zip}
+use Rattle.std.proofs.Common.{rules, tests}
+use Rattle.std.proofs.lemmas.Iterator.{YieldsList-from_slice, YieldsList-from_zip}
+use Rattle.std.proofs.lemmas.Iterator.Consumers.{YieldsList-at, count_from_yields_List}
+use Rattle.std.proofs.lemmas.Iterator.Search.{YieldsList-from_take_while}
+use Rattle.std.proofs.lemmas.List.Folds.{length-prefix_len}
+use Rattle.event_match.proofs.Agreeing.{agreed-prefix}
 use Rattle.event_match.proofs.lists.agreed.Goals as goal
-
-pub loop-i-init : goal.loop-i-init
-loop-i-init c = agree-start _ _
-
-pub returns-then-i-seen : goal.returns-then-i-seen
-returns-then-i-seen c =
-    let head = c.loop-i in
-    let args = c.args in
-    agree-seen args.rehearsed.now args.seen.now head.i head.invariant c.if-i-seen.true
-
-pub returns-then-rehearsed-i : goal.returns-then-rehearsed-i
-returns-then-rehearsed-i c =
-    let head = c.loop-i in
-    let args = c.args in
-    let more : head.i < length args.rehearsed.now = omega arith in
-    let others : head.i < length args.seen.now = omega arith in
-    agree-not args.rehearsed.now args.seen.now head.i head.invariant more others c.if-rehearsed-i.true
-
-pub loop-i-preserved : goal.loop-i-preserved
-loop-i-preserved c =
-    let head = c.loop-i in
-    let args = c.args in
-    let more : head.i < length args.rehearsed.now = omega arith in
-    let others : head.i < length args.seen.now = omega arith in
-    agree-more args.rehearsed.now args.seen.now head.i head.invariant more others c.if-rehearsed-i.false
 
 pub returns : goal.returns
 returns c =
-    let head = c.loop-i in
-    let args = c.args in
-    let end : length args.rehearsed.now ≤ head.i = omega arith in
-    agree-rehearsed args.rehearsed.now args.seen.now head.i head.invariant end
+    let rehearsed = c.args.rehearsed.now in
+    let seen = c.args.seen.now in
+    count_from_yields_List c.take_while.result c.count.result c.count.ensures.ran
+    (YieldsList-from_take_while _ (λ p. eqb p.0 p.1) (YieldsList-at c.take_while.ensures.source
+    (YieldsList-from_zip (YieldsList-from_slice rehearsed (cc)) (YieldsList-from_slice seen (cc))))
+    c.take_while.ensures.closure c.take_while.ensures.done (λ x r q k. search (rules, tests)))
+    ∙ length-prefix_len {X = ℕ × ℕ} (λ p. eqb p.0 p.1) (zip rehearsed seen) ∙ agreed-prefix rehearsed seen

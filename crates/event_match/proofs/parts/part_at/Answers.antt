@@ -1,17 +1,18 @@
 -- Both lists have an event at the index, or one ends.
-use mathlib.Core.Path.{◌∙◌}
-use borrow.Author.Tests.{lt-ltb, le-ltb}
 use Rattle.event_match.specs.Match.{part_at}
 use Rattle.event_match.proofs.parts.part_at.Goals as goal
 
-pub returns-then-index-rehearsed : goal.returns-then-index-rehearsed
+pub returns-in-Some-Some : goal.returns-in-Some-Some
 unfolding part_at
-returns-then-index-rehearsed c = rw (le-ltb _ _ c.if-index-rehearsed.true)
+returns-in-Some-Some c =
+    let one = c.in-Some-Some.ensures.lookup in
+    let two = c.in-Some-Some.ensures'.lookup in
+    rw (← one.0, ← two.0, ← one.3.1 0, ← two.3.1 0) c.part_of.ensures
 
-pub returns-then-index-seen : goal.returns-then-index-seen
+pub returns-in_default : goal.returns-in_default
 unfolding part_at
-returns-then-index-seen c = rw (lt-ltb _ _ c.if-index-rehearsed.false, le-ltb _ _ c.if-index-seen.true)
+returns-in_default c = rw (← c.in_default.ensures.lookup.0, ← c.in_default.ensures'.lookup.0)
 
-pub returns : goal.returns
+pub returns-in_default-2 : goal.returns-in_default-2
 unfolding part_at
-returns c = c.part_of.ensures ∙ rw (lt-ltb _ _ c.if-index-rehearsed.false, lt-ltb _ _ c.if-index-seen.false)
+returns-in_default-2 c = rw (← c.in_default.ensures.lookup.0)
