@@ -5,6 +5,9 @@ use mathlib.Core.Bool.{Bool, true, false, cond}
 use mathlib.Core.List.{List, [], ◌∷◌}
 use native.Mathlib.Numerals.{add-one}
 use native.Mathlib.Omega.{arith}
+use Rattle.std.proofs.Common.{zero-add}
+use Rattle.std.specs.List.{count_by}
+use Rattle.std.proofs.lemmas.List.Recursion.{is_count_by}
 use borrow.Author.Tests.{eq-eqb, ne_eqb, leb-true, leb-false}
 use lib.Dec.{eqb, leb}
 use lib.ListN.{length, get_or, drop, drop_of_length-le, length-drop}
@@ -59,15 +62,13 @@ module _ (message acknowledges : List ℕ) (i : ℕ) (carried : Carried message 
     carried-more accepted =
         record { within = omega arith; same = rw add-one (omega (arith, rw (ne_eqb _ _ accepted) at here)) }
 
--- one number more in the count of restarts
-module _ (list : List ℕ) (i count : ℕ) where
-  pub counted-more : count + restart_count (drop i list) ≡ restart_count list → i < length list
-      → count + cond (restarts (get_or list i 0)) 1 0 + restart_count (drop (i + 1) list) ≡ restart_count list
-  counted-more same less = rw add-one (omega (arith, same, ap restart_count (drop-cons list i 0 less)))
-
-  pub counted-all : count + restart_count (drop i list) ≡ restart_count list → length list ≤ i
-      → count ≡ restart_count list
-  counted-all same all = omega (arith, same, ap restart_count (drop_of_length-le list all))
+-- the library's count
+pub restarts-counted : (list : List ℕ) → restart_count list ≡ count_by restarts list
+restarts-counted = is_count_by restart_count restarts refl (λ sent list. go (restarts sent) (restart_count list))
+  where
+    go : (again : Bool) (count : ℕ) → cond again 1 0 + count ≡ cond again (1 + count) count
+    go true count = refl
+    go false count = zero-add count
 
 pub restarts-few : (list : List ℕ) → restart_count list ≤ length list
 restarts-few [] = omega arith

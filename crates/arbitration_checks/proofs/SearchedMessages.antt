@@ -1,15 +1,21 @@
 -- Messages searched one after the other: what holds at the loop's head.
 use Prim.Native.Nat.{ℕ, ◌+◌, ◌-◌, ◌<◌, ◌≤◌, min}
-use mathlib.Core.Path.{◌≡◌}
-use mathlib.Core.Bool.{Bool, true, false}
-use mathlib.Core.List.{List, []}
+use mathlib.Core.Path.{◌≡◌, refl, ap}
+use mathlib.Core.Bool.{Bool, true, false, ◌||◌}
+use mathlib.Core.List.{List, [], ◌∷◌}
 use native.Mathlib.Omega.{arith}
 use lib.ListN.{length, get_or, take, drop}
+use Rattle.std.specs.List.{list_any}
 use Rattle.laws.specs.Search.{first, any}
 use Rattle.laws.proofs.Search.{Passed, passed_start, passed-more, found_first, found-any, none_first, none_any}
 use Rattle.arbitration_rules.specs.Reply.{cut}
 use Rattle.arbitration_rules.proofs.Cut.{cut-count}
 use Rattle.arbitration_messages.proofs.Walk.{At, at-start, at_more, in-messages, message-is}
+
+-- the library's test of any element
+pub any-listed : {A : Type 0} (test : A → Bool) (list : List A) → any test list ≡ list_any test list
+any-listed test [] = refl
+any-listed test (a ∷ list) = ap (λ (found : Bool). test a || found) (any-listed test list)
 
 -- the first i messages fail a test, and end at an index of what is sent
 pub record Searched (test : List ℕ → Bool) (lengths sent : List ℕ) (i from : ℕ) : Type 0 where

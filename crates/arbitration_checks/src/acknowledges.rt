@@ -8,36 +8,24 @@ ghost use Rattle.arbitration_rules.specs.Reply.{above_one};
 pub(crate) fn any_above_one(acks: &[u8]) -> bool
     ensures { result ≡ any above_one acks.now }
 {
-    let mut i: usize = 0;
-    while i < acks.len() {
-        if acks[i] > 1 {
-            return true;
-        }
-        i += 1;
-    }
-    false
+    acks.iter().any(|ack| *ack > 1)
 }
 
 // The byte at an index is acknowledged; one past the acknowledges is too.
 pub(crate) fn acknowledged(acks: &[u8], i: usize) -> bool
     ensures { result ≡ eqb (get_or acks.now i 0) 0 }
 {
-    if i < acks.len() {
-        return acks[i] == 0;
-    }
-    true
+    acks.get(i).copied().unwrap_or(0) == 0
 }
 
 // How many bytes of a message are carried: up to the first that is not acknowledged, with it.
 pub(crate) fn carried_count(message: &[u16], acks: &[u8]) -> usize
     ensures { result ≡ carried_count message.now acks.now }
 {
-    let mut i: usize = 0;
-    while (i < message.len()) & (i < acks.len()) {
+    for i in 0..message.len().min(acks.len()) {
         if acks[i] == 1 {
             return i + 1;
         }
-        i += 1;
     }
     message.len()
 }

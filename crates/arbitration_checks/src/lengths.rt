@@ -7,13 +7,8 @@ pub fn longest(lengths: &[u32]) -> usize
     ensures { result ≡ longest_of lengths.now }
 {
     let mut most: usize = 0;
-    let mut i: usize = 0;
-    while i < lengths.len() {
-        let count = lengths[i] as usize;
-        if most < count {
-            most = count;
-        }
-        i += 1;
+    for length in lengths {
+        most = most.max(*length as usize);
     }
     most
 }

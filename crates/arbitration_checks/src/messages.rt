@@ -19,20 +19,8 @@ fn odd(sent: u16) -> bool
 fn reads(message: &[u16]) -> bool
     ensures { result ≡ reads_of message.now }
 {
-    if message.len() == 0 {
-        return false;
-    }
-    if odd(message[0]) {
-        return true;
-    }
-    let mut i: usize = 0;
-    while i < message.len() {
-        if (message[i] < NO_RESTART) & odd(message[i]) {
-            return true;
-        }
-        i += 1;
-    }
-    false
+    let first = message.first().copied().unwrap_or(0);
+    odd(first) || message.iter().any(|sent| (*sent < NO_RESTART) & odd(*sent))
 }
 
 // The first message with such a part (14), else how many there are.
@@ -40,36 +28,32 @@ pub(crate) fn first_read(sent: &[u16], lengths: &[u32]) -> usize
     ensures { result ≡ first reads_of (cut lengths.now sent.now) }
 {
     let mut from: usize = 0;
-    let mut i: usize = 0;
-    while i < lengths.len() {
-        let to = arbitration_messages::end_of(sent.len(), from, lengths[i]);
+    for (i, length) in lengths.iter().enumerate() {
+        let to = arbitration_messages::end_of(sent.len(), from, *length);
         if reads(&sent[from..to]) {
             return i;
         }
         from = to;
-        i += 1;
     }
-    i
+    lengths.len()
 }
 
 // Two messages first differ at an ending of either one, a restart or the STOP, and all before it is acknowledged.
 fn ending_differs(message: &[u16], other: &[u16], acks: &[u8]) -> bool
     ensures { result ≡ ending_differs acks.now message.now other.now }
 {
-    let mut i: usize = 0;
-    while i < message.len() {
+    for (i, sent) in message.iter().enumerate() {
         if i == other.len() {
             return true;
         }
-        if message[i] != other[i] {
-            return (message[i] < NO_RESTART) != (other[i] < NO_RESTART);
+        if *sent != other[i] {
+            return (*sent < NO_RESTART) != (other[i] < NO_RESTART);
         }
         if !acknowledges::acknowledged(acks, i) {
             return false;
         }
-        i += 1;
     }
-    i < other.len()
+    message.len() < other.len()
 }
 
 // A message does so from some message (16). These comparisons are not counted.
@@ -79,14 +63,12 @@ pub fn any_ending_differs(message: &[u16], sent: &[u16], lengths: &[u32], acks: 
         (cut lengths.now sent.now) }
 {
     let mut from: usize = 0;
-    let mut i: usize = 0;
-    while i < lengths.len() {
-        let to = arbitration_messages::end_of(sent.len(), from, lengths[i]);
+    for length in lengths {
+        let to = arbitration_messages::end_of(sent.len(), from, *length);
         if ending_differs(message, &sent[from..to], acks) {
             return true;
         }
         from = to;
-        i += 1;
     }
     false
 }

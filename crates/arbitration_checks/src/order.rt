@@ -34,25 +34,23 @@ pub(crate) fn compare(message: &[u16], other: &[u16], comparisons: usize) -> Com
     ensures { result ≡ compared_of message.now other.now comparisons }
 {
     let counted = comparisons + 1;
-    let mut i: usize = 0;
-    while i < message.len() {
+    for (i, sent) in message.iter().enumerate() {
         if i == other.len() {
             return Compared {
-                precedes: message[i] < NO_RESTART,
+                precedes: *sent < NO_RESTART,
                 comparisons: counted,
             };
         }
-        if message[i] != other[i] {
+        if *sent != other[i] {
             return Compared {
-                precedes: message[i] < other[i],
+                precedes: *sent < other[i],
                 comparisons: counted,
             };
         }
-        i += 1;
     }
-    if i < other.len() {
+    if message.len() < other.len() {
         return Compared {
-            precedes: other[i] >= NO_RESTART,
+            precedes: other[message.len()] >= NO_RESTART,
             comparisons: counted,
         };
     }
@@ -79,8 +77,7 @@ pub(crate) fn locate_least(sent: &[u16], lengths: &[u32]) -> Located
     let mut best_from: usize = 0;
     let mut best_to = from;
     let mut comparisons: usize = 0;
-    let mut i: usize = 1;
-    while i < lengths.len() {
+    for i in 1..lengths.len() {
         let to = arbitration_messages::end_of(sent.len(), from, lengths[i]);
         let compared = compare(&sent[best_from..best_to], &sent[from..to], comparisons);
         comparisons = compared.comparisons;
@@ -90,7 +87,6 @@ pub(crate) fn locate_least(sent: &[u16], lengths: &[u32]) -> Located
             best_to = to;
         }
         from = to;
-        i += 1;
     }
     Located {
         index,

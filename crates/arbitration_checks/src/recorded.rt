@@ -9,15 +9,7 @@ use arbitration_messages::NO_RESTART;
 fn restart_count(carried: &[u16]) -> usize
     ensures { result ≡ restart_count carried.now }
 {
-    let mut count: usize = 0;
-    let mut i: usize = 0;
-    while i < carried.len() {
-        if carried[i] < NO_RESTART {
-            count += 1;
-        }
-        i += 1;
-    }
-    count
+    carried.iter().filter(|sent| **sent < NO_RESTART).count()
 }
 
 // 5 and 18 for each byte, 3 for each restart.

@@ -11,13 +11,7 @@ use arbitration_rules::{MAX_LENGTH, MAX_MASTERS};
 pub fn end_of(size: usize, from: usize, count: u32) -> usize
     ensures { result ≡ min (from + count) size }
 {
-    if size < from {
-        return size;
-    }
-    if size - from < count as usize {
-        return size;
-    }
-    from + (count as usize)
+    from.saturating_add(count as usize).min(size)
 }
 
 // How many bytes a message has by its parts; one too many where a part is empty or they are above the limit.
@@ -25,9 +19,8 @@ fn length_of(parts: &[u32]) -> usize
     ensures { result ≡ limited parts.now }
 {
     let mut sum: usize = 0;
-    let mut i: usize = 0;
-    while i < parts.len() {
-        let part = parts[i] as usize;
+    for part in parts {
+        let part = *part as usize;
         if part == 0 {
             return MAX_LENGTH + 1;
         }
@@ -35,7 +28,6 @@ fn length_of(parts: &[u32]) -> usize
             return MAX_LENGTH + 1;
         }
         sum += part;
-        i += 1;
     }
     sum
 }
@@ -47,12 +39,10 @@ pub(crate) fn lengths_of(parts: &[u32], counts: &[u32]) -> [u32; MAX_MASTERS]
 {
     let mut lengths = [0u32; MAX_MASTERS];
     let mut from: usize = 0;
-    let mut i: usize = 0;
-    while i < counts.len() {
-        let to = end_of(parts.len(), from, counts[i]);
+    for (i, count) in counts.iter().enumerate() {
+        let to = end_of(parts.len(), from, *count);
         lengths[i] = length_of(&parts[from..to]) as u32;
         from = to;
-        i += 1;
     }
     lengths
 }
@@ -62,14 +52,12 @@ pub(crate) fn first_bad(counts: &[u32], lengths: &[u32]) -> usize
     requires { length counts.now ≤ length lengths.now }
     ensures { result ≡ first itself (bad_lengths_of counts.now lengths.now) }
 {
-    let mut i: usize = 0;
-    while i < counts.len() {
-        if (counts[i] == 0) | (lengths[i] as usize > MAX_LENGTH) {
+    for (i, count) in counts.iter().enumerate() {
+        if (*count == 0) | (lengths[i] as usize > MAX_LENGTH) {
             return i;
         }
-        i += 1;
     }
-    i
+    counts.len()
 }
 
 // The sum of counts or lengths.
@@ -77,11 +65,5 @@ pub(crate) fn total(lengths: &[u32]) -> usize
     requires { length lengths.now ≤ max_masters }
     ensures { result ≡ total_of lengths.now }
 {
-    let mut sum: usize = 0;
-    let mut i: usize = 0;
-    while i < lengths.len() {
-        sum += lengths[i] as usize;
-        i += 1;
-    }
-    sum
+    lengths.iter().map(|length| *length as usize).sum()
 }

@@ -23,11 +23,9 @@ pub(crate) fn part_marks(parts: &[u32]) -> [u16; MAX_SENT]
 {
     let mut marks = unmarked();
     let mut at: usize = 0;
-    let mut i: usize = 0;
-    while i < parts.len() {
+    for part in parts {
         marks[at] = 0;
-        at += parts[i] as usize;
-        i += 1;
+        at += *part as usize;
     }
     marks
 }
@@ -43,11 +41,9 @@ pub(crate) fn message_marks(
 {
     let mut marks = restarts;
     let mut from: usize = 0;
-    let mut i: usize = 0;
-    while i < count {
+    for length in &lengths[..count] {
         marks[from] = NO_RESTART;
-        from += lengths[i] as usize;
-        i += 1;
+        from += *length as usize;
     }
     marks
 }
@@ -58,10 +54,8 @@ pub(crate) fn joined(bytes: &[u8], marks: [u16; MAX_SENT]) -> [u16; MAX_SENT]
     ensures { result ≡ joined_of bytes.now marks }
 {
     let mut sent = marks;
-    let mut i: usize = 0;
-    while i < bytes.len() {
-        sent[i] = (bytes[i] as u16) + marks[i];
-        i += 1;
+    for (i, byte) in bytes.iter().enumerate() {
+        sent[i] = u16::from(*byte) + marks[i];
     }
     sent
 }

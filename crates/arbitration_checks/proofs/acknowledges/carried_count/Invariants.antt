@@ -1,11 +1,6 @@
 -- The bytes passed so far are acknowledged.
-use Prim.Native.Nat.{◌-◌}
-use lib.ListN.{length}
 use Rattle.arbitration_checks.proofs.Carried.{Carried}
 use Rattle.arbitration_checks.proofs.acknowledges.carried_count.Given as goal
 
 abbrev pub invariant-loop-i : goal.invariant-loop-i
 invariant-loop-i l = Carried l.message l.acks l.i
-
-abbrev pub decreases-loop-i : goal.decreases-loop-i
-decreases-loop-i l = length l.message - l.i

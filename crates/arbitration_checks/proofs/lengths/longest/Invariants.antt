@@ -1,12 +1,9 @@
 -- The greatest so far and the greatest of what is left make the greatest.
-use Prim.Native.Nat.{◌-◌, ◌≤◌, max}
+use Prim.Native.Nat.{max}
 use mathlib.Core.Path.{◌≡◌}
-use lib.ListN.{length, drop}
+use lib.ListN.{drop}
 use Rattle.arbitration_rules.specs.Reply.{longest}
 use Rattle.arbitration_checks.proofs.lengths.longest.Given as goal
 
-abbrev pub invariant-loop-i : goal.invariant-loop-i
-invariant-loop-i l = (l.i ≤ length l.lengths) × (max l.most (longest (drop l.i l.lengths)) ≡ longest l.lengths)
-
-abbrev pub decreases-loop-i : goal.decreases-loop-i
-decreases-loop-i l = length l.lengths - l.i
+abbrev pub invariant-loop-length : goal.invariant-loop-length
+invariant-loop-length l = max l.most (longest (drop l.length-index l.lengths)) ≡ longest l.lengths

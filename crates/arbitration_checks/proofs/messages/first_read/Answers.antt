@@ -1,5 +1,6 @@
 use native.Mathlib.Omega.{arith}
-use mathlib.Core.Path.{sym, ◌∙◌}
+use mathlib.Core.Path.{◌≡◌, sym, ◌∙◌}
+use lib.ListN.{length}
 use Rattle.arbitration_rules.specs.Reply.{reads}
 use Rattle.arbitration_checks.proofs.SearchedMessages.{searched-start, searched-more, searched-first}
 use Rattle.arbitration_checks.proofs.SearchedMessages.{searched-none}
@@ -39,4 +40,6 @@ loop-i-preserved c =
     )
 
 pub returns : goal.returns
-returns c = searched-none reads _ _ _ c.loop-i.from c.loop-i.invariant.1 c.loop-i-test.false
+returns c =
+    let all : length c.args.lengths.now ≡ c.loop-i.i = omega arith in
+    all ∙ searched-none reads _ _ _ c.loop-i.from c.loop-i.invariant.1 c.loop-i-test.false

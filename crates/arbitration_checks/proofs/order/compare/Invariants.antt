@@ -1,11 +1,6 @@
 -- What is in common is passed; the first that differs decides, or the end of one.
-use Prim.Native.Nat.{◌-◌}
-use lib.ListN.{length}
 use Rattle.arbitration_checks.proofs.Alike.{Shared}
 use Rattle.arbitration_checks.proofs.order.compare.Given as goal
 
 abbrev pub invariant-loop-i : goal.invariant-loop-i
 invariant-loop-i l = Shared l.message l.other l.i
-
-abbrev pub decreases-loop-i : goal.decreases-loop-i
-decreases-loop-i l = length l.message - l.i

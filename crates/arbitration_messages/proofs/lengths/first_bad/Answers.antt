@@ -1,6 +1,6 @@
 use native.Mathlib.Omega.{arith}
 use Prim.Native.Nat.{◌<◌, ◌≤◌}
-use mathlib.Core.Path.{◌∙◌}
+use mathlib.Core.Path.{◌≡◌, ◌∙◌}
 use mathlib.Core.Bool.{false}
 use lib.ListN.{length}
 use Rattle.laws.proofs.Lists.{zip_with-at, zip_with-length}
@@ -12,11 +12,8 @@ use Rattle.arbitration_messages.proofs.lengths.first_bad.Goals as goal
 pub loop-i-init : goal.loop-i-init
 loop-i-init c = passed_start itself _
 
-pub overflow_cast-lengths : goal.overflow_cast-lengths
-overflow_cast-lengths c = omega (arith, c.shared_slice_known-in-loop-i-1.given c.loop-i.i)
-
-pub returns-then-counts-i : goal.returns-then-counts-i
-returns-then-counts-i c =
+pub returns-then-count-lengths : goal.returns-then-count-lengths
+returns-then-count-lengths c =
     let head = c.loop-i in
     let args = c.args in
     let counts = args.counts.now in
@@ -26,7 +23,7 @@ returns-then-counts-i c =
     let size = zip_with-length bad_length counts lengths in
     let more : head.i < length (bad_lengths_of counts lengths) = omega (arith, size) in
     let here = zip_with-at bad_length counts lengths head.i 0 0 false less less-too in
-    found_first itself (bad_lengths_of counts lengths) head.i false head.invariant more (here ∙ c.if-counts-i.true)
+    found_first itself (bad_lengths_of counts lengths) head.i false head.invariant more (here ∙ c.if-count-lengths.true)
 
 pub loop-i-preserved : goal.loop-i-preserved
 loop-i-preserved c =
@@ -39,7 +36,7 @@ loop-i-preserved c =
     let size = zip_with-length bad_length counts lengths in
     let more : head.i < length (bad_lengths_of counts lengths) = omega (arith, size) in
     let here = zip_with-at bad_length counts lengths head.i 0 0 false less less-too in
-    passed-more itself (bad_lengths_of counts lengths) head.i false head.invariant more (here ∙ c.if-counts-i.false)
+    passed-more itself (bad_lengths_of counts lengths) head.i false head.invariant more (here ∙ c.if-count-lengths.false)
 
 pub returns : goal.returns
 returns c =
@@ -48,4 +45,5 @@ returns c =
     let lengths = args.lengths.now in
     let size = zip_with-length bad_length counts lengths in
     let done : length (bad_lengths_of counts lengths) ≤ c.loop-i.i = omega (arith, size) in
-    none_first itself _ _ c.loop-i.invariant done
+    let all : length counts ≡ c.loop-i.i = omega arith in
+    all ∙ none_first itself _ _ c.loop-i.invariant done

@@ -1,6 +1,4 @@
 -- The search for a message out of the limits.
-use Prim.Native.Nat.{◌-◌}
-use lib.ListN.{length}
 use Rattle.laws.proofs.Search.{Passed}
 use Rattle.arbitration_rules.specs.Reply.{itself}
 use Rattle.arbitration_messages.specs.Lengths.{bad_lengths_of}
@@ -8,6 +6,3 @@ use Rattle.arbitration_messages.proofs.lengths.first_bad.Given as goal
 
 abbrev pub invariant-loop-i : goal.invariant-loop-i
 invariant-loop-i l = Passed itself (bad_lengths_of l.counts l.lengths) l.i
-
-abbrev pub decreases-loop-i : goal.decreases-loop-i
-decreases-loop-i l = length l.counts - l.i

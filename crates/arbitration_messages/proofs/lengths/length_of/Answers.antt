@@ -10,47 +10,44 @@ use Rattle.arbitration_messages.proofs.Limited.{limited-empty, limited-long, lim
 use borrow.Author.Rules.{rules}
 use Rattle.arbitration_messages.proofs.lengths.length_of.Goals as goal
 
-pub loop-i-init : goal.loop-i-init
-loop-i-init c = (passed_start is_empty _, search rules, search rules)
-
-pub overflow_cast-part : goal.overflow_cast-part
-overflow_cast-part c = omega (arith, c.shared_slice_known-1.given c.loop-i.i)
+pub loop-part-init : goal.loop-part-init
+loop-part-init c = (passed_start is_empty _, search rules, search rules)
 
 pub returns-then-part-eq0 : goal.returns-then-part-eq0
 returns-then-part-eq0 c =
-    let head = c.loop-i in
+    let head = c.loop-part in
     let parts = c.args.parts.now in
-    let more : head.i < length parts = omega arith in
-    limited-empty parts (found-any is_empty parts head.i 0 head.invariant.0 more (eq-eqb _ _ c.if-part-eq0.true))
+    let more : head.part-index < length parts = omega arith in
+    limited-empty parts (found-any is_empty parts head.part-index 0 head.invariant.0 more (eq-eqb _ _ c.if-part-eq0.true))
 
 pub overflow_sub-sum : goal.overflow_sub-sum
-overflow_sub-sum c = omega (arith, c.loop-i.invariant.2)
+overflow_sub-sum c = omega (arith, c.loop-part.invariant.2)
 
 pub returns-then-part-sum : goal.returns-then-part-sum
 returns-then-part-sum c =
-    let head = c.loop-i in
+    let head = c.loop-part in
     let parts = c.args.parts.now in
-    let more : head.i < length parts = omega arith in
-    let next = summed-more parts head.i head.sum head.invariant.1 more in
+    let more : head.part-index < length parts = omega arith in
+    let next = summed-more parts head.part-index head.sum head.invariant.1 more in
     limited-long parts (omega (arith, next, c.if-part-sum.true, head.invariant.2))
 
 pub overflow_add-sum : goal.overflow_add-sum
-overflow_add-sum c = omega (arith, c.loop-i.invariant.2)
+overflow_add-sum c = omega (arith, c.loop-part.invariant.2)
 
-pub loop-i-preserved : goal.loop-i-preserved
-loop-i-preserved c =
-    let head = c.loop-i in
+pub loop-part-preserved : goal.loop-part-preserved
+loop-part-preserved c =
+    let head = c.loop-part in
     let parts = c.args.parts.now in
-    let more : head.i < length parts = omega arith in (
-      passed-more is_empty parts head.i 0 head.invariant.0 more (ne_eqb _ _ c.if-part-eq0.false),
-      summed-more parts head.i head.sum head.invariant.1 more,
+    let more : head.part-index < length parts = omega arith in (
+      passed-more is_empty parts head.part-index 0 head.invariant.0 more (ne_eqb _ _ c.if-part-eq0.false),
+      summed-more parts head.part-index head.sum head.invariant.1 more,
       omega (arith, c.if-part-sum.false, head.invariant.2),
     )
 
 pub returns : goal.returns
 returns c =
-    let head = c.loop-i in
+    let head = c.loop-part in
     let parts = c.args.parts.now in
-    let done : length parts ≤ head.i = omega arith in
-    let sum = summed-all parts head.i head.sum head.invariant.1 done in
-    sum ∙ limited-all parts (none_any is_empty parts head.i head.invariant.0 done) (omega (arith, sum, head.invariant.2))
+    let done : length parts ≤ head.part-index = omega arith in
+    let sum = summed-all parts head.part-index head.sum head.invariant.1 done in
+    sum ∙ limited-all parts (none_any is_empty parts head.part-index head.invariant.0 done) (omega (arith, sum, head.invariant.2))

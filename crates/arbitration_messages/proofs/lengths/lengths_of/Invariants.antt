@@ -1,5 +1,5 @@
 -- The lengths of the messages passed so far, and where the next one's parts begin.
-use Prim.Native.Nat.{◌-◌, ◌≤◌}
+use Prim.Native.Nat.{◌≤◌}
 use mathlib.Core.Path.{◌≡◌}
 use mathlib.Core.List.{◌++◌, map}
 use lib.ListN.{length, take, drop, replicate}
@@ -12,6 +12,3 @@ use Rattle.arbitration_messages.proofs.lengths.lengths_of.Given as goal
 abbrev pub invariant-loop-i : goal.invariant-loop-i
 invariant-loop-i l = (l.i ≤ length l.counts) × At l.counts l.parts l.i l.from
     × (l.lengths ≡ map limited (take l.i (cut l.counts l.parts)) ++ drop l.i (replicate max_masters 0))
-
-abbrev pub decreases-loop-i : goal.decreases-loop-i
-decreases-loop-i l = length l.counts - l.i

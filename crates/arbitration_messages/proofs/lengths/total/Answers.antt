@@ -1,21 +1,11 @@
-use native.Mathlib.Omega.{arith}
-use Rattle.arbitration_messages.proofs.Sums.{summed-more, summed-all}
+use mathlib.Core.Path.{◌≡◌, refl, sym, ◌∙◌}
+use Rattle.std.specs.List.{sum}
+use Rattle.std.proofs.lemmas.List.Recursion.{is_sum_by}
 use borrow.Author.Rules.{rules}
+use Rattle.arbitration_rules.specs.Reply.{total}
 use Rattle.arbitration_messages.proofs.lengths.total.Goals as goal
 
-pub overflow_cast-sum : goal.overflow_cast-sum
-overflow_cast-sum c = omega (arith, c.shared_slice_known-1.given c.loop-i.i)
-
-pub overflow_add-sum : goal.overflow_add-sum
-overflow_add-sum c = omega (arith, c.shared_slice_known-1.given c.loop-i.i)
-
-pub loop-i-preserved : goal.loop-i-preserved
-loop-i-preserved c =
-    let l = c.loop-i in (
-      search rules,
-      omega (arith, c.shared_slice_known-1.given l.i),
-      summed-more _ _ _ l.invariant.2 c.loop-i-test.true,
-    )
-
 pub returns : goal.returns
-returns c = summed-all _ _ _ c.loop-i.invariant.2 c.loop-i-test.false
+returns c =
+    let summed : c.sum.result ≡ sum c.args.lengths.now = search rules in
+    summed ∙ sym (is_sum_by total (λ x. x) refl (λ _ _. refl) c.args.lengths.now)

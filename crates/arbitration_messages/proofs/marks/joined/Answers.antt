@@ -12,13 +12,8 @@ pub loop-i-init : goal.loop-i-init
 unfolding zip_with
 loop-i-init c = (search rules, refl)
 
-pub overflow_cast-sent : goal.overflow_cast-sent
-overflow_cast-sent c = omega (arith, c.shared_slice_known-1.given c.loop-i.i)
-
 pub overflow_add-sent : goal.overflow_add-sent
-overflow_add-sent c =
-    let head = c.loop-i in
-    omega (arith, c.shared_slice_known-1.given head.i, c.requires.1 head.i)
+overflow_add-sent c = omega (arith, c.requires.1 c.loop-i.i)
 
 pub loop-i-preserved : goal.loop-i-preserved
 loop-i-preserved c =
@@ -26,7 +21,7 @@ loop-i-preserved c =
     let args = c.args in
     let size : length args.marks ≡ 1024 = search rules in
     let room : head.i < length args.marks = omega arith in
-    (search rules, paired-more ◌+◌ _ _ _ _ head.i 0 0 head.invariant.1 c.loop-i-test.true room room)
+    (search rules, rw c.from.ensures (paired-more ◌+◌ _ _ _ _ head.i 0 0 head.invariant.1 c.loop-i-test.true room room))
 
 pub returns : goal.returns
 returns c =
