@@ -155,3 +155,10 @@ module _ (pass : Pass) (table₀ : List Usi) (count : ℕ) where
             rw (shows, turns.noted_so, made, turns.stands)
             (seen_more pass table₀ i empty near few ∙ ap (seen (i + 1)) (sym stood));
       }
+
+  -- the loop's end
+  pub after-all : {i : ℕ} {table : List Usi} {shown : Seen} → AfterTurns pass table₀ count i table shown → i ≡ count
+      → (shown ≡ seen count (passed count pass table₀)) × (table ≡ passed count pass table₀)
+  after-all {i} {table} {shown} turns all =
+      let stands : table ≡ passed count pass table₀ = rw (← all) turns.stands in
+      (rw (turns.noted_so, all, stands) refl, stands)

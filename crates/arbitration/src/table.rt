@@ -1,59 +1,52 @@
 // A table of modules, one for each message: a pass over it, and a run.
-ghost use Rattle.std.specs.Prelude.{◌≡◌, false, ◌≤◌, length};
+ghost use Rattle.std.specs.Prelude.{◌≡◌, ◌≤◌, length};
 ghost use Rattle.arbitration_rules.specs.Limits.{max_masters};
-ghost use Rattle.arbitration_pass.specs.Instants.{samples};
-ghost use Rattle.arbitration_pass.specs.Pass.{passed, sampling_pass, seen as seen_by};
+ghost use Rattle.arbitration_pass.specs.Pass.{passed, seen as seen_by};
+ghost use Rattle.arbitration.specs.Steps.{Makes};
 ghost use Rattle.arbitration_turns.specs.Turns.{Reached};
 
-use arbitration_pass::{Pass, Sampling, Seen};
+use arbitration_pass::{Pass, Seen};
 use arbitration_rules::{MAX_LENGTH, MAX_MASTERS};
 use arbitration_run::Sequencer;
 use usi::Usi;
 
-// The first count modules sample the wire, each in its turn, and perhaps tick; what they then show.
-fn sample_all(table: &mut [Usi], count: usize, sampling: Sampling) -> Seen
-    requires { (count ≤ max_masters) × (count ≤ length table.old) }
-    ensures { (table.new ≡ passed count (sampling_pass sampling) table.old)
-        × (result ≡ seen_by count (passed count (sampling_pass sampling) table.old)) }
+// Each of the first count modules makes a step, in its turn; what they then show.
+fn step_each<F: Fn(Usi, usize) -> Usi>(table: &mut [Usi], count: usize, step: F) -> Seen
+    requires few { (count ≤ max_masters) × (count ≤ length table.old) }
+    requires steps { F.IsAlwaysCallable step }
+    ensures { (pass : Pass) → Makes pass (F.post step)
+        → (result ≡ seen_by count (passed count pass table.old))
+        × (table.new ≡ passed count pass table.old) }
 {
     let mut seen = arbitration_pass::unseen();
-    let mut i = 0;
-    while i < count {
-        let usi = arbitration_pass::sampled(table[i], sampling);
+    for i in 0..count {
+        let usi = step(table[i], i);
         table[i] = usi;
         seen = arbitration_pass::noted(seen, usi, i);
-        i = i + 1;
     }
     seen
 }
 
-// The first count modules write their registers, each in its turn, and perhaps tick; what they then show.
-fn write_all(table: &mut [Usi], count: usize, pass: Pass) -> Seen
-    requires { (count ≤ max_masters) × (count ≤ length table.old) × (samples pass.operation ≡ false) }
-    ensures { (table.new ≡ passed count pass table.old)
-        × (result ≡ seen_by count (passed count pass table.old)) }
-{
-    let mut seen = arbitration_pass::unseen();
-    let mut i = 0;
-    while i < count {
-        let usi = arbitration_pass::wrote_at(table[i], pass, i);
-        table[i] = usi;
-        seen = arbitration_pass::noted(seen, usi, i);
-        i = i + 1;
-    }
-    seen
-}
-
-// The first count modules make a pass; what they then show.
+// The first count modules make a pass: they sample the wire or write their registers, and perhaps tick; what they then
+// show.
 fn step_all(table: &mut [Usi], count: usize, pass: Pass) -> Seen
     requires { (count ≤ max_masters) × (count ≤ length table.old) }
     ensures { (table.new ≡ passed count pass table.old)
         × (result ≡ seen_by count (passed count pass table.old)) }
 {
     if pass.samples() {
-        sample_all(table, count, pass.sampling())
+        let sampling = pass.sampling();
+        step_each(
+            table,
+            count,
+            |usi, _| arbitration_pass::sampled(usi, sampling),
+        )
     } else {
-        write_all(table, count, pass)
+        step_each(
+            table,
+            count,
+            |usi, i| arbitration_pass::wrote_at(usi, pass, i),
+        )
     }
 }
 

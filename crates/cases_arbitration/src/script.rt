@@ -32,11 +32,9 @@ fn push_digit(values: &mut [u8], n: usize, b: u8) -> usize
     ensures { result ≤ length values.new }
 {
     let digit = text::digit(b);
-    if digit < 16 {
-        if n < values.len() {
-            values[n] = digit;
-            return n + 1;
-        }
+    if digit < 16 && n < values.len() {
+        values[n] = digit;
+        return n + 1;
     }
     n
 }
@@ -46,10 +44,8 @@ pub fn read_digits(text: &[u8], values: &mut [u8]) -> usize
     ensures { result ≤ length values.new }
 {
     let mut n = 0;
-    let mut i = 0;
-    while i < text.len() {
-        n = push_digit(values, n, text[i]);
-        i += 1;
+    for b in text {
+        n = push_digit(values, n, *b);
     }
     n
 }
@@ -63,12 +59,10 @@ fn join(values: &mut [u8], n: usize) -> usize
     requires { n ≤ length values.old }
     ensures { result ≤ length values.new }
 {
-    let mut i = 0;
-    while i < n / 2 {
+    for i in 0..n / 2 {
         values[i] = byte(values[2 * i], values[2 * i + 1]);
-        i += 1;
     }
-    i
+    n / 2
 }
 
 // The bytes of a text in hexadecimal, and how many there are.
@@ -89,8 +83,7 @@ pub fn read_numbers(line: &[u8], out: &mut [u32]) -> usize
     ensures { result ≤ length out.new }
 {
     let mut rest = line;
-    let mut n = 0;
-    while n < out.len() {
+    for n in 0..out.len() {
         let word = text::first_word(rest);
         if word.len() == 0 {
             return n;
@@ -98,9 +91,8 @@ pub fn read_numbers(line: &[u8], out: &mut [u32]) -> usize
         out[n] = short(value(word));
         let next = text::after_word(rest);
         rest = next;
-        n += 1;
     }
-    n
+    out.len()
 }
 
 // One number more, where there is room, and the next position.
@@ -121,16 +113,10 @@ fn push_parts(message: &[u8], parts: &mut [u32], n: usize) -> usize
     ensures { (n ≤ result) × (result ≤ length parts.new) }
 {
     let mut next = n;
-    let mut from = 0;
-    let mut i = 0;
-    while i < message.len() {
-        if message[i] == b'/' {
-            next = push(parts, next, short(((i - from) / 2) as u64));
-            from = i + 1;
-        }
-        i += 1;
+    for part in message.split(|b| *b == b'/') {
+        next = push(parts, next, short((part.len() / 2) as u64));
     }
-    push(parts, next, short(((i - from) / 2) as u64))
+    next
 }
 
 // The lengths of the parts of the messages of a line, and how many parts each has.
@@ -139,8 +125,7 @@ pub fn read_messages(line: &[u8], parts: &mut [u32], counts: &mut [u32]) -> Read
 {
     let mut rest = line;
     let mut at = 0;
-    let mut n = 0;
-    while n < counts.len() {
+    for n in 0..counts.len() {
         let message = text::first_word(rest);
         if message.len() == 0 {
             return Read {
@@ -153,10 +138,9 @@ pub fn read_messages(line: &[u8], parts: &mut [u32], counts: &mut [u32]) -> Read
         at = to;
         let next = text::after_word(rest);
         rest = next;
-        n += 1;
     }
     Read {
         parts: at,
-        counts: n,
+        counts: counts.len(),
     }
 }

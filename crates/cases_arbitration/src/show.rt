@@ -11,13 +11,6 @@ const MODULE: usize = 96;
 // The shift bytes of the table's modules before a run.
 const HELD: u8 = 0xee;
 
-// What a buffer holds.
-#[derive(Clone, Copy)]
-enum Entries {
-    Bytes,
-    Levels,
-}
-
 pub fn line(bytes: &[u8]) {
     io::write_all(STDOUT, bytes);
     io::write_all(STDOUT, b"\n");
@@ -47,23 +40,16 @@ fn master(i: usize, device: Usi, seat: Seat) {
 
 // The masters that have a message.
 fn masters(modules: [Usi; MAX_MASTERS], seats: [Seat; MAX_MASTERS], count: usize) {
-    let mut i = 0;
-    while i < MAX_MASTERS {
-        if i < count {
-            master(i, modules[i], seats[i]);
-        }
-        i += 1;
+    for i in 0..count.min(MAX_MASTERS) {
+        master(i, modules[i], seats[i]);
     }
 }
 
 // The masters still contending, bit i for master i.
 fn mask(seats: [Seat; MAX_MASTERS]) -> u64 {
     let mut mask: u64 = 0;
-    let mut i: usize = 0;
-    while i < MAX_MASTERS {
-        let seat = seats[i];
-        mask = mask | (seat.contending as u64) << i;
-        i += 1;
+    for (i, seat) in seats.iter().enumerate() {
+        mask |= (seat.contending as u64) << i;
     }
     mask
 }
@@ -102,19 +88,12 @@ fn level(b: u8) {
     io::write_all(STDOUT, &text);
 }
 
-fn entry(b: u8, kind: Entries) {
-    match kind {
-        Entries::Bytes => hex_byte(b),
-        Entries::Levels => level(b),
-    }
-}
-
-fn buffer(label: &[u8], entries: &[u8], kind: Entries) {
+fn buffer<F: Fn(u8)>(label: &[u8], entries: &[u8], show: F)
+    requires { F.IsAlwaysCallable show }
+{
     io::write_all(STDOUT, label);
-    let mut i = 0;
-    while i < entries.len() {
-        entry(entries[i], kind);
-        i += 1;
+    for entry in entries {
+        show(*entry);
     }
     line(b"");
 }
@@ -131,6 +110,6 @@ pub fn arbitration(
     let held = [Usi::power_up(HELD, HELD); MAX_MASTERS];
     let done = arbitration::rehearse(held, bytes, parts, counts, acks, carried, levels);
     replied(done, counts.len());
-    buffer(b"  carried ", carried, Entries::Bytes);
-    buffer(b"  levels ", levels, Entries::Levels);
+    buffer(b"  carried ", carried, hex_byte);
+    buffer(b"  levels ", levels, level);
 }

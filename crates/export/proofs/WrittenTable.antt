@@ -9,17 +9,17 @@ use Rattle.laws.specs.Buffer.{filled}
 use Rattle.laws.proofs.Buffer.{Writing, writing-none, writing-long, writing_more, writing-done}
 
 -- the first count entries are written
-abbrev pub Written : List ℕ → List ℕ → List ℕ → ℕ → Type 0
+abbrev pub Written : {A : Type 0} → List A → List A → List A → ℕ → Type 0
 Written whole table₀ table count = Writing whole (drop count whole) table₀ table count
 
-pub written_none : (whole table : List ℕ) → Written whole table table 0
+pub written_none : {A : Type 0} (whole table : List A) → Written whole table table 0
 written_none whole table = writing-none whole table
 
-module _ (whole table₀ table : List ℕ) (count : ℕ) (room : length whole ≤ length table₀) (written : Written whole table₀ table count) where
+module _ {A : Type 0} (whole table₀ table : List A) (count : ℕ) (room : length whole ≤ length table₀) (written : Written whole table₀ table count) where
   pub written-long : length table ≡ length table₀
   written-long = writing-long whole (drop count whole) table₀ table count room written
 
-  pub written-more : (entry other : ℕ) → count < length whole → entry ≡ get_or whole count other
+  pub written-more : (entry other : A) → count < length whole → entry ≡ get_or whole count other
       → Written whole table₀ (set table count entry) (count + 1)
   written-more entry other more e =
       let next : drop (suc count) whole ≡ drop (count + 1) whole = ap (λ (n : ℕ). drop n whole) (sym (add-one count)) in

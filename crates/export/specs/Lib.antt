@@ -1,4 +1,5 @@
 pub mod Packed
+pub mod Entries
 pub mod Replies
 pub mod Arbitration
 pub mod Night

@@ -4,6 +4,7 @@ ghost use Rattle.laws.specs.Buffer.{filled};
 ghost use Rattle.arbitration_rules.specs.Limits.{max_masters};
 ghost use Rattle.arbitration_rules.specs.Reply.{asked, refused as refused_reply};
 ghost use Rattle.export.specs.Packed.{packed as packed_module};
+ghost use Rattle.export.specs.Entries.{Numbers};
 ghost use Rattle.export.specs.Arbitration.{Arbitrates, gave, lent, packed_reply, packed_seat};
 
 use arbitration::Arbitrated;
@@ -38,16 +39,24 @@ fn seat_number(seat: Seat) -> u32
     rest
 }
 
+// Each entry as a number, put into the table one after the other; the rest stays.
+fn put<T: Copy, N: Copy, F: Fn(T) -> N>(entries: &[T], table: &mut [N], number: F)
+    requires room { length entries.now ≤ length table.old }
+    requires callable { F.IsAlwaysCallable number }
+    ensures { (numbered : T → N) → Numbers numbered (F.post number)
+        → table.new ≡ filled (map numbered entries.now) table.old }
+{
+    for (i, entry) in entries.iter().enumerate() {
+        table[i] = number(*entry);
+    }
+}
+
 // The first of the modules, so many.
 pub(crate) fn put_modules(modules: [Usi; MAX_MASTERS], count: usize, table: &mut [u64])
     requires { (count ≤ max_masters) × (count ≤ length table.old) }
     ensures { table.new ≡ filled (map packed_module (take count modules)) table.old }
 {
-    let mut i: usize = 0;
-    while i < count {
-        table[i] = crate::packed(modules[i]);
-        i += 1;
-    }
+    put(&modules[..count], table, crate::packed);
 }
 
 // The first of the seats, so many.
@@ -55,11 +64,7 @@ fn put_seats(seats: [Seat; MAX_MASTERS], count: usize, table: &mut [u32])
     requires { (count ≤ max_masters) × (count ≤ length table.old) }
     ensures { table.new ≡ filled (map packed_seat (take count seats)) table.old }
 {
-    let mut i: usize = 0;
-    while i < count {
-        table[i] = seat_number(seats[i]);
-        i += 1;
-    }
+    put(&seats[..count], table, seat_number);
 }
 
 // The arbitration of messages that lie in bytes one after the other, with the length of every part, message after

@@ -23,11 +23,7 @@ fn put_rounds(rounds: [u32; MAX_MASTERS], count: usize, table: &mut [u32])
     requires { (count ≤ max_masters) × (count ≤ length table.old) }
     ensures { table.new ≡ filled (take count rounds) table.old }
 {
-    let mut i: usize = 0;
-    while i < count {
-        table[i] = rounds[i];
-        i += 1;
-    }
+    table[..count].copy_from_slice(&rounds[..count]);
 }
 
 // The night of messages that lie in bytes one after the other, with the length of every part, message after message,

@@ -41,15 +41,3 @@ pub any-default : {A : Type 0} (list : List A) (i : ℕ) (one other : A) → i <
 any-default [] i one other less = absurd (not-suc-le-zero less)
 any-default (a ∷ list) zero one other less = refl
 any-default (a ∷ list) (suc i) one other less = any-default list i one other (le_of_suc-le-suc less)
-
--- the same, of a list that was put together so
-pub over-next : {A : Type 0} (list others out : List A) (i : ℕ) (empty : A) → out ≡ take i list ++ drop i others
-    → i < length list → i < length others
-    → set out i (get_or list i empty) ≡ take (i + 1) list ++ drop (i + 1) others
-over-next list others out i empty same less room = rw (same, add-one) (over-more list others i empty less room)
-
-pub over-all : {A : Type 0} (list others out : List A) (i : ℕ) → out ≡ take i list ++ drop i others → i ≡ length list
-    → out ≡ filled list others
-over-all {A} list others out i same end =
-    same ∙ ap (λ (n : ℕ). take n list ++ drop n others) end
-    ∙ ap (λ (l : List A). l ++ drop (length list) others) (take-length list)

@@ -1,5 +1,5 @@
 -- The lists that wait, put together anew, for contracts inside the crate.
-use Rattle.std.specs.Prelude.{ℕ, ◌≤◌, ◌≡◌, List, length, take}
+use Rattle.std.specs.Prelude.{ℕ, zero, suc, ◌≤◌, ◌≡◌, List, [], ◌∷◌, ◌++◌, length, take, drop}
 use Rattle.arbitration_rules.specs.Reply.{cut, joined}
 use Rattle.night_rules.specs.Night.{waiting}
 
@@ -7,7 +7,14 @@ use Rattle.night_rules.specs.Night.{waiting}
 abbrev pub waiting_in : List ℕ → List ℕ → List ℕ → List ℕ
 waiting_in rounds lengths list = joined (waiting rounds (cut lengths list))
 
+-- the same of items of any type (proofs/Gathered.antt: `joined_waiting-is`)
+abbrev pub joined_waiting : {A : Type 0} → List ℕ → List ℕ → List A → List A
+joined_waiting [] lengths list = []
+joined_waiting (round ∷ rounds) [] list = []
+joined_waiting (zero ∷ rounds) (count ∷ lengths) list = take count list ++ joined_waiting rounds lengths (drop count list)
+joined_waiting (suc round ∷ rounds) (count ∷ lengths) list = joined_waiting rounds lengths (drop count list)
+
 -- an array starts with a list, as many as size says
-pub record Holds (whole array : List ℕ) (size : ℕ) : Type 0 where
+pub record Holds {A : Type 0} (whole array : List A) (size : ℕ) : Type 0 where
   pub within : size ≤ length array
   pub front : take size array ≡ whole

@@ -59,8 +59,7 @@ pub(crate) fn enter(
     let mut rounds = standing.rounds;
     let mut modules = standing.modules;
     let mut seat: usize = 0;
-    let mut i: usize = 0;
-    while i < count {
+    for i in 0..count {
         let earlier = rounds[i];
         let waits = earlier == 0;
         let own = seats[seat];
@@ -69,7 +68,6 @@ pub(crate) fn enter(
         rounds[i] = round_of(earlier, carried, number);
         modules[i] = usi;
         seat = seat_after(seat, waits);
-        i += 1;
     }
     Standing {
         count: number,

@@ -22,10 +22,8 @@ fn needed(rounds: [u32; MAX_MASTERS], lengths: &[u32]) -> usize
 {
     let ones = [1u32; MAX_MASTERS];
     let count = lengths.len();
-    let waiting = waiting::waiting_numbers(rounds, &ones[..count], lengths);
-    let list = waiting.list;
-    let size = waiting.size;
-    arbitration_checks::longest(&list[..size])
+    let waiting = waiting::joined(rounds, &ones[..count], lengths, 0);
+    arbitration_checks::longest(waiting.items())
 }
 
 // The arbitration of the messages that wait, each lent anew, with the acknowledges that they need. The modules are
@@ -46,23 +44,17 @@ pub(crate) fn contest(
 {
     let ones = [1u32; MAX_MASTERS];
     let count = counts.len();
-    let own_counts = waiting::waiting_numbers(rounds, &ones[..count], counts);
-    let own_parts = waiting::waiting_numbers(rounds, counts, parts);
-    let own_bytes = waiting::waiting_bytes(rounds, lengths, bytes);
+    let own_counts = waiting::joined(rounds, &ones[..count], counts, 0);
+    let own_parts = waiting::joined(rounds, counts, parts, 0);
+    let own_bytes = waiting::joined(rounds, lengths, bytes, 0);
     let heard = needed(rounds, lengths);
-    let count_list = own_counts.list;
-    let count_size = own_counts.size;
-    let part_list = own_parts.list;
-    let part_size = own_parts.size;
-    let byte_list = own_bytes.list;
-    let byte_size = own_bytes.size;
     let mut carried = [0u8; MAX_LENGTH];
     let mut levels = [0u8; MAX_LEVELS];
     arbitration::rehearse(
         modules,
-        &byte_list[..byte_size],
-        &part_list[..part_size],
-        &count_list[..count_size],
+        own_bytes.items(),
+        own_parts.items(),
+        own_counts.items(),
         &acks[..heard],
         &mut carried,
         &mut levels,

@@ -22,11 +22,7 @@ fn put_rounds(rounds: &mut [u32], list: &[u32])
     requires { length list.now ≤ length rounds.old }
     ensures { rounds.new ≡ filled list.now rounds.old }
 {
-    let mut i: usize = 0;
-    while i < list.len() {
-        rounds[i] = list[i];
-        i += 1;
-    }
+    rounds[..list.len()].copy_from_slice(list);
 }
 
 // The night over fresh modules, its rounds put into their slice: what the table held plays no part.
@@ -68,13 +64,6 @@ pub(crate) fn settle(
     }
 }
 
-// How many entries of the table get a module.
-fn entries_of(ended: Ended) -> usize
-    ensures { result ≡ ended.entries }
-{
-    ended.entries
-}
-
 // The module for an entry; past the last one a fresh module.
 fn module_at(ended: Ended, i: usize) -> Usi
     ensures { result ≡ get_or ended.modules i (power_up 0 0) }
@@ -86,25 +75,14 @@ fn module_at(ended: Ended, i: usize) -> Usi
     Usi::power_up(0, 0)
 }
 
-fn reply_of(ended: Ended) -> Reply
-    ensures { result ≡ ended.reply }
-{
-    let reply = ended.reply;
-    reply
-}
-
 // The modules put into the first entries of the table; the rest stays.
 pub(crate) fn place(table: &mut [Usi], ended: Ended) -> Reply
     requires { ended.entries ≤ length table.old }
     ensures { (table.new ≡ placed ended.entries ended.modules table.old)
         × (result ≡ ended.reply) }
 {
-    let count = entries_of(ended);
-    let mut i = 0;
-    while i < count {
-        let usi = module_at(ended, i);
-        table[i] = usi;
-        i = i + 1;
+    for i in 0..ended.entries {
+        table[i] = module_at(ended, i);
     }
-    reply_of(ended)
+    ended.reply
 }

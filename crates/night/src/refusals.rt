@@ -34,14 +34,7 @@ fn form(bytes: &[u8], parts: &[u32], counts: &[u32], acks: &[u8]) -> Refusal
 fn any_one(acks: &[u8]) -> bool
     ensures { result ≡ any is_one acks.now }
 {
-    let mut i: usize = 0;
-    while i < acks.len() {
-        if acks[i] == 1 {
-            return true;
-        }
-        i += 1;
-    }
-    false
+    acks.contains(&1)
 }
 
 // Two messages first differ at an ending of either one; no acknowledge plays a part.
@@ -49,14 +42,12 @@ fn end_apart(sent: &[u16], lengths: &[u32], acks: &[u8]) -> bool
     ensures { result ≡ end_apart (cut lengths.now sent.now) }
 {
     let mut from: usize = 0;
-    let mut i: usize = 0;
-    while i < lengths.len() {
-        let to = arbitration_messages::end_of(sent.len(), from, lengths[i]);
+    for length in lengths {
+        let to = arbitration_messages::end_of(sent.len(), from, *length);
         if arbitration_checks::any_ending_differs(&sent[from..to], sent, lengths, &acks[..0]) {
             return true;
         }
         from = to;
-        i += 1;
     }
     false
 }

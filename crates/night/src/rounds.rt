@@ -16,14 +16,7 @@ use usi::Usi;
 fn any_waits(rounds: &[u32]) -> bool
     ensures { result ≡ any waits rounds.now }
 {
-    let mut i: usize = 0;
-    while i < rounds.len() {
-        if rounds[i] == 0 {
-            return true;
-        }
-        i += 1;
-    }
-    false
+    rounds.contains(&0)
 }
 
 // The night after one more round.

@@ -8,12 +8,8 @@ use Rattle.night.proofs.carried.enter.Given as goal
 
 abbrev pub invariant-loop-i : goal.invariant-loop-i
 invariant-loop-i l =
-    (l.i ≤ l.count)
-    × (l.seat ≤ l.i)
+    (l.seat ≤ l.i)
     × (length l.rounds ≡ max_masters)
     × (length l.modules ≡ max_masters)
     × (rounds_at l.count l.number l.seats l.left l.initial.rounds 0 0 ≡ rounds_at l.count l.number l.seats l.left l.rounds l.i l.seat)
     × (modules_at l.count l.number l.seats l.left l.initial.rounds l.initial.modules 0 0 ≡ modules_at l.count l.number l.seats l.left l.rounds l.modules l.i l.seat)
-
-abbrev pub decreases-loop-i : goal.decreases-loop-i
-decreases-loop-i l = l.count - l.i

@@ -12,6 +12,7 @@ use Rattle.night.specs.Waiting.{waiting_in}
 use Rattle.night.specs.Round.{contenders}
 use Rattle.night.proofs.Contests.{take-ones, few, parts_within, bytes-within, lengths-few, needed-is}
 use Rattle.night.proofs.Contests.{needed-within, lent-anew}
+use Rattle.night.proofs.Gathered.{joined_waiting-is}
 use borrow.Author.Rules.{rules}
 use Rattle.night.proofs.contest.contest.Goals as goal
 
@@ -22,36 +23,36 @@ slice_bounds-ones-end c =
     let passes = c.requires.unrefused in
     few request passes
 
-pub slice_bounds-waiting_numbers-end : goal.slice_bounds-waiting_numbers-end
-slice_bounds-waiting_numbers-end c =
+pub slice_bounds-joined-end : goal.slice_bounds-joined-end
+slice_bounds-joined-end c =
     let a = c.args in
     let request = asked a.bytes.now a.parts.now a.counts.now a.acks.now in
     let passes = c.requires.unrefused in
     sym (length-take-le {A = ℕ} (length a.counts.now) (replicate max_masters 1) (few request passes))
 
-pub waiting_numbers-own_counts-requires : goal.waiting_numbers-own_counts-requires
-waiting_numbers-own_counts-requires c =
+pub joined-own_counts-requires : goal.joined-own_counts-requires
+joined-own_counts-requires c =
     let a = c.args in
     let request = asked a.bytes.now a.parts.now a.counts.now a.acks.now in
     let passes = c.requires.unrefused in
     let count = length a.counts.now in
     let long : length (take {A = ℕ} count (replicate max_masters 1)) ≡ count =
     length-take-le {A = ℕ} count (replicate max_masters 1) (few request passes) in
-    (omega (arith, long, few request passes), omega (arith, few request passes))
+    (omega arith, (omega (arith, long, few request passes), omega (arith, few request passes)))
 
-pub waiting_numbers-own_parts-requires : goal.waiting_numbers-own_parts-requires
-waiting_numbers-own_parts-requires c =
+pub joined-own_parts-requires : goal.joined-own_parts-requires
+joined-own_parts-requires c =
     let a = c.args in
     let request = asked a.bytes.now a.parts.now a.counts.now a.acks.now in
     let passes = c.requires.unrefused in
-    (few request passes, parts_within request passes)
+    (omega arith, (few request passes, parts_within request passes))
 
-pub waiting_bytes-own_bytes-requires : goal.waiting_bytes-own_bytes-requires
-waiting_bytes-own_bytes-requires c =
+pub joined-own_bytes-requires : goal.joined-own_bytes-requires
+joined-own_bytes-requires c =
     let a = c.args in
     let request = asked a.bytes.now a.parts.now a.counts.now a.acks.now in
     let passes = c.requires.unrefused in
-    (omega (arith, ap length c.requires.long, lengths-few request passes), bytes-within request passes)
+    (omega arith, (omega (arith, ap length c.requires.long, lengths-few request passes), bytes-within request passes))
 
 pub needed-heard-requires : goal.needed-heard-requires
 needed-heard-requires c =
@@ -62,21 +63,6 @@ needed-heard-requires c =
 
 pub slice_bounds-rehearse-end : goal.slice_bounds-rehearse-end
 slice_bounds-rehearse-end c =
-    let got = c.waiting_bytes-own_bytes in
-    sym (length-take-le got.result.size got.result.list got.ensures.within)
-
-pub slice_bounds-rehearse-end-2 : goal.slice_bounds-rehearse-end-2
-slice_bounds-rehearse-end-2 c =
-    let got = c.waiting_numbers-own_parts in
-    sym (length-take-le got.result.size got.result.list got.ensures.within)
-
-pub slice_bounds-rehearse-end-3 : goal.slice_bounds-rehearse-end-3
-slice_bounds-rehearse-end-3 c =
-    let got = c.waiting_numbers-own_counts in
-    sym (length-take-le got.result.size got.result.list got.ensures.within)
-
-pub slice_bounds-rehearse-end-4 : goal.slice_bounds-rehearse-end-4
-slice_bounds-rehearse-end-4 c =
     let a = c.args in
     let request = asked a.bytes.now a.parts.now a.counts.now a.acks.now in
     let passes = c.requires.unrefused in
@@ -112,10 +98,11 @@ returns c =
     let table : length a.modules ≡ max_masters = search rules in
     lent-anew request passes a.rounds small c.requires.someone _ _ _ _ _ _ a.modules
     c.rehearse.result table refl refl refl refl
-    (c.waiting_bytes-own_bytes.ensures.front
+    (c.items.ensures ∙ c.joined-own_bytes.ensures.front ∙ joined_waiting-is a.rounds a.lengths.now a.bytes.now
     ∙ ap (λ (l : List ℕ). waiting_in a.rounds l a.bytes.now) c.requires.long)
-    c.waiting_numbers-own_parts.ensures.front
-    (c.waiting_numbers-own_counts.ensures.front
+    (c.items-2.ensures ∙ c.joined-own_parts.ensures.front ∙ joined_waiting-is a.rounds a.counts.now a.parts.now)
+    (c.items-3.ensures ∙ c.joined-own_counts.ensures.front
+    ∙ joined_waiting-is a.rounds (take {A = ℕ} (length a.counts.now) (replicate max_masters 1)) a.counts.now
     ∙ ap (λ (l : List ℕ). waiting_in a.rounds l a.counts.now)
     (take-ones (length a.counts.now) (few request passes)))
     (ap (λ (n : ℕ). take n a.acks.now) many)

@@ -9,27 +9,23 @@ use Rattle.arbitration_rules.specs.Limits.{max_masters}
 use Rattle.arbitration_rules.specs.Reply.{longest}
 use Rattle.night.specs.Waiting.{waiting_in}
 use Rattle.night.proofs.Contests.{take-ones}
+use Rattle.night.proofs.Gathered.{joined_waiting-is}
 use Rattle.night.proofs.contest.needed.Goals as goal
 
-pub slice_bounds-waiting_numbers-end : goal.slice_bounds-waiting_numbers-end
-slice_bounds-waiting_numbers-end c = sym (length-take-le {A = ℕ} (length c.args.lengths.now) (replicate max_masters 1) c.requires)
+pub slice_bounds-joined-end : goal.slice_bounds-joined-end
+slice_bounds-joined-end c = sym (length-take-le {A = ℕ} (length c.args.lengths.now) (replicate max_masters 1) c.requires)
 
-pub waiting_numbers-waiting-requires : goal.waiting_numbers-waiting-requires
-waiting_numbers-waiting-requires c =
+pub joined-waiting-requires : goal.joined-waiting-requires
+joined-waiting-requires c =
     let count = length c.args.lengths.now in
     let long : length (take {A = ℕ} count (replicate max_masters 1)) ≡ count =
     length-take-le {A = ℕ} count (replicate max_masters 1) c.requires in
-    (omega (arith, long, c.requires), omega (arith, c.requires))
-
-pub slice_bounds-longest-end : goal.slice_bounds-longest-end
-slice_bounds-longest-end c =
-    let got = c.waiting_numbers-waiting in
-    sym (length-take-le got.result.size got.result.list got.ensures.within)
+    (omega arith, (omega (arith, long, c.requires), omega (arith, c.requires)))
 
 pub returns : goal.returns
 returns c =
     let a = c.args in
     c.longest.ensures
     ∙ ap longest
-    (c.waiting_numbers-waiting.ensures.front
+    (c.items.ensures ∙ c.joined-waiting.ensures.front ∙ joined_waiting-is a.rounds (take {A = ℕ} (length a.lengths.now) (replicate max_masters 1)) a.lengths.now
     ∙ ap (λ (l : List ℕ). waiting_in a.rounds l a.lengths.now) (take-ones (length a.lengths.now) c.requires))

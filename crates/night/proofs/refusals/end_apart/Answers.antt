@@ -14,20 +14,20 @@ use Rattle.night.proofs.refusals.end_apart.Goals as goal
 abbrev differs : List ℕ → List ℕ → List ℕ → Bool
 differs lengths sent message = any (ending_differs [] message) (cut lengths sent)
 
-pub loop-i-init : goal.loop-i-init
-loop-i-init c = (search rules, searched-start _ _ _)
+pub loop-length-init : goal.loop-length-init
+loop-length-init c = searched-start _ _ _
 
 pub end_of-to-requires : goal.end_of-to-requires
 end_of-to-requires c = tt
 
 pub offset_bounds-sent-from : goal.offset_bounds-sent-from
-offset_bounds-sent-from c = omega (arith, c.loop-i.invariant.1.at.within)
+offset_bounds-sent-from c = omega (arith, c.loop-length.invariant.at.within)
 
 pub slice_bounds-any_ending_differs-count : goal.slice_bounds-any_ending_differs-count
-slice_bounds-any_ending_differs-count c = omega (arith, c.end_of-to.ensures, c.loop-i.invariant.1.at.within)
+slice_bounds-any_ending_differs-count c = omega (arith, c.end_of-to.ensures, c.loop-length.invariant.at.within)
 
 pub slice_bounds-any_ending_differs-start : goal.slice_bounds-any_ending_differs-start
-slice_bounds-any_ending_differs-start c = omega (arith, c.end_of-to.ensures, c.loop-i.invariant.1.at.within)
+slice_bounds-any_ending_differs-start c = omega (arith, c.end_of-to.ensures, c.loop-length.invariant.at.within)
 
 pub slice_bounds-any_ending_differs-end : goal.slice_bounds-any_ending_differs-end
 slice_bounds-any_ending_differs-end c = omega (arith, c.end_of-to.ensures)
@@ -37,17 +37,15 @@ any_ending_differs-requires c = tt
 
 pub returns-then-any_ending_differs : goal.returns-then-any_ending_differs
 returns-then-any_ending_differs c =
-    let head = c.loop-i in
-    searched-any _ _ _ head.i head.from _ head.invariant.1 c.loop-i-test.true c.end_of-to.ensures
+    let head = c.loop-length in
+    searched-any _ _ _ head.length-index head.from _ head.invariant (omega arith) c.end_of-to.ensures
     (sym c.any_ending_differs.ensures ∙ c.if-any_ending_differs.true)
 
-pub loop-i-preserved : goal.loop-i-preserved
-loop-i-preserved c =
-    let head = c.loop-i in (
-      search rules,
-      searched-more _ _ _ head.i head.from _ head.invariant.1 c.loop-i-test.true c.end_of-to.ensures
-          (sym c.any_ending_differs.ensures ∙ c.if-any_ending_differs.false),
-    )
+pub loop-length-preserved : goal.loop-length-preserved
+loop-length-preserved c =
+    let head = c.loop-length in
+    searched-more _ _ _ head.length-index head.from _ head.invariant (omega arith) c.end_of-to.ensures
+    (sym c.any_ending_differs.ensures ∙ c.if-any_ending_differs.false)
 
 pub returns : goal.returns
-returns c = searched-not _ _ _ _ c.loop-i.from c.loop-i.invariant.1 c.loop-i-test.false
+returns c = searched-not _ _ _ _ c.loop-length.from c.loop-length.invariant (omega arith)

@@ -1,6 +1,4 @@
 -- The messages passed so far differ from none at an ending.
-use Prim.Native.Nat.{◌≤◌, ◌-◌}
-use lib.ListN.{length}
 use mathlib.Core.Bool.{Bool}
 use mathlib.Core.List.{List, []}
 use Prim.Native.Nat.{ℕ}
@@ -13,8 +11,5 @@ use Rattle.night.proofs.refusals.end_apart.Given as goal
 abbrev differs : List ℕ → List ℕ → List ℕ → Bool
 differs lengths sent message = any (ending_differs [] message) (cut lengths sent)
 
-abbrev pub invariant-loop-i : goal.invariant-loop-i
-invariant-loop-i l = (l.i ≤ length l.lengths) × Searched (differs l.lengths l.sent) l.lengths l.sent l.i l.from
-
-abbrev pub decreases-loop-i : goal.decreases-loop-i
-decreases-loop-i l = length l.lengths - l.i
+abbrev pub invariant-loop-length : goal.invariant-loop-length
+invariant-loop-length l = Searched (differs l.lengths l.sent) l.lengths l.sent l.length-index l.from
