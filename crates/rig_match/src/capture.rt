@@ -1,8 +1,6 @@
 // The lines of the capture, as rig decode prints them.
 use crate::reading::{CROWDED, Reading, STRANGE};
 use crate::words::{before_colon, front};
-use check::same;
-use rig_lines::lists::place_of;
 use rig_lines::numbers::{least_number, value};
 use rig_lines::store;
 use text::{after_word, first_word};
@@ -29,20 +27,17 @@ fn stamp_in(word: &[u8]) -> u64 {
 
 // `doubtful`, and no word after it.
 fn is_doubt(words: &[u8]) -> bool {
-    same(first_word(words), b"doubtful") & (first_word(after_word(words)).len() == 0)
+    matches!(first_word(words), b"doubtful") & first_word(after_word(words)).is_empty()
 }
 
 // The words of an event, at most three, without `doubtful` after them.
 fn certain(words: &[u8]) -> &[u8] {
     let mut rest = after_word(words);
-    let mut left: usize = 3;
-    while left > 0 {
+    for _ in 0..3 {
         if is_doubt(rest) {
             return front(words, rest.len());
         }
-        let next = after_word(rest);
-        rest = next;
-        left -= 1;
+        rest = after_word(rest);
     }
     words
 }
@@ -94,9 +89,9 @@ pub(crate) fn with_line(
     stamps: &mut [u64; EVENTS],
 ) -> Reading {
     let mut reading = so_far;
-    match place_of(b"\nstart\ngap\nok\nlook", first_word(line)) {
-        0 | 1 | 2 => reading,
-        3 | 4 => {
+    match first_word(line) {
+        b"" | b"start" | b"gap" => reading,
+        b"ok" | b"look" => {
             reading.more = false;
             reading
         }

@@ -7,11 +7,7 @@ use frame_match::{FROM, TO, get, span};
 
 // An event of a list, as far as it has one.
 fn event_at(events: &[u16], index: usize) -> u16 {
-    if index < events.len() {
-        events[index]
-    } else {
-        NO_EVENT
-    }
+    events.get(index).copied().unwrap_or(NO_EVENT)
 }
 
 // The place of a bit on the bus, where the most significant is sent first.
@@ -20,10 +16,7 @@ fn place_of(bit: u8) -> u64 {
 }
 
 fn is_acknowledge(part: Part) -> bool {
-    match part {
-        Part::Acknowledge => true,
-        _ => false,
-    }
+    matches!(part, Part::Acknowledge)
 }
 
 // A message is on the bus up to and with the event at an index, whatever its acknowledge.
@@ -47,15 +40,11 @@ fn owner(
     seen: &[u16],
     index: usize,
 ) -> usize {
-    let mut row = from;
-    while row < end {
-        let message = span(events, get(book, row, FROM), get(book, row, TO));
-        if goes_on(message, seen, index) {
-            return row;
-        }
-        row += 1;
-    }
-    0
+    let has = |row: &usize| {
+        let message = span(events, get(book, *row, FROM), get(book, *row, TO));
+        goes_on(message, seen, index)
+    };
+    (from..end).find(has).unwrap_or(0)
 }
 
 // How a frame differs from that of a load, whose boards end at a row.

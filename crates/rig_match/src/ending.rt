@@ -98,10 +98,8 @@ fn put_missing(
         refused: 0,
         in_error: 0,
     };
-    let mut row: usize = 0;
-    while row < rows {
+    for row in 0..rows {
         missing = with_row(page, book, events, names, seen, row, missing);
-        row += 1;
     }
     missing
 }

@@ -96,9 +96,7 @@ fn match_all(
         other: 0,
     };
     let mut from = start_from(seen, 0);
-    let mut turns = seen.len();
-    while turns > 0 {
-        turns -= 1;
+    for _ in 0..seen.len() {
         if from >= seen.len() {
             return so_far;
         }

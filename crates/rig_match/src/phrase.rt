@@ -124,15 +124,12 @@ pub(crate) fn put(
     let mut end = begin(page, at);
     let mut place: usize = 0;
     let mut standing = true;
-    let mut i = 0;
-    while i < words.len() {
-        let b = words[i];
-        standing = stands(standing, b, line_at(numbers, place));
+    for b in words {
+        standing = stands(standing, *b, line_at(numbers, place));
         if standing {
-            end = put_mark(page, end, book, events, names, seen, b, numbers, place);
+            end = put_mark(page, end, book, events, names, seen, *b, numbers, place);
         }
-        place = after(b, place);
-        i += 1;
+        place = after(*b, place);
     }
     end
 }

@@ -2,7 +2,6 @@
 use crate::book::{EVENT_ROOM, NAME_ROOM, ROW_ROOM};
 use crate::capture::EVENTS;
 use crate::{book, capture, rehearsal};
-use check::same;
 use rig_lines::console::{PAGE, begin, put_form, put_quoted};
 use rig_lines::files::put_reason;
 use rig_lines::input;
@@ -134,9 +133,9 @@ impl Reading {
 // A line that is passed on: a fault of the rehearsal, or a long gap of the capture.
 fn is_passed(verdict: usize, line: &[u8]) -> bool {
     if verdict < OPEN {
-        return same(first_word(line), b"note:");
+        return matches!(first_word(line), b"note:");
     }
-    same(first_word(line), b"!") & !rehearsal::is_inner(line)
+    matches!(first_word(line), b"!") & !rehearsal::is_inner(line)
 }
 
 // Follows the line taken last.
@@ -210,9 +209,7 @@ pub(crate) fn read_all(
     stamps: &mut [u64; EVENTS],
 ) -> Reading {
     let mut reading = Reading::new();
-    let mut turns = u64::MAX;
-    while turns > 0 {
-        turns -= 1;
+    for _ in 0..u64::MAX {
         if !reading.more {
             return ended(page, line, reading);
         }

@@ -2,7 +2,6 @@
 use crate::book::{EVENT_ROOM, NAME_ROOM, ROW_ROOM};
 use crate::reading::Reading;
 use crate::{book, words};
-use check::same;
 use frame_match::{
     CUT, FROM, IN, KIND, LOAD, LOST, NAME, NAME_END, NUMBER, STATE, TO, WON, get, set,
 };
@@ -15,10 +14,7 @@ const LARGEST: u64 = 4294967295;
 
 // A blank stands before the first word.
 pub(crate) fn is_inner(line: &[u8]) -> bool {
-    if line.len() == 0 {
-        return false;
-    }
-    (line[0] == b' ') | (line[0] == b'\t') | (line[0] == b'\r')
+    matches!(line, [b' ' | b'\t' | b'\r', ..])
 }
 
 // The row of a load or of a board, with its name and its events up to an end.
@@ -58,7 +54,7 @@ fn message_in(words: &[u8]) -> &[u8] {
 fn kind_of(place: usize, message: &[u8]) -> usize {
     match place {
         0 => {
-            if same(first_word(words::after_message(message)), b"CUT") {
+            if matches!(first_word(words::after_message(message)), b"CUT") {
                 return CUT;
             }
             WON
@@ -156,7 +152,7 @@ pub(crate) fn with_line(
         return with_inner(reading, book, events, names, line);
     }
     let word = first_word(after_word(line));
-    if same(first_word(line), b"load") {
+    if matches!(first_word(line), b"load") {
         reading.load = reading.rows;
         return with_row(reading, book, names, LOAD, 0, word, reading.events);
     }

@@ -6,7 +6,6 @@ use crate::{differences, phrase};
 use frame_match::{CUT, Found, IN, KIND, SINCE, WON, boards_end, get, load_about, sender, span};
 use rig_lines::console::PAGE;
 use rig_lines::lists::line_of;
-use rig_lines::numbers::more;
 use rig_lines::store::line_at;
 use trace::START;
 
@@ -25,52 +24,25 @@ impl Said {
 
 // An event from a place on up to another is doubtful.
 fn is_doubtful(stamps: &[u64], from: usize, end: usize) -> bool {
-    let mut i = from;
-    while i < end {
-        if line_at(stamps, i) >= DOUBTFUL {
-            return true;
-        }
-        i += 1;
-    }
-    false
+    (from..end).any(|i| line_at(stamps, i) >= DOUBTFUL)
 }
 
 // How many bytes a frame has.
 fn bytes_in(frame: &[u16]) -> u64 {
-    let mut count: u64 = 0;
-    let mut i = 0;
-    while i < frame.len() {
-        if frame[i] < START {
-            count = more(count);
-        }
-        i += 1;
-    }
-    count
-}
-
-// The first of the boards in rows that is of a kind.
-fn first_of(book: &[u32], from: usize, end: usize, kind: usize) -> usize {
-    let mut row = from;
-    while row < end {
-        if get(book, row, KIND) == kind {
-            return row;
-        }
-        row += 1;
-    }
-    end
+    frame.iter().filter(|event| **event < START).count() as u64
 }
 
 // The rehearsed frame of a load, whose boards stand in rows: won, cut and won, or undecided.
 fn rehearsed(book: &[u32], frame: &[u16], load: usize, from: usize, end: usize) -> Said {
     let numbers = [load as u64, bytes_in(frame), from as u64, end as u64, 0, 0];
-    if first_of(book, from, end, IN) < end {
+    if (from..end).any(|row| get(book, row, KIND) == IN) {
         return Said::new(3, numbers);
     }
-    let cut = first_of(book, from, end, CUT);
-    if (cut < end) & (cut < first_of(book, from, end, WON)) {
-        return Said::new(2, numbers);
+    let mut kinds = (from..end).map(|row| get(book, row, KIND));
+    match kinds.find(|kind| matches!(*kind, CUT | WON)) {
+        Some(CUT) => Said::new(2, numbers),
+        _ => Said::new(1, numbers),
     }
-    Said::new(1, numbers)
 }
 
 // A frame that is not rehearsed, and whose message it is, where it is a board's.

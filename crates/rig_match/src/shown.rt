@@ -97,12 +97,10 @@ pub(crate) fn put_boards(
     end: usize,
 ) -> usize {
     let mut at = begun;
-    let mut row = from;
-    while row < end {
+    for row in from..end {
         if is_among(book, events, mark, from, row) {
             at = put_next_name(page, at, book, names, row);
         }
-        row += 1;
     }
     at
 }
@@ -144,12 +142,9 @@ pub(crate) fn put_frame(
     let frame = span(seen, from, end);
     let mut at = begun;
     let mut before: usize = 0;
-    let mut i = 0;
-    while i < frame.len() {
-        let event = frame[i];
-        at = put_byte(page, at, event, before);
-        before = between(before, event);
-        i += 1;
+    for event in frame {
+        at = put_byte(page, at, *event, before);
+        before = between(before, *event);
     }
     if before == 0 {
         return put_bytes(page, at, b"no byte");

@@ -1,7 +1,6 @@
 // Messages and frames in words, as events.
 use crate::book;
 use crate::book::EVENT_ROOM;
-use check::same;
 use rig_lines::numbers::{hex_byte, value};
 use rig_lines::store;
 use text::{after_word, first_word};
@@ -17,13 +16,7 @@ pub(crate) fn front(words: &[u8], rest: usize) -> &[u8] {
 
 // A word without a colon at its end.
 pub(crate) fn before_colon(word: &[u8]) -> &[u8] {
-    if word.len() == 0 {
-        return word;
-    }
-    if word[word.len() - 1] == b':' {
-        return front(word, 1);
-    }
-    word
+    word.strip_suffix(b":").unwrap_or(word)
 }
 
 // A byte: two hexadecimal digits.
@@ -33,18 +26,18 @@ pub(crate) fn is_byte(word: &[u8]) -> bool {
 
 // Between two parts of a message.
 fn is_restart(word: &[u8]) -> bool {
-    same(word, b"/")
+    matches!(word, b"/")
 }
 
 // An event stands first: a byte or a restart. The count of bytes in `2 of 4 bytes carried`, after a message, is none.
 fn is_event(words: &[u8], carried: bool) -> bool {
     let word = first_word(words);
-    let counted = same(first_word(after_word(words)), b"of") & !carried;
+    let counted = matches!(first_word(after_word(words)), b"of") & !carried;
     (is_byte(word) | is_restart(word)) & !counted
 }
 
 fn is_unacknowledged(word: &[u8]) -> bool {
-    same(word, b"NACK") | same(word, b"NACK,")
+    matches!(word, b"NACK" | b"NACK,")
 }
 
 // The first event; a byte that was carried has its acknowledge after it.
@@ -70,14 +63,11 @@ fn after_event(words: &[u8], carried: bool) -> &[u8] {
 // What follows a message.
 pub(crate) fn after_message(words: &[u8]) -> &[u8] {
     let mut rest = words;
-    let mut left = words.len();
-    while left > 0 {
+    for _ in 0..words.len() {
         if !is_event(rest, false) {
             return rest;
         }
-        let next = after_word(rest);
-        rest = next;
-        left -= 1;
+        rest = after_word(rest);
     }
     rest
 }
@@ -91,15 +81,12 @@ pub(crate) fn put_events(
 ) -> usize {
     let mut next = store::event(events, at, START);
     let mut rest = words;
-    let mut left = words.len();
-    while left > 0 {
+    for _ in 0..words.len() {
         if !is_event(rest, carried) {
             return store::event(events, next, STOP);
         }
         next = store::event(events, next, event_in(rest, carried));
-        let after = after_event(rest, carried);
-        rest = after;
-        left -= 1;
+        rest = after_event(rest, carried);
     }
     store::event(events, next, STOP)
 }

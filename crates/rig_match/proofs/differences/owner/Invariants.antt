@@ -1,9 +1,0 @@
--- `rig_match::differences::owner` is safe and ends.
-use Prim.Native.Nat.{◌-◌}
-use Rattle.rig_match.proofs.differences.owner.Given as goal
-
-abbrev pub invariant-loop-row : goal.invariant-loop-row
-invariant-loop-row l = Unit {0}
-
-abbrev pub decreases-loop-row : goal.decreases-loop-row
-decreases-loop-row l = l.end - l.row

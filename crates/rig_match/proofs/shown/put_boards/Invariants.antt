@@ -1,9 +1,0 @@
--- `rig_match::shown::put_boards` is safe and ends.
-use Prim.Native.Nat.{◌-◌}
-use Rattle.rig_match.proofs.shown.put_boards.Given as goal
-
-abbrev pub invariant-loop-row : goal.invariant-loop-row
-invariant-loop-row l = Unit {0}
-
-abbrev pub decreases-loop-row : goal.decreases-loop-row
-decreases-loop-row l = l.end - l.row

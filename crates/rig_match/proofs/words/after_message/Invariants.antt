@@ -1,8 +1,0 @@
--- `rig_match::words::after_message` is safe and ends.
-use Rattle.rig_match.proofs.words.after_message.Given as goal
-
-abbrev pub invariant-loop-left : goal.invariant-loop-left
-invariant-loop-left l = Unit {0}
-
-abbrev pub decreases-loop-left : goal.decreases-loop-left
-decreases-loop-left l = l.left
