@@ -1,8 +1,21 @@
 // The lines that answer the commands.
 use decode::Decoded;
-use encode::Encoded;
+use laws::Refusal;
 
 const STDOUT: i32 = 1;
+
+// What stands for the refusal where there is none, and for what was read where there is one.
+const NOT_REFUSED: Refusal = Refusal {
+    number: 0,
+    place: 0,
+};
+
+const NOT_READ: Decoded = Decoded {
+    count: 0,
+    framed: false,
+    pending: 0,
+    value: 0,
+};
 
 pub fn line(bytes: &[u8]) {
     io::write_all(STDOUT, bytes);
@@ -15,25 +28,20 @@ fn labelled(label: &[u8], number: u64) {
     io::print_decimal(STDOUT, number);
 }
 
-fn decoded_line(refusal: u8, place: usize, count: usize, framed: bool, pending: u8, value: u8) {
-    labelled(b"refused ", refusal as u64);
-    labelled(b" place ", place as u64);
-    labelled(b" count ", count as u64);
-    labelled(b" open ", framed as u64);
-    labelled(b" pending ", pending as u64);
-    labelled(b" value ", value as u64);
+fn decoded_line(refusal: Refusal, read: Decoded) {
+    labelled(b"refused ", refusal.number as u64);
+    labelled(b" place ", refusal.place as u64);
+    labelled(b" count ", read.count as u64);
+    labelled(b" open ", read.framed as u64);
+    labelled(b" pending ", read.pending as u64);
+    labelled(b" value ", read.value as u64);
     io::write_all(STDOUT, b" |");
 }
 
-fn decoded(answer: Decoded) {
+fn decoded(answer: Result<Decoded, Refusal>) {
     match answer {
-        Decoded::Events {
-            count,
-            framed,
-            pending,
-            value,
-        } => decoded_line(0, 0, count, framed, pending, value),
-        Decoded::Refused { number, place } => decoded_line(number, place, 0, false, 0, 0),
+        Ok(read) => decoded_line(NOT_REFUSED, read),
+        Err(refusal) => decoded_line(refusal, NOT_READ),
     }
 }
 
@@ -42,10 +50,10 @@ fn encoded_line(refusal: u8, count: usize) {
     labelled(b" count ", count as u64);
 }
 
-fn encoded(answer: Encoded) {
+fn encoded(answer: Result<usize, Refusal>) {
     match answer {
-        Encoded::Drawn(count) => encoded_line(0, count),
-        Encoded::Refused(number) => encoded_line(number, 0),
+        Ok(count) => encoded_line(0, count),
+        Err(refusal) => encoded_line(refusal.number, 0),
     }
 }
 

@@ -8,8 +8,9 @@ use borrow.Author.Tests.{ltb-true, ltb-false}
 use lib.Dec.{eqb, leb, ltb}
 use lib.ListN.{length, take, drop}
 use Rattle.laws.specs.Everyone.{Everyone, nobody, also}
-use Rattle.laws.specs.Refusals.{given}
-use Rattle.laws.proofs.Refusals.{placed}
+use Rattle.std.specs.Prelude.{Err}
+use Rattle.laws.specs.declared.Refusal.{Refusal}
+use Rattle.laws.proofs.Refusals.{refused_place}
 use Rattle.trace.specs.Limits.{largest_stamp}
 use Rattle.text.specs.declared.numbers.Number.{Number}
 use Rattle.text.specs.declared.numbers.Number.TheVariants.{Value, TooLarge, Bad}
@@ -27,7 +28,7 @@ use Rattle.dump_reader.specs.Definitions.{identifier, declare}
 use Rattle.dump_reader.specs.Values.{valued, stamped, missing, judge, read_stamp, assign}
 use Rattle.dump_reader.specs.Values.{unknown, command, unknown_byte, change}
 use Rattle.dump_reader.specs.Reading.{step_in, step, after, final}
-use Rattle.dump_reader.specs.DumpRead.{longest_text, read_checks}
+use Rattle.dump_reader.specs.DumpRead.{longest_text, read_checks, held, dump_read}
 use Rattle.dump_reader.proofs.Spans.{word-start}
 
 -- whichever case is taken, the place is still this one
@@ -187,13 +188,14 @@ final-place text =
     (words-within text (length text) 0 (omega arith))
 
 -- the place of every refusal fits 16 bits
-pub read-place : (text : List ℕ) (stamps-room levels-room : ℕ)
-    → (given (read_checks text stamps-room levels-room)).place ≤ longest_text
-read-place text stamps-room levels-room =
-    placed longest_text (read_checks text stamps-room levels-room) (
+pub read-place : (text : List ℕ) (stamps-room levels-room : ℕ) (refusal : Refusal)
+    → dump_read text stamps-room levels-room ≡ Err refusal → refusal.place ≤ longest_text
+unfolding dump_read
+read-place text stamps-room levels-room refusal is =
+    refused_place longest_text (read_checks text stamps-room levels-room) (held text) refusal (
       omega arith,
       λ short.
           let fits : length text ≤ longest_text = ltb-false longest_text (length text) short in
           let within : (final text).place ≤ longest_text = omega (arith, final-place text) in
           (within, λ a. (fits, λ b. (fits, λ d. (omega arith, λ e. (omega arith, λ f. tt))))),
-    )
+    ) is

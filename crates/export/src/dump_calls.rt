@@ -7,17 +7,17 @@ ghost use Rattle.trace.specs.Limits.{max_samples};
 ghost use Rattle.dump_reader.specs.DumpRead.{dump_read, stamps_after, levels_after};
 ghost use Rattle.export.specs.Replies.{packed_dumped, read_numbers, packed_dump_read};
 
-use dump::Dumped;
 use dump_reader::DumpRead;
+use laws::Refusal;
 use trace::MAX_SAMPLES;
 
-fn dump_answer(d: Dumped) -> u64
+fn dump_answer(d: Result<usize, Refusal>) -> u64
     requires { ((dumped_numbers d).count < 73856) × ((dumped_numbers d).place < 65536) }
     ensures { result ≡ packed_dumped d }
 {
     match d {
-        Dumped::Written(count) => 16777216 * (count as u64),
-        Dumped::Refused { number, place } => (number as u64) + 256 * (place as u64),
+        Ok(count) => 16777216 * (count as u64),
+        Err(refusal) => (refusal.number as u64) + 256 * (refusal.place as u64),
     }
 }
 
@@ -47,22 +47,22 @@ pub extern "C" fn kan_bus_dump_piece(
     dump::piece(stamps, levels, from, out)
 }
 
-fn dump_read_answer(d: DumpRead) -> u64
+fn dump_read_answer(d: Result<DumpRead, Refusal>) -> u64
     requires { ((read_numbers d).count < 65536) × ((read_numbers d).place < 65536) }
     ensures { result ≡ packed_dump_read d }
 {
     match d {
-        DumpRead::Written { count, timescale } => 16777216 * (count as u64),
-        DumpRead::Refused { number, place } => (number as u64) + 256 * (place as u64),
+        Ok(read) => 16777216 * (read.count as u64),
+        Err(refusal) => (refusal.number as u64) + 256 * (refusal.place as u64),
     }
 }
 
-fn timescale_of(d: DumpRead) -> u64
+fn timescale_of(d: Result<DumpRead, Refusal>) -> u64
     ensures { result ≡ (read_numbers d).timescale }
 {
     match d {
-        DumpRead::Written { count, timescale } => timescale,
-        DumpRead::Refused { number, place } => 0,
+        Ok(read) => read.timescale,
+        Err(_) => 0,
     }
 }
 

@@ -7,36 +7,31 @@ ghost use Rattle.phases.specs.DecodedIn.{decoded_in};
 ghost use Rattle.export.specs.Replies.{packed_decoded, packed_encoded};
 
 use decode::Decoded;
-use encode::Encoded;
+use laws::Refusal;
 use phases::Mode;
 
-fn decode_answer(d: Decoded) -> u64
+fn decode_answer(d: Result<Decoded, Refusal>) -> u64
     requires { ((decoded_numbers d).count < 65536) × ((decoded_numbers d).place < 65536) }
     ensures { result ≡ packed_decoded d }
 {
     match d {
-        Decoded::Events {
-            count,
-            framed,
-            pending,
-            value,
-        } => {
-            16777216 * (count as u64)
-                + 1099511627776 * crate::digit(framed)
-                + 281474976710656 * (pending as u64)
-                + 72057594037927936 * (value as u64)
+        Ok(read) => {
+            16777216 * (read.count as u64)
+                + 1099511627776 * crate::digit(read.framed)
+                + 281474976710656 * (read.pending as u64)
+                + 72057594037927936 * (read.value as u64)
         }
-        Decoded::Refused { number, place } => (number as u64) + 256 * (place as u64),
+        Err(refusal) => (refusal.number as u64) + 256 * (refusal.place as u64),
     }
 }
 
-fn encode_answer(e: Encoded) -> u64
+fn encode_answer(e: Result<usize, Refusal>) -> u64
     requires { (encoded_numbers e).count < 65536 }
     ensures { result ≡ packed_encoded e }
 {
     match e {
-        Encoded::Drawn(count) => 256 * (count as u64),
-        Encoded::Refused(number) => number as u64,
+        Ok(count) => 256 * (count as u64),
+        Err(refusal) => refusal.number as u64,
     }
 }
 

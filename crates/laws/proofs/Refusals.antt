@@ -1,6 +1,6 @@
 -- One law for every table of refusals: what no refusal says of each check, what one that applies gives, and a table
 -- cut in two.
-use mathlib.Core.Path.{◌≡◌, refl}
+use mathlib.Core.Path.{◌≡◌, refl, sym}
 use mathlib.Core.Bool.{Bool, true, false, cond}
 use mathlib.Core.List.{List, [], ◌∷◌, ◌++◌}
 use Prim.Native.Nat.{ℕ, ◌≤◌, ◌<◌}
@@ -8,6 +8,7 @@ use native.Mathlib.Omega.{arith}
 use borrow.Author.Tests.{ne_eqb}
 use Rattle.std.specs.Prelude.{Result, Ok, Err}
 use Rattle.std.specs.Result.{result_and}
+use Rattle.laws.specs.declared.Refusal.{Refusal}
 use Rattle.laws.specs.Refusals.{Check, refused_at, none, given, or_else, answer}
 
 -- every number of a table is above 0
@@ -116,6 +117,18 @@ ok_same (c ∷ checks) a b is = go c.applies is (ok_same checks a b)
         → (answer checks a ≡ Ok b → a ≡ b) → a ≡ b
     go true is rest = absurd (ok_or_err is)
     go false is rest = rest is
+
+-- the place of what a table refuses is at most a number, if each of its checks' is where no earlier one applies
+pub refused_place : {A : Type 0} (most : ℕ) (checks : List Check) (a : A) (r : Refusal) → Placed most checks
+    → answer checks a ≡ Err r → r.place ≤ most
+refused_place most [] a r all is = absurd (ok_or_err (sym is))
+refused_place most (c ∷ checks) a r all is = go c.applies refl is (refused_place most checks a r)
+  where
+    go : (applies : Bool) → c.applies ≡ applies
+        → cond applies (Err (refused_at c.number c.place)) (answer checks a) ≡ Err r
+        → (Placed most checks → answer checks a ≡ Err r → r.place ≤ most) → r.place ≤ most
+    go true applies is rest = let same : c.place ≡ r.place = cc in omega (arith, all.0, same)
+    go false applies is rest = rest (all.1 applies) is
 
 -- of two tables, one after the other: the first refuses, whatever the answer would be; else it is the second's
 pub answer-in_order : {A B : Type 0} (checks more : List Check) (a : A) (b : B)

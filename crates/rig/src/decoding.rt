@@ -7,13 +7,13 @@ mod shown; // shown.rt: the events one a line
 use crate::arguments::Arguments;
 use crate::lines::{end, put_numbers, say_numbers};
 use decode::Decoded;
+use laws::Refusal;
 use rig_lines::console::PAGE;
 use rig_lines::lists::line_of;
 use rig_lines::refusals::{put_refusal, put_sample_refusal, put_stamp_refusal};
 use rig_lines::{parts, store};
 use shown::Shown;
 use trace::{MAX_GAP, MAX_SAMPLES};
-use trace_thin::Thinned;
 
 // No trace that the library takes lists more events than it has samples.
 const EVENTS: usize = MAX_SAMPLES;
@@ -22,15 +22,6 @@ const EVENTS: usize = MAX_SAMPLES;
 const UNPAIRED: u8 = 5;
 
 const CROSSED: u8 = 7;
-
-// How a trace ends, as the library says it.
-#[derive(Clone, Copy)]
-struct Ending {
-    count: usize,
-    framed: bool,
-    pending: u8,
-    value: u8,
-}
 
 // The first stamp and the gap, so that rig encode draws the trace again.
 fn show_start(page: &mut [u8; PAGE], at: usize, stamps: &[u32]) -> usize {
@@ -70,7 +61,7 @@ fn put_ending(
     at: usize,
     verdict: usize,
     samples: usize,
-    ending: Ending,
+    ending: Decoded,
 ) -> usize {
     let words = line_of(
         b"ok # event~ in # sample~, no frame open, # bit~ pending
@@ -86,7 +77,7 @@ look # event~ in # sample~, frame open, # bit~ pending
 }
 
 // The last line: how the trace ends, and what was met that needs a look.
-fn summary(page: &mut [u8; PAGE], shown: Shown, samples: usize, ending: Ending) -> usize {
+fn summary(page: &mut [u8; PAGE], shown: Shown, samples: usize, ending: Decoded) -> usize {
     let front = put_ending(
         page,
         shown.at,
@@ -116,12 +107,13 @@ fn put_refused(page: &mut [u8; PAGE], number: u8, place: usize, stamp: u32, line
 // A trace that the library refuses; the first line of it with a stamp and no level is given.
 pub(crate) fn refuse(
     page: &mut [u8; PAGE],
-    number: u8,
-    place: usize,
+    refusal: Refusal,
     unpaired: u64,
     stamps: &[u32],
     lines: &[u64],
 ) -> usize {
+    let number = refusal.number;
+    let place = refusal.place;
     let stamp = crossed::stamp_at(stamps, place);
     let next = put_refused(page, number, place, stamp, store::line_at(lines, place));
     if number == CROSSED {
@@ -132,21 +124,17 @@ pub(crate) fn refuse(
 }
 
 // What the library says of a trace, of which only the samples that change a level are held to the limit.
-fn decoded_thin(stamps: &[u32], levels: &[u8], events: &mut [u16]) -> Decoded {
+fn decoded_thin(stamps: &[u32], levels: &[u8], events: &mut [u16]) -> Result<Decoded, Refusal> {
     let mut left_stamps = [0u32; MAX_SAMPLES];
     let mut left_levels = [0u8; MAX_SAMPLES];
-    match trace_thin::thin(stamps, levels, &mut left_stamps, &mut left_levels) {
-        Thinned::Refused { number, place } => Decoded::Refused { number, place },
-        Thinned::Left(count) => {
-            let left = parts::stamps(count, &left_stamps);
-            let also = parts::bytes(count, &left_levels);
-            decode::decode(&left_stamps[..left], &left_levels[..also], events)
-        }
-    }
+    let count = trace_thin::thin(stamps, levels, &mut left_stamps, &mut left_levels)?;
+    let left = parts::stamps(count, &left_stamps);
+    let also = parts::bytes(count, &left_levels);
+    decode::decode(&left_stamps[..left], &left_levels[..also], events)
 }
 
 // What the library says of a trace.
-fn decoded(given: Arguments, stamps: &[u32], levels: &[u8]) -> Decoded {
+fn decoded(given: Arguments, stamps: &[u32], levels: &[u8]) -> Result<Decoded, Refusal> {
     let mut events = [0u16; EVENTS];
     let lent = parts::events(given.room, &events);
     if given.thin {
@@ -162,7 +150,7 @@ fn show(
     stamps: &[u32],
     levels: &[u8],
     lines: &[u64],
-    ending: Ending,
+    ending: Decoded,
 ) -> usize {
     let usual = shown::inside(lines.len() > 0, trace_gaps::usual(stamps, levels));
     let next = show_start(page, at, stamps);
@@ -181,20 +169,7 @@ pub(crate) fn answer(
     lines: &[u64],
 ) -> usize {
     match decoded(given, stamps, levels) {
-        Decoded::Refused { number, place } => refuse(page, number, place, unpaired, stamps, lines),
-        Decoded::Events {
-            count,
-            framed,
-            pending,
-            value,
-        } => {
-            let ending = Ending {
-                count,
-                framed,
-                pending,
-                value,
-            };
-            show(page, at, stamps, levels, lines, ending)
-        }
+        Err(refusal) => refuse(page, refusal, unpaired, stamps, lines),
+        Ok(ending) => show(page, at, stamps, levels, lines, ending),
     }
 }

@@ -1,7 +1,6 @@
 // rig dump: a trace drawn as a Value Change Dump, gathered in a buffer of 4,096 bytes before each write.
 use crate::decoding::refuse;
 use crate::lines::say_numbers;
-use dump::Dumped;
 use rig_lines::console::{PAGE, flush};
 
 const GATHERED: usize = 4096;
@@ -49,13 +48,11 @@ pub(crate) fn answer(
 ) -> usize {
     let mut none = [0u8; 1];
     match dump::dump(stamps, levels, &mut none) {
-        Dumped::Refused { number, place } => {
-            if number == SHORT {
-                let numbers = [write(stamps, levels) as u64, levels.len() as u64];
-                return say_numbers(page, 0, b"ok # byte~ for # sample~", &numbers);
-            }
-            refuse(page, number, place, unpaired, stamps, lines)
+        Err(refusal) if refusal.number == SHORT => {
+            let numbers = [write(stamps, levels) as u64, levels.len() as u64];
+            say_numbers(page, 0, b"ok # byte~ for # sample~", &numbers)
         }
-        Dumped::Written(_) => 0,
+        Err(refusal) => refuse(page, refusal, unpaired, stamps, lines),
+        Ok(_) => 0,
     }
 }

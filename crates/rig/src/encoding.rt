@@ -5,7 +5,6 @@ mod statement; // statement.rt: what a line of it says
 use crate::hints;
 use crate::lines::say_numbers;
 use crate::trouble::NOTHING;
-use encode::Encoded;
 use listing::{EVENTS, Listing};
 use rig_lines::console::PAGE;
 use rig_lines::files::Reader;
@@ -56,12 +55,12 @@ fn answer(
     levels: &mut [u8],
 ) -> usize {
     match encode::encode(events, listing.start, listing.gap, stamps, levels) {
-        Encoded::Refused(number) => {
-            let refusal = put_refusal(page, 0, number);
-            let hint = hints::trace(listing.like_trace() & (number == INCOMPLETE));
-            hints::end(page, refusal, hint)
+        Err(refusal) => {
+            let next = put_refusal(page, 0, refusal.number);
+            let hint = hints::trace(listing.like_trace() & (refusal.number == INCOMPLETE));
+            hints::end(page, next, hint)
         }
-        Encoded::Drawn(count) => {
+        Ok(count) => {
             let next = show_all(page, stamps, levels, count);
             say_numbers(page, next, b"ok # sample~", &[count as u64])
         }

@@ -55,14 +55,13 @@ pub(crate) fn answer(
 ) -> usize {
     let mut ordered_stamps = [0u32; MAX_SAMPLES];
     let mut ordered_levels = [0u8; MAX_SAMPLES];
-    let refusal = trace_sort::sort(stamps, levels, &mut ordered_stamps, &mut ordered_levels);
-    if refusal.number == TAKEN {
-        return taken(page, stamps, lines, refusal.place);
+    match trace_sort::sort(stamps, levels, &mut ordered_stamps, &mut ordered_levels) {
+        Err(refusal) if refusal.number == TAKEN => taken(page, stamps, lines, refusal.place),
+        Err(refusal) => refuse(page, refusal, unpaired, stamps, lines),
+        Ok(()) => {
+            let count = stamps.len();
+            let next = show_all(page, &ordered_stamps, &ordered_levels, count);
+            sorted(page, next, count, out_of_order(stamps))
+        }
     }
-    if refusal.number > 0 {
-        return refuse(page, refusal.number, refusal.place, unpaired, stamps, lines);
-    }
-    let count = stamps.len();
-    let next = show_all(page, &ordered_stamps, &ordered_levels, count);
-    sorted(page, next, count, out_of_order(stamps))
 }

@@ -3,7 +3,7 @@ use super::answer;
 use crate::arguments::Arguments;
 use crate::lines::{end, put, say_numbers};
 use crate::trouble;
-use dump_reader::{DumpRead, LONGEST_TEXT};
+use dump_reader::LONGEST_TEXT;
 use rig_lines::console::PAGE;
 use rig_lines::input::Source;
 use rig_lines::lists::line_of;
@@ -177,12 +177,12 @@ pub(crate) fn run<E: Env>(
     let mut stamps = [0u32; MAX_SAMPLES];
     let mut levels = [0u8; MAX_SAMPLES];
     match dump_reader::read(text, &mut stamps, &mut levels) {
-        DumpRead::Refused { number, place } => refuse(page, text, number, place),
-        DumpRead::Written { count, timescale } => {
-            if (given.standard | given.fast) & (timescale != MODES_UNIT) {
-                return unfit(page, given.fast, timescale);
+        Err(refusal) => refuse(page, text, refusal.number, refusal.place),
+        Ok(read) => {
+            if (given.standard | given.fast) & (read.timescale != MODES_UNIT) {
+                return unfit(page, given.fast, read.timescale);
             }
-            show(page, given, timescale, count, &stamps, &levels)
+            show(page, given, read.timescale, read.count, &stamps, &levels)
         }
     }
 }

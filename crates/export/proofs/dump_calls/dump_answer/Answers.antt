@@ -3,16 +3,16 @@ use native.Mathlib.Omega.{arith}
 use Rattle.export.proofs.dump_calls.dump_answer.Goals as goal
 
 pub overflow_mul-result : goal.overflow_mul-result
-overflow_mul-result c = omega (arith, rw c.in-Written.is at c.requires.0)
+overflow_mul-result c = omega (arith, rw c.in-Ok.is at c.requires.0)
 
-pub overflow_mul-result-in-Refused : goal.overflow_mul-result-in-Refused
-overflow_mul-result-in-Refused c = omega (arith, rw c.in-Refused.is at c.requires.1)
+pub overflow_mul-result-in-Err : goal.overflow_mul-result-in-Err
+overflow_mul-result-in-Err c = omega (arith, rw c.in-Err.is at c.requires.1)
 
 pub overflow_add-result : goal.overflow_add-result
-overflow_add-result c = omega (arith, rw c.in-Refused.is at c.requires.1, c.in-Refused.known_told-in-Refused-1-own.given)
+overflow_add-result c = omega (arith, rw c.in-Err.is at c.requires.1, c.in-Err.known_told-in-Err-1-own.given)
 
-pub returns-in-Written : goal.returns-in-Written
-returns-in-Written c = rw c.in-Written.is (omega arith)
+pub returns-in-Ok : goal.returns-in-Ok
+returns-in-Ok c = rw c.in-Ok.is (omega arith)
 
-pub returns-in-Refused : goal.returns-in-Refused
-returns-in-Refused c = rw c.in-Refused.is (omega arith)
+pub returns-in-Err : goal.returns-in-Err
+returns-in-Err c = rw c.in-Err.is (omega arith)
