@@ -16,15 +16,13 @@ pub fn board_of(silent: [bool; MAX_MASTERS], master: usize) -> usize
     ensures { result ≡ board_of silent master }
 {
     let mut left = master;
-    let mut board: usize = 0;
-    while board < MAX_MASTERS {
+    for board in 0..MAX_MASTERS {
         if !silent[board] & (left == 0) {
             return board;
         }
         left = left_after(silent[board], left);
-        board += 1;
     }
-    board
+    MAX_MASTERS
 }
 
 // A board counts as a master where it is not silent.
@@ -40,10 +38,8 @@ pub fn master_of(silent: [bool; MAX_MASTERS], board: usize) -> usize
     ensures { result ≡ master_of silent board }
 {
     let mut master: usize = 0;
-    let mut i: usize = 0;
-    while (i < MAX_MASTERS) & (i < board) {
+    for i in 0..board.min(MAX_MASTERS) {
         master += count(silent[i]);
-        i += 1;
     }
     master
 }

@@ -5,7 +5,6 @@ ghost use Rattle.arbitration_rules.specs.Reply.{joined};
 ghost use Rattle.load_text.specs.Messages.{chosen, messages_in, unless};
 
 use arbitration_rules::{MAX_LENGTH, MAX_MASTERS};
-use rig_lines::numbers::least;
 use rig_lines::parts;
 use text::put_bytes;
 
@@ -43,10 +42,8 @@ pub fn gather(
         bytes.new result }
 {
     let mut next: usize = 0;
-    let mut board: usize = 0;
-    while board < MAX_MASTERS {
+    for board in 0..MAX_MASTERS {
         next = put_message(bytes, next, silent[board], message_in(rows, lengths, board));
-        board += 1;
     }
     next
 }
@@ -56,7 +53,7 @@ pub(crate) fn put_length(out: &mut [u32], at: usize, silent: bool, length: u32) 
     ensures { Put out.old at (unless silent (length ∷ [])) out.new result }
 {
     if silent {
-        return least(at, out.len());
+        return at.min(out.len());
     }
     if at < out.len() {
         out[at] = length;
@@ -74,10 +71,8 @@ pub fn gather_lengths(
     ensures { Put out.old 0 (chosen silent lengths) out.new result }
 {
     let mut next: usize = 0;
-    let mut board: usize = 0;
-    while board < MAX_MASTERS {
+    for board in 0..MAX_MASTERS {
         next = put_length(out, next, silent[board], lengths[board]);
-        board += 1;
     }
     next
 }

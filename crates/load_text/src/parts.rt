@@ -8,7 +8,6 @@ ghost use Rattle.load_text.specs.Messages.{chosen, unless, part_lengths, rows_in
 
 use crate::messages::{message_in, put_length};
 use arbitration_rules::{MAX_LENGTH, MAX_MASTERS};
-use rig_lines::numbers::least;
 
 // Whether a part begins, as a number.
 fn begins(start: u8) -> usize
@@ -23,10 +22,8 @@ pub fn count_parts(row: &[u8]) -> usize
     ensures { result ≡ length (part_lengths row.now) }
 {
     let mut count: usize = 0;
-    let mut i: usize = 0;
-    while i < row.len() {
-        count += begins(row[i]);
-        i += 1;
+    for start in row {
+        count += begins(*start);
     }
     count
 }
@@ -49,11 +46,9 @@ fn wide(length: u8) -> u32
 fn put_parts(out: &mut [u32], at: usize, silent: bool, row: &[u8]) -> usize
     ensures { Put out.old at (unless silent (part_lengths row.now)) out.new result }
 {
-    let mut next = least(at, out.len());
-    let mut i: usize = 0;
-    while i < row.len() {
-        next = put_length(out, next, silent | (row[i] == 0), wide(row[i]));
-        i += 1;
+    let mut next = at.min(out.len());
+    for start in row {
+        next = put_length(out, next, silent | (*start == 0), wide(*start));
     }
     next
 }
@@ -64,10 +59,8 @@ pub fn gather_parts(rows: &[u8], silent: [bool; MAX_MASTERS], out: &mut [u32]) -
         out.new result }
 {
     let mut next: usize = 0;
-    let mut board: usize = 0;
-    while board < MAX_MASTERS {
+    for board in 0..MAX_MASTERS {
         next = put_parts(out, next, silent[board], row_in(rows, board));
-        board += 1;
     }
     next
 }
@@ -84,10 +77,8 @@ pub fn gather_counts(rows: &[u8], silent: [bool; MAX_MASTERS], out: &mut [u32]) 
     ensures { Put out.old 0 (chosen silent (part_counts rows.now)) out.new result }
 {
     let mut next: usize = 0;
-    let mut board: usize = 0;
-    while board < MAX_MASTERS {
+    for board in 0..MAX_MASTERS {
         next = put_length(out, next, silent[board], count_in(rows, board));
-        board += 1;
     }
     next
 }

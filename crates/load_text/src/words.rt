@@ -1,6 +1,5 @@
 // The words of a file of loads: bytes, acknowledges, N/M and names.
-ghost use Rattle.std.specs.Prelude.{◌≡◌, ◌≤◌, length};
-ghost use Rattle.laws.specs.Search.{first};
+ghost use Rattle.std.specs.Prelude.{◌≡◌, position};
 ghost use Rattle.load_text.specs.Words.{small_in, byte_in, short_byte_in, acknowledge_in, slash, parts_from, parts_in};
 ghost use Rattle.load_text.specs.Words.{letter, one_or_two_digits, board_name, load_name};
 
@@ -63,19 +62,11 @@ pub fn acknowledge_in(word: &[u8]) -> Byte
     small(text::decimal(word))
 }
 
-// Where the first `/` stands, or the length of a word that has none.
-fn slash_at(word: &[u8]) -> usize
-    ensures value { result ≡ first slash word.now }
-    ensures upper_bound { result ≤ length word.now }
+// Where the first `/` stands.
+fn slash_at(word: &[u8]) -> Option<usize>
+    ensures { result ≡ position slash word.now }
 {
-    let mut i = 0;
-    while i < word.len() {
-        if word[i] == b'/' {
-            return i;
-        }
-        i += 1;
-    }
-    i
+    word.iter().position(|b| *b == b'/')
 }
 
 fn parts_from(one: Number, other: Number) -> Parts
@@ -91,10 +82,9 @@ fn parts_from(one: Number, other: Number) -> Parts
 pub fn parts_in(word: &[u8]) -> Parts
     ensures { result ≡ parts_in word.now }
 {
-    let end = slash_at(word);
-    if end == word.len() {
+    let Some(end) = slash_at(word) else {
         return Parts::No;
-    }
+    };
     let next = end + 1;
     parts_from(text::decimal(&word[..end]), text::decimal(&word[next..]))
 }

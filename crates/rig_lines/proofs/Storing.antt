@@ -2,7 +2,7 @@
 use mathlib.Core.Path.{◌≡◌, refl, sym}
 use mathlib.Core.List.{List}
 use Prim.Native.Nat.{ℕ, ◌+◌, ◌≤◌, ◌<◌}
-use lib.ListN.{length, get_or, set, get_or-eq_default}
+use lib.ListN.{length, set}
 use lib.Seq.{set_out}
 use borrow.Author.Tests.{lt-ltb, le-ltb}
 use Rattle.rig_lines.specs.Store.{Kept}
@@ -13,7 +13,3 @@ kept-within old at value h = record { stored = refl; moved = rw (lt-ltb at (leng
 pub kept-past : (old : List ℕ) (at value : ℕ) → length old ≤ at → Kept old at value old at
 kept-past old at value h =
     record { stored = sym (set_out old at value h); moved = rw (le-ltb at (length old) h) }
-
--- past the end of a slice there is a 0
-pub none-there : (l : List ℕ) (at : ℕ) → length l ≤ at → 0 ≡ get_or l at 0
-none-there l at h = sym (get_or-eq_default l 0 h)

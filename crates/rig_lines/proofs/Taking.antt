@@ -3,11 +3,11 @@ use mathlib.Core.Path.{◌≡◌, refl, sym, ap, ◌∙◌}
 use mathlib.Core.Bool.{Bool, true, false, ◌&&◌}
 use mathlib.Core.List.{List, [], ◌∷◌, ◌++◌, append_assoc, append-nil}
 use Prim.Native.Nat.{ℕ, ◌+◌, ◌-◌, ◌≤◌, ◌<◌, min}
-use native.Mathlib.Numerals.{add-one}
 use native.Mathlib.Omega.{arith}
-use lib.ListN.{length, get_or, drop, length-append, drop_of_length-le}
-use lib.Seq.{drop-cons}
+use lib.ListN.{length, get_or, length-append}
 use borrow.Author.Tests.{ne_eqb}
+use mathlib.Core.Logic.{◌↔◌}
+use Rattle.std.proofs.lemmas.List.Recursion.{and_at, and_from_places}
 use Rattle.text.specs.Output.{Put}
 use Rattle.text.proofs.Putting.{put_next, put-none}
 use Rattle.rig_lines.specs.Bytes.{every}
@@ -36,30 +36,16 @@ fed_then f (byte g h k) = rw (← append_assoc) (byte (fed_then f g) h k)
 fed_then f (read new n e g h d l m) = read new n e (fed_then f g) h d l m
 
 module _ (test : ℕ → Bool) where
-  every-next : (s : List ℕ) (i : ℕ) (b : Bool) → i < length s → test (get_or s i 0) ≡ b
-      → every test (drop i s) ≡ b && every test (drop (i + 1) s)
+  -- each byte passes the test, or one fails it
+  pub every-is : (s : List ℕ) (answer : Bool) → (answer ≡ true ↔ ((k : ℕ) → k < length s → test (get_or s k 0) ≡ true))
+      → answer ≡ every test s
   unfolding every
-  every-next s i b h t = rw (drop-cons s i 0, t, add-one)
-
-  -- the first i bytes of a text pass the test
-  pub record Passing (s : List ℕ) (i : ℕ) : Type 0 where
-    pub within : i ≤ length s
-    pub rest : every test s ≡ every test (drop i s)
-
-  pub passing-none : (s : List ℕ) → Passing s 0
-  passing-none s = record { within = omega arith; rest = refl }
-
-  pub passing-more : (s : List ℕ) (i : ℕ) → i < length s → test (get_or s i 0) ≡ true → Passing s i
-      → Passing s (i + 1)
-  passing-more s i h t p = record { within = omega arith; rest = p.rest ∙ every-next s i true h t }
-
-  pub passing-not : (s : List ℕ) (i : ℕ) → i < length s → test (get_or s i 0) ≡ false → Passing s i
-      → false ≡ every test s
-  passing-not s i h t p = sym (p.rest ∙ every-next s i false h t)
-
-  pub passing-all : (s : List ℕ) (i : ℕ) → length s ≤ i → Passing s i → true ≡ every test s
-  unfolding every
-  passing-all s i h p = sym (p.rest ∙ rw (drop_of_length-le s h))
+  every-is s true is = sym (and_from_places (every test) test refl (λ x xs. refl) s 0 (is.0 refl))
+  every-is s false is = go (every test s) refl
+    where
+      go : (all : Bool) → every test s ≡ all → false ≡ all
+      go true so = is.1 (λ k less. and_at (every test) test refl (λ x xs. refl) s k 0 less so)
+      go false so = refl
 
   -- one byte more at the end
   pub every_more : (s : List ℕ) (b : ℕ) → every test s ≡ true → test b ≡ true → every test (s ++ (b ∷ [])) ≡ true

@@ -37,12 +37,10 @@ pub fn word<E: Env>(env: &E, argument: usize, space: &mut [u8]) -> usize
 // How many words there are.
 pub fn count<E: Env>(env: &E) -> usize {
     let mut space = [0u8; 0];
-    let mut n = 0;
-    while n < usize::MAX {
-        match find(env, n, &mut space) {
-            Found::Missing => return n,
-            _ => n += 1,
+    for n in 0..usize::MAX {
+        if let Found::Missing = find(env, n, &mut space) {
+            return n;
         }
     }
-    n
+    usize::MAX
 }

@@ -1,6 +1,6 @@
 // Text put on one lent page, which is written to standard output when it is full: few writes, and no copies.
 // Each function puts its text at a position and answers the next one, as those of the crate text do.
-ghost use Rattle.std.specs.Prelude.{◌-◌, ◌≤◌, ◌≡◌, length};
+ghost use Rattle.std.specs.Prelude.{◌≤◌, ◌≡◌, length};
 ghost use Rattle.text.specs.Output.{Put};
 ghost use Rattle.rig_lines.specs.Bytes.{control};
 ghost use Rattle.rig_lines.specs.Console.{beginning, spaces, padded_text, count_text, shown as shown_byte};
@@ -8,7 +8,6 @@ ghost use Rattle.rig_lines.specs.Console.{shown_text, quoted_text, form_byte, ma
 ghost use Rattle.rig_lines.specs.Lists.{line_at};
 
 use crate::lists::line_of;
-use crate::numbers::least;
 use crate::{parts, store};
 use text::{put_byte, put_bytes, put_decimal, put_hex_byte};
 
@@ -40,18 +39,11 @@ pub fn flush(page: &[u8], at: usize) -> usize
     0
 }
 
-// How far it is from one number up to another.
-fn up_to(low: usize, high: usize) -> usize
-    ensures { result ≡ high - low }
-{
-    if low < high { high - low } else { 0 }
-}
-
 // Where the next line begins: there is room for it.
 pub fn begin(page: &[u8], at: usize) -> usize
     ensures { result ≡ beginning (length page.now) at }
 {
-    if up_to(at, page.len()) < LINE {
+    if page.len().saturating_sub(at) < LINE {
         return flush(page, at);
     }
     at
@@ -71,11 +63,9 @@ pub fn note(page: &[u8], from: usize, end: usize) -> usize
 pub fn put_spaces(page: &mut [u8], at: usize, n: usize) -> usize
     ensures { Put page.old at (spaces n) page.new result }
 {
-    let mut next = least(at, page.len());
-    let mut left = n;
-    while left > 0 {
+    let mut next = at.min(page.len());
+    for _ in 0..n {
         next = put_byte(page, next, b' ');
-        left -= 1;
     }
     next
 }
@@ -85,7 +75,7 @@ pub fn put_padded(page: &mut [u8], at: usize, text: &[u8], width: usize) -> usiz
     ensures { Put page.old at (padded_text width text.now) page.new result }
 {
     let end = put_bytes(page, at, text);
-    put_spaces(page, end, up_to(text.len(), width))
+    put_spaces(page, end, width.saturating_sub(text.len()))
 }
 
 // A count of a thing: `1 load`, `2 loads`.
@@ -117,11 +107,9 @@ fn shown(b: u8) -> u8
 pub fn put_shown(page: &mut [u8], at: usize, word: &[u8]) -> usize
     ensures { Put page.old at (shown_text word.now) page.new result }
 {
-    let mut next = least(at, page.len());
-    let mut i = 0;
-    while i < word.len() {
-        next = put_byte(page, next, shown(word[i]));
-        i += 1;
+    let mut next = at.min(page.len());
+    for b in word {
+        next = put_byte(page, next, shown(*b));
     }
     next
 }
@@ -165,14 +153,11 @@ pub fn put_form(page: &mut [u8], at: usize, words: &[u8], numbers: &[u64]) -> us
     ensures { Put page.old at (form_text words.now numbers.now)
         page.new result }
 {
-    let mut next = least(at, page.len());
+    let mut next = at.min(page.len());
     let mut number: usize = 0;
-    let mut i: usize = 0;
-    while i < words.len() {
-        let b = words[i];
-        next = put_formed(page, next, b, store::line_at(numbers, number));
-        number += taken(b);
-        i += 1;
+    for b in words {
+        next = put_formed(page, next, *b, store::line_at(numbers, number));
+        number += taken(*b);
     }
     next
 }

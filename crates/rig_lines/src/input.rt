@@ -1,9 +1,9 @@
 // Lines of a file or of standard input, however many, read piece by piece.
-ghost use Rattle.std.specs.Prelude.{◌≡◌, ◌≤◌, length, take};
-ghost use Rattle.rig_lines.specs.Bytes.{plain, every};
+ghost use Rattle.std.specs.Prelude.{◌≡◌, ◌≤◌, ◌↔◌, IsTrue, EachIndex, eqb, length, not, slice_index, take, take_while};
+ghost use Rattle.rig_lines.specs.Bytes.{plain};
 ghost use Rattle.rig_lines.specs.Input.{begun, next_number, after_read as read_after, Refilled, NextByte};
 ghost use Rattle.rig_lines.specs.Input.{supplied_with, ended_with, Filled};
-ghost use Rattle.rig_lines.specs.Input.{judged_line, judged_last, Took, comment_at, content_of};
+ghost use Rattle.rig_lines.specs.Input.{judged_line, judged_last, Took, content_of};
 
 use crate::console::is_control;
 use crate::numbers::more;
@@ -171,16 +171,9 @@ fn is_plain(b: u8) -> bool
 }
 
 fn is_text(line: &[u8]) -> bool
-    ensures { result ≡ every plain line.now }
+    ensures { IsTrue result ↔ EachIndex line.now (λ k. IsTrue (plain (slice_index line.now k))) }
 {
-    let mut i = 0;
-    while i < line.len() {
-        if !is_plain(line[i]) {
-            return false;
-        }
-        i += 1;
-    }
-    true
+    line.iter().all(|b| is_plain(*b))
 }
 
 // What a line of n bytes is.
@@ -217,14 +210,13 @@ fn counted(mut from: Source) -> Source
 }
 
 // Takes the next line whole, also one that is too long.
-// Nothing says that a line ends, so turns are counted down from a number that no line uses up.
+// Nothing says that a line ends, so turns are counted up to a number that no line uses up.
 pub fn next_line<R: Read>(reader: &mut R, piece: &mut [u8], line: &mut [u8], from: Source) -> Taken
     ensures { Took piece.old line.old from piece.new line.new result }
 {
     let mut from = counted(from);
     let mut n: usize = 0;
-    let mut turns = u64::MAX;
-    while turns > 0 {
+    for _ in 0..u64::MAX {
         match next_byte(reader, piece, from) {
             Next::End(after) => {
                 let last = judged_last(line, n, after.errno);
@@ -245,7 +237,6 @@ pub fn next_line<R: Read>(reader: &mut R, piece: &mut [u8], line: &mut [u8], fro
                 from = after;
             }
         }
-        turns -= 1;
     }
     Taken {
         line: Line::TooLong,
@@ -255,17 +246,10 @@ pub fn next_line<R: Read>(reader: &mut R, piece: &mut [u8], line: &mut [u8], fro
 
 // Where a comment begins, or the length of a line that has none.
 fn comment_at(line: &[u8]) -> usize
-    ensures value { result ≡ comment_at line.now }
+    ensures value { result ≡ length (take_while (λ b. not (eqb b 0x23)) line.now) }
     ensures upper_bound { result ≤ length line.now }
 {
-    let mut i = 0;
-    while i < line.len() {
-        if line[i] == b'#' {
-            return i;
-        }
-        i += 1;
-    }
-    i
+    line.iter().take_while(|b| **b != b'#').count()
 }
 
 // The first n bytes of a line, up to a comment.

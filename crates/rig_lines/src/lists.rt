@@ -13,11 +13,8 @@ fn after_lines(list: &[u8], n: usize) -> &[u8]
     ensures { result.now ≡ after_lines n list.now }
 {
     let mut rest = list;
-    let mut left = n;
-    while left > 0 {
-        let next = after_line(rest);
-        rest = next;
-        left -= 1;
+    for _ in 0..n {
+        rest = after_line(rest);
     }
     rest
 }
@@ -34,14 +31,11 @@ pub fn place_of(list: &[u8], word: &[u8]) -> usize
     ensures { result ≡ place_of 16 list.now word.now }
 {
     let mut rest = list;
-    let mut place: usize = 0;
-    while place < MANY {
+    for place in 0..MANY {
         if same(first_line(rest), word) {
             return place;
         }
-        let next = after_line(rest);
-        rest = next;
-        place += 1;
+        rest = after_line(rest);
     }
-    place
+    MANY
 }

@@ -39,17 +39,17 @@ pub fn hex_byte(word: &[u8]) -> Number
 pub fn more(count: u64) -> u64
     ensures { result ≡ one_more count }
 {
-    if count < u64::MAX { count + 1 } else { count }
+    count.saturating_add(1)
 }
 
 pub fn least(a: usize, b: usize) -> usize
     ensures { result ≡ min a b }
 {
-    if a < b { a } else { b }
+    a.min(b)
 }
 
 pub fn least_number(a: u64, b: u64) -> u64
     ensures { result ≡ min a b }
 {
-    if a < b { a } else { b }
+    a.min(b)
 }

@@ -44,5 +44,5 @@ pub fn line(lines: &mut [u64], at: usize, value: u64)
 pub fn line_at(lines: &[u64], at: usize) -> u64
     ensures { result ≡ get_or lines.now at 0 }
 {
-    if at < lines.len() { lines[at] } else { 0 }
+    lines.get(at).copied().unwrap_or(0)
 }

@@ -2,6 +2,8 @@ use Prim.Native.Nat.{◌<◌, ◌≤◌}
 use lib.ListN.{length}
 use Rattle.load_text.proofs.Masters.{sought-start, sought-more, sought-found, sought-end}
 use borrow.Author.Rules.{rules}
+use native.Mathlib.Omega.{arith}
+use mathlib.Core.Path.{◌≡◌, ◌∙◌}
 use Rattle.load_text.proofs.boards.board_of.Goals as goal
 
 pub loop-board-init : goal.loop-board-init
@@ -20,4 +22,5 @@ loop-board-preserved c =
 pub returns : goal.returns
 returns c =
     let past : length c.args.silent ≤ c.loop-board.board = search rules in
-    sought-end _ _ _ _ c.loop-board.invariant past
+    let last : 16 ≡ c.loop-board.board = omega arith in
+    last ∙ sought-end _ _ _ _ c.loop-board.invariant past

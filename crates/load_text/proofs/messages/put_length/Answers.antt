@@ -5,7 +5,7 @@ use borrow.Author.Rules.{rules}
 use Rattle.load_text.proofs.messages.put_length.Goals as goal
 
 pub returns-then-silent : goal.returns-then-silent
-returns-then-silent c = put_as _ _ (unless-silent _ _ c.if-silent.true) (put-none _ _ _ c.least.ensures)
+returns-then-silent c = put_as _ _ (unless-silent _ _ c.if-silent.true) (put-none _ _ _ c.min.ensures)
 
 pub returns-then-at-out : goal.returns-then-at-out
 returns-then-at-out c = put_as _ _ (unless_not _ _ c.if-silent.false) (put_one _ _ _ (search rules))

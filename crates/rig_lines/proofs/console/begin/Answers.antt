@@ -3,10 +3,10 @@ use Rattle.rig_lines.specs.Console.{beginning}
 use borrow.Author.Tests.{lt-ltb, le-ltb}
 use Rattle.rig_lines.proofs.console.begin.Goals as goal
 
-pub returns-then-up_to-lt-LINE : goal.returns-then-up_to-lt-LINE
+pub returns-then-saturating_sub-lt-LINE : goal.returns-then-saturating_sub-lt-LINE
 unfolding beginning
-returns-then-up_to-lt-LINE c = rw (← c.up_to.ensures, lt-ltb _ _ c.if-up_to-lt-LINE.true) c.flush.ensures
+returns-then-saturating_sub-lt-LINE c = rw (← c.saturating_sub.ensures, lt-ltb _ _ c.if-saturating_sub-lt-LINE.true) c.flush.ensures
 
 pub returns : goal.returns
 unfolding beginning
-returns c = rw (← c.up_to.ensures, le-ltb _ _ c.if-up_to-lt-LINE.false)
+returns c = rw (← c.saturating_sub.ensures, le-ltb _ _ c.if-saturating_sub-lt-LINE.false)

@@ -1,5 +1,7 @@
 -- `rig_lines::input::judged` meets its contract.
 use Rattle.laws.proofs.Branches.{branches}
+use Rattle.rig_lines.specs.Bytes.{plain}
+use Rattle.rig_lines.proofs.Taking.{every-is}
 use Rattle.rig_lines.specs.Input.{judged_line}
 use mathlib.Core.Path.{sym}
 use native.Mathlib.Omega.{arith}
@@ -15,8 +17,10 @@ slice_bounds-is_text-end c = sym (length-take-le _ _ (omega arith))
 
 pub returns-then-not-is_text : goal.returns-then-not-is_text
 unfolding judged_line
-returns-then-not-is_text c = search branches
+returns-then-not-is_text c =
+    let text = every-is plain _ _ c.is_text.ensures in search branches
 
 pub returns : goal.returns
 unfolding judged_line
-returns c = search branches
+returns c =
+    let text = every-is plain _ _ c.is_text.ensures in search branches

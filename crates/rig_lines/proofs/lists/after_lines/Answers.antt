@@ -1,18 +1,24 @@
+use native.Mathlib.Omega.{arith}
+use Prim.Native.Nat.{ℕ, ◌+◌, ◌-◌, ◌<◌}
+use mathlib.Core.Path.{◌≡◌, ap, ◌∙◌, sym}
 use Rattle.rig_lines.proofs.Places.{lines-less}
-use mathlib.Core.Path.{◌≡◌, refl, ◌∙◌, sym}
 use Rattle.rig_lines.specs.Lists.{after_lines}
-use borrow.Author.Rules.{rules}
 use Rattle.rig_lines.proofs.lists.after_lines.Goals as goal
 
-pub loop-left-init : goal.loop-left-init
-loop-left-init c = refl
+pub loop-init : goal.loop-init
+loop-init c =
+    let all : c.args.n ≡ c.args.n - 0 = omega arith in ap (λ (k : ℕ). after_lines k c.args.list.now) all
 
-pub loop-left-preserved : goal.loop-left-preserved
-loop-left-preserved c = c.loop-left.invariant
-    ∙ lines-less c.loop-left.left _ _ c.loop-left-test.true c.after_line-next.ensures
+pub loop-preserved : goal.loop-preserved
+loop-preserved c =
+    let left : 0 < c.args.n - c.loop.counter = omega arith in
+    let less : c.args.n - c.loop.counter - 1 ≡ c.args.n - (c.loop.counter + 1) = omega arith in
+    c.loop.invariant
+    ∙ lines-less (c.args.n - c.loop.counter) _ _ left c.after_line-rest.ensures
+    ∙ ap (λ (k : ℕ). after_lines k c.after_line-rest.result.now) less
 
 pub returns : goal.returns
 unfolding after_lines
 returns c =
-    let none : c.loop-left.left ≡ 0 = search rules in
-    sym (rw none at c.loop-left.invariant)
+    let none : c.args.n - c.loop.counter ≡ 0 = omega arith in
+    sym (rw none at c.loop.invariant)

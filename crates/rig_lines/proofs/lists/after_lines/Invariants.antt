@@ -1,10 +1,8 @@
 -- `rig_lines::lists::after_lines` meets its contract. The invariant: what is left to pass leads to the same text.
+use Prim.Native.Nat.{◌-◌}
 use mathlib.Core.Path.{◌≡◌}
 use Rattle.rig_lines.specs.Lists.{after_lines}
 use Rattle.rig_lines.proofs.lists.after_lines.Given as goal
 
-abbrev pub invariant-loop-left : goal.invariant-loop-left
-invariant-loop-left l = after_lines l.n l.list ≡ after_lines l.left l.rest
-
-abbrev pub decreases-loop-left : goal.decreases-loop-left
-decreases-loop-left l = l.left
+abbrev pub invariant-loop : goal.invariant-loop
+invariant-loop l = after_lines l.n l.list ≡ after_lines (l.n - l.counter) l.rest

@@ -27,7 +27,7 @@ loop-place-preserved c =
     let one_less : 16 - head.place - 1 ≡ 16 - (head.place + 1) = omega (arith, less) in
     let other = call-no _ _ refl c.if-same.false in
     let later = stands-later (16 - head.place) _ _ _ _ left c.first_line.ensures
-    (λ is. false≢true (sym other ∙ c.same.ensures.1 is)) c.after_line-next.ensures in
+    (λ is. false≢true (sym other ∙ c.same.ensures.1 is)) c.after_line-rest.ensures in
     (omega (arith, less), omega (arith, rw one_less at later, head.invariant.1))
 
 pub returns : goal.returns

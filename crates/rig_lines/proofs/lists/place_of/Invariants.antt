@@ -7,6 +7,3 @@ use Rattle.rig_lines.proofs.lists.place_of.Given as goal
 
 abbrev pub invariant-loop-place : goal.invariant-loop-place
 invariant-loop-place l = (l.place ≤ 16) × (l.place + place_of (16 - l.place) l.rest l.word ≡ place_of 16 l.list l.word)
-
-abbrev pub decreases-loop-place : goal.decreases-loop-place
-decreases-loop-place l = 16 - l.place

@@ -1,12 +1,21 @@
--- `rig_lines::numbers::more` meets its contract.
-use Rattle.laws.proofs.Branches.{branches}
-use Rattle.rig_lines.specs.Numbers.{one_more}
+-- `rig_lines::numbers::more` meets its contract: the sum stops at the largest number.
+use native.Mathlib.Omega.{arith}
+use borrow.Author.Rules.{rules}
+use borrow.Author.Tests.{ltb-true, ltb-false}
+use mathlib.Core.Path.{◌≡◌, refl}
+use mathlib.Core.Bool.{Bool, true, false, cond}
+use Prim.Native.Nat.{ℕ, ◌+◌, ◌≤◌, min}
+use lib.Dec.{ltb}
+use Rattle.rig_lines.specs.Numbers.{largest, one_more}
 use Rattle.rig_lines.proofs.numbers.more.Goals as goal
 
-pub returns-then-count-lt18446744073709551615 : goal.returns-then-count-lt18446744073709551615
+at-most : (n r : ℕ) → n ≤ largest → r ≡ min (n + 1) largest → r ≡ one_more n
 unfolding one_more
-returns-then-count-lt18446744073709551615 c = search branches
+at-most n r small is = go (ltb n largest) refl
+  where
+    go : (less : Bool) → ltb n largest ≡ less → r ≡ cond less (n + 1) n
+    go true so = omega (arith, is, ltb-true n largest so)
+    go false so = omega (arith, is, small, ltb-false n largest so)
 
-pub returns-else-count-lt18446744073709551615 : goal.returns-else-count-lt18446744073709551615
-unfolding one_more
-returns-else-count-lt18446744073709551615 c = search branches
+pub returns : goal.returns
+returns c = at-most _ _ (search rules) c.saturating_add.ensures
