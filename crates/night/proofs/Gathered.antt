@@ -1,12 +1,12 @@
 -- The lists that wait, put together one after the other: what holds at the loop's head.
-use Prim.Native.Nat.{ℕ, zero, suc, ◌+◌, ◌-◌, ◌<◌, ◌≤◌, min}
+use Prim.Native.Nat.{ℕ, zero, suc, ◌+◌, ◌<◌, ◌≤◌, min}
 use native.Mathlib.Omega.{arith}
 use native.Mathlib.Numerals.{add-one, unary_clauses}
-use mathlib.Core.Path.{◌≡◌, refl, sym, ap, ap₂, ◌∙◌}
+use mathlib.Core.Path.{◌≡◌, refl, ap, ap₂, ◌∙◌}
 use mathlib.Core.List.{List, [], ◌∷◌, ◌++◌}
 use lib.ListN.{length, get_or, take, drop, length-append, length-take, length-drop, drop_of_length-le}
 use lib.Seq.{sets, drop-cons, take-append_seam}
-use Rattle.laws.proofs.Buffer.{Writing, writing-none, writing-long, writing-room, writing_more, writing-done}
+use Rattle.laws.proofs.Buffer.{Writing, writing-room, writing_more, writing-done}
 use Rattle.laws.proofs.Buffer.{progress-done}
 use Rattle.laws.proofs.Buffer.{length-filled}
 use Rattle.night.specs.Waiting.{waiting_in, joined_waiting, Holds}

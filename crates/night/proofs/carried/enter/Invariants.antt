@@ -1,5 +1,5 @@
 -- What the round carried is entered for the messages passed.
-use Prim.Native.Nat.{◌-◌, ◌≤◌}
+use Prim.Native.Nat.{◌≤◌}
 use mathlib.Core.Path.{◌≡◌}
 use lib.ListN.{length}
 use Rattle.arbitration_rules.specs.Limits.{max_masters}

@@ -8,7 +8,6 @@ use Rattle.arbitration_rules.specs.Outcome.{ending_differs}
 use Rattle.arbitration_rules.specs.Reply.{cut}
 use Rattle.arbitration_checks.proofs.SearchedMessages.{searched-start, searched-more, searched-any}
 use Rattle.arbitration_checks.proofs.SearchedMessages.{searched-not}
-use borrow.Author.Rules.{rules}
 use Rattle.night.proofs.refusals.end_apart.Goals as goal
 
 abbrev differs : List ℕ → List ℕ → List ℕ → Bool
