@@ -53,7 +53,7 @@ fn dump_read_answer(d: Result<DumpRead, Refusal>) -> u64
 {
     match d {
         Ok(read) => 16777216 * (read.count as u64),
-        Err(refusal) => (refusal.number as u64) + 256 * (refusal.place as u64),
+        Err(found) => (found.number as u64) + 256 * (found.place as u64),
     }
 }
 
