@@ -26,10 +26,8 @@ fn with_message(count: usize) -> [bool; MAX_MASTERS]
     ensures { result ≡ rule.with_message count }
 {
     let mut out = [false; MAX_MASTERS];
-    let mut i: usize = 0;
-    while (i < count) & (i < MAX_MASTERS) {
+    for i in 0..count.min(MAX_MASTERS) {
         out[i] = true;
-        i += 1;
     }
     out
 }
@@ -39,10 +37,8 @@ fn sizes_of(lengths: &[u32]) -> [u32; MAX_MASTERS]
     ensures { result ≡ rule.sizes_of lengths.now }
 {
     let mut out = [0u32; MAX_MASTERS];
-    let mut i: usize = 0;
-    while (i < lengths.len()) & (i < MAX_MASTERS) {
+    for i in 0..lengths.len().min(MAX_MASTERS) {
         out[i] = lengths[i];
-        i += 1;
     }
     out
 }
@@ -58,10 +54,8 @@ fn bytes_of(column: [u16; MAX_MASTERS]) -> [u8; MAX_MASTERS]
     ensures { result ≡ map byte_of column }
 {
     let mut out = [0u8; MAX_MASTERS];
-    let mut i: usize = 0;
-    while i < MAX_MASTERS {
-        out[i] = byte_of(column[i]);
-        i += 1;
+    for (i, sent) in column.iter().enumerate() {
+        out[i] = byte_of(*sent);
     }
     out
 }
@@ -112,13 +106,11 @@ fn judged(
     let mut still = contending;
     let mut out = lost;
     let mut places = positions;
-    let mut i: usize = 0;
-    while i < MAX_MASTERS {
+    for i in 0..MAX_MASTERS {
         let loses = still[i] & al[i];
         still[i] = still[i] & !al[i];
         out[i] = out[i] | loses;
         places[i] = lost_at(loses, position, places[i]);
-        i += 1;
     }
     Members {
         contending: still,
@@ -133,28 +125,17 @@ fn judged(
 fn any_through(contending: [bool; MAX_MASTERS], sizes: [u32; MAX_MASTERS], sent: usize) -> bool
     ensures { result ≡ rule.any_through contending sizes sent }
 {
-    let mut i: usize = 0;
-    while i < MAX_MASTERS {
-        if contending[i] & (sizes[i] as usize <= sent) {
-            return true;
-        }
-        i += 1;
-    }
-    false
+    contending.iter().zip(&sizes).any(|(contending, size)| *contending & (*size as usize <= sent))
 }
 
 // Someone still contending has a restart before what it sends.
 fn any_restarting(contending: [bool; MAX_MASTERS], column: [u16; MAX_MASTERS]) -> bool
     ensures { result ≡ rule.someone restarts contending column }
 {
-    let mut i: usize = 0;
-    while i < MAX_MASTERS {
-        if contending[i] & (column[i] < 256) {
-            return true;
-        }
-        i += 1;
-    }
-    false
+    contending
+        .iter()
+        .zip(&column)
+        .any(|(contending, sent)| *contending & (*sent < 256))
 }
 
 // What became of the first so many masters; the other seats are empty.
@@ -166,10 +147,8 @@ fn seats(
     ensures { result ≡ rule.seats contending positions count }
 {
     let mut out = [seat_of(false, 0, 0); MAX_MASTERS];
-    let mut i: usize = 0;
-    while (i < count) & (i < MAX_MASTERS) {
+    for i in 0..count.min(MAX_MASTERS) {
         out[i] = seat_of(contending[i], positions[i], CLEARED);
-        i += 1;
     }
     out
 }

@@ -16,10 +16,8 @@ fn row(sent: &[u16], from: usize, to: usize) -> [u16; MAX_LENGTH]
     ensures { result ≡ rule.row_of (take (to - from) (drop from sent.now)) }
 {
     let mut out = [ZERO; MAX_LENGTH];
-    let mut i: usize = 0;
-    while (i < to - from) & (i < MAX_LENGTH) {
+    for i in 0..(to - from).min(MAX_LENGTH) {
         out[i] = sent[from + i];
-        i += 1;
     }
     out
 }
@@ -31,12 +29,10 @@ pub fn rows(sent: &[u16], lengths: &[u32]) -> [[u16; MAX_LENGTH]; MAX_MASTERS]
 {
     let mut out = [[ZERO; MAX_LENGTH]; MAX_MASTERS];
     let mut from: usize = 0;
-    let mut i: usize = 0;
-    while (i < lengths.len()) & (i < MAX_MASTERS) {
+    for i in 0..lengths.len().min(MAX_MASTERS) {
         let to = arbitration_messages::end_of(sent.len(), from, lengths[i]);
         out[i] = row(sent, from, to);
         from = to;
-        i += 1;
     }
     out
 }
@@ -45,10 +41,7 @@ pub fn rows(sent: &[u16], lengths: &[u32]) -> [[u16; MAX_LENGTH]; MAX_MASTERS]
 fn sent_at(row: [u16; MAX_LENGTH], index: usize) -> u16
     ensures { result ≡ sent_at index row }
 {
-    if index < MAX_LENGTH {
-        return row[index];
-    }
-    ZERO
+    row.get(index).copied().unwrap_or(ZERO)
 }
 
 // What each row sends at an index.
@@ -56,10 +49,8 @@ pub fn column(rows: [[u16; MAX_LENGTH]; MAX_MASTERS], index: usize) -> [u16; MAX
     ensures { result ≡ rule.column_of rows index }
 {
     let mut out = [0u16; MAX_MASTERS];
-    let mut i: usize = 0;
-    while i < MAX_MASTERS {
-        out[i] = sent_at(rows[i], index);
-        i += 1;
+    for (i, row) in rows.iter().enumerate() {
+        out[i] = sent_at(*row, index);
     }
     out
 }

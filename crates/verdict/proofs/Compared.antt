@@ -1,31 +1,39 @@
 -- Messages: two compared, one acknowledged, one found by its index.
 use Prim.Native.Nat.{ℕ, ◌+◌, ◌<◌, ◌≤◌, min}
-use mathlib.Core.Path.{◌≡◌, refl, sym}
-use mathlib.Core.Bool.{Bool}
-use mathlib.Core.List.{List, []}
+use mathlib.Core.Path.{◌≡◌, refl, sym, ap}
+use mathlib.Core.Bool.{Bool, ◌&&◌}
+use mathlib.Core.List.{List, [], ◌∷◌}
 use native.Mathlib.Omega.{arith}
 use lib.Dec.{eqb}
 use lib.ListN.{length, get_or, get_or-eq_default}
-use Rattle.laws.proofs.Same.{same_step}
+use Rattle.std.specs.Cmp.Lexicographic.{pointwise}
+use Rattle.std.specs.List.{list_all, zip}
 use Rattle.arbitration_rules.specs.Outcome.{all_acknowledged}
 use Rattle.arbitration_rules.specs.Reply.{cut}
 use Rattle.arbitration_rules.proofs.Cut.{cut-count}
+use Rattle.arbitration_rules.proofs.Undecided.{none_left}
 use Rattle.arbitration_messages.proofs.Walk as walk
 use Rattle.verdict.specs.Message.{MessageAt}
 use Rattle.laws.specs.Same.{same}
-use Rattle.verdict.proofs.Pairs.{Through}
 
--- what is compared so far is equal
-abbrev pub Alike : List ℕ → List ℕ → ℕ → Type 0
-Alike message other i = Through same eqb same_step message other i
+-- the library's comparison of two slices
+pub same-pointwise : (list other : List ℕ) → pointwise eqb list other ≡ same list other
+unfolding same
+same-pointwise [] [] = refl
+same-pointwise [] (b ∷ other) = refl
+same-pointwise (a ∷ list) [] = refl
+same-pointwise (a ∷ list) (b ∷ other) = ap (λ (rest : Bool). eqb a b && rest) (same-pointwise list other)
 
--- the bytes passed so far are acknowledged
-abbrev pub taken : ℕ → ℕ → Bool
-taken sent acknowledge = eqb acknowledge 0
+-- the library's test of all pairs
+abbrev pub taken : ℕ × ℕ → Bool
+taken pair = eqb pair.1 0
 
-abbrev pub Taken : List ℕ → List ℕ → ℕ → Type 0
-Taken message acknowledges i =
-    Through all_acknowledged taken (λ sent acknowledge message acknowledges. refl) message acknowledges i
+pub acknowledged-pairs : (message acknowledges : List ℕ)
+    → list_all taken (zip message acknowledges) ≡ all_acknowledged message acknowledges
+acknowledged-pairs [] acknowledges = refl
+acknowledged-pairs (sent ∷ message) [] = sym (none_left message)
+acknowledged-pairs (sent ∷ message) (acknowledge ∷ acknowledges) =
+    ap (λ (rest : Bool). eqb acknowledge 0 && rest) (acknowledged-pairs message acknowledges)
 
 -- a message found by its index
 module _ (lengths sent : List ℕ) (index : ℕ) where

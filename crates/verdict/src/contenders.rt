@@ -12,15 +12,12 @@ use arbitration_rules::{MAX_MASTERS, Seat};
 pub(crate) fn first(seats: [Seat; MAX_MASTERS]) -> usize
     ensures { result ≡ first_of still_in seats }
 {
-    let mut i: usize = 0;
-    while i < MAX_MASTERS {
-        let seat = seats[i];
+    for (i, seat) in seats.iter().enumerate() {
         if seat.contending {
             return i;
         }
-        i += 1;
     }
-    i
+    MAX_MASTERS
 }
 
 // Every board that is still in has this message.
@@ -34,15 +31,12 @@ pub(crate) fn agree(
         (contenders seats (cut lengths.now sent.now)) }
 {
     let mut from: usize = 0;
-    let mut i: usize = 0;
-    while (i < lengths.len()) & (i < MAX_MASTERS) {
+    for i in 0..lengths.len().min(MAX_MASTERS) {
         let to = arbitration_messages::end_of(sent.len(), from, lengths[i]);
-        let seat = seats[i];
-        if seat.contending & !messages::same(message, &sent[from..to]) {
+        if seats[i].contending & !messages::same(message, &sent[from..to]) {
             return false;
         }
         from = to;
-        i += 1;
     }
     true
 }

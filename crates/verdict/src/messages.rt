@@ -19,10 +19,8 @@ pub(crate) fn message_at(sent: &[u16], lengths: &[u32], index: usize) -> Span
         return Span { from: 0, to: 0 };
     }
     let mut from: usize = 0;
-    let mut i: usize = 0;
-    while i < index {
-        from = arbitration_messages::end_of(sent.len(), from, lengths[i]);
-        i += 1;
+    for length in &lengths[..index] {
+        from = arbitration_messages::end_of(sent.len(), from, *length);
     }
     let to = arbitration_messages::end_of(sent.len(), from, lengths[index]);
     Span { from, to }
@@ -32,29 +30,12 @@ pub(crate) fn message_at(sent: &[u16], lengths: &[u32], index: usize) -> Span
 pub(crate) fn same(message: &[u16], other: &[u16]) -> bool
     ensures { result ≡ same_of message.now other.now }
 {
-    if message.len() != other.len() {
-        return false;
-    }
-    let mut i: usize = 0;
-    while i < message.len() {
-        if message[i] != other[i] {
-            return false;
-        }
-        i += 1;
-    }
-    true
+    message == other
 }
 
 // Every byte of a message is acknowledged.
 pub(crate) fn acknowledged(message: &[u16], acks: &[u8]) -> bool
     ensures { result ≡ all_acknowledged message.now acks.now }
 {
-    let mut i: usize = 0;
-    while (i < message.len()) & (i < acks.len()) {
-        if acks[i] != 0 {
-            return false;
-        }
-        i += 1;
-    }
-    true
+    message.iter().zip(acks).all(|(_, ack)| *ack == 0)
 }

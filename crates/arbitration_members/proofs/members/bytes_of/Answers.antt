@@ -1,6 +1,5 @@
 use Prim.Native.Nat.{ℕ}
 use mathlib.Core.Path.{refl, ap, ◌∙◌}
-use native.Mathlib.Omega.{arith}
 use lib.ListN.{set}
 use Rattle.laws.proofs.Loops.{gathered-more, gathered-all}
 use Rattle.arbitration_rules.specs.Outcome.{byte_of}
@@ -8,17 +7,15 @@ use borrow.Author.Rules.{rules}
 use Rattle.arbitration_members.proofs.members.bytes_of.Goals as goal
 
 pub loop-i-init : goal.loop-i-init
-loop-i-init c = (omega arith, refl)
+loop-i-init c = refl
 
 pub loop-i-preserved : goal.loop-i-preserved
 loop-i-preserved c =
-    let head = c.loop-i in (
-      search rules,
-      ap (λ (byte : ℕ). set head.out head.i byte) c.byte_of.ensures
-          ∙ gathered-more byte_of _ _ _ head.i 0 head.invariant.1 (search rules) (search rules),
-    )
+    let head = c.loop-i in
+    ap (λ (byte : ℕ). set head.out head.i byte) c.byte_of.ensures
+    ∙ gathered-more byte_of _ _ _ head.i 0 head.invariant (search rules) (search rules)
 
 pub returns : goal.returns
 returns c =
     let head = c.loop-i in
-    gathered-all byte_of _ _ _ head.i head.invariant.1 (search rules) (search rules)
+    gathered-all byte_of _ _ _ head.i head.invariant (search rules) (search rules)

@@ -1,5 +1,4 @@
 -- The bytes gathered so far.
-use Prim.Native.Nat.{◌≤◌, ◌-◌}
 use mathlib.Core.Path.{◌≡◌}
 use mathlib.Core.List.{◌++◌, map}
 use lib.ListN.{take, drop, replicate}
@@ -8,9 +7,4 @@ use Rattle.arbitration_rules.specs.Outcome.{byte_of}
 use Rattle.arbitration_members.proofs.members.bytes_of.Given as goal
 
 abbrev pub invariant-loop-i : goal.invariant-loop-i
-invariant-loop-i l =
-    (l.i ≤ max_masters)
-    × (l.out ≡ map byte_of (take l.i l.column) ++ drop l.i (replicate max_masters 0))
-
-abbrev pub decreases-loop-i : goal.decreases-loop-i
-decreases-loop-i l = max_masters - l.i
+invariant-loop-i l = l.out ≡ map byte_of (take l.i l.sent-items) ++ drop l.i (replicate max_masters 0)

@@ -1,12 +1,7 @@
 -- The first masters are judged.
-use Prim.Native.Nat.{◌-◌}
-use Rattle.arbitration_rules.specs.Limits.{max_masters}
 use Rattle.arbitration_members.proofs.Judging.{Judging}
 use Rattle.arbitration_members.proofs.members.judged.Given as goal
 
 abbrev pub invariant-loop-i : goal.invariant-loop-i
 invariant-loop-i l = Judging l.position l.al l.initial.still l.initial.out l.initial.places l.still
     l.out l.places l.i
-
-abbrev pub decreases-loop-i : goal.decreases-loop-i
-decreases-loop-i l = max_masters - l.i

@@ -4,7 +4,6 @@ use mathlib.Core.Path.{◌≡◌, refl, ap, ap₂, ◌∙◌}
 use mathlib.Core.Bool.{false}
 use mathlib.Core.List.{List, ◌++◌, zip_with}
 use lib.ListN.{length, take, replicate, length-replicate}
-use Rattle.laws.proofs.Bools.{below_both, past-either}
 use Rattle.laws.proofs.Lists.{take_min}
 use Rattle.laws.proofs.Loops.{paired-more, drop-replicate}
 use Rattle.arbitration_rules.specs.Limits.{max_masters}
@@ -16,37 +15,15 @@ pub loop-i-init : goal.loop-i-init
 unfolding zip_with
 loop-i-init c = (omega arith, refl)
 
-pub bounds-contending-i : goal.bounds-contending-i
-bounds-contending-i c = omega (arith, below_both c.loop-i.i c.args.count max_masters c.loop-i-test.true)
-
-pub offset_bounds-positions-i : goal.offset_bounds-positions-i
-offset_bounds-positions-i c = omega (arith, below_both c.loop-i.i c.args.count max_masters c.loop-i-test.true)
-
-pub bounds-positions-i : goal.bounds-positions-i
-bounds-positions-i c = omega (arith, below_both c.loop-i.i c.args.count max_masters c.loop-i-test.true)
-
-pub offset_bounds-out-i : goal.offset_bounds-out-i
-offset_bounds-out-i c = omega (arith, below_both c.loop-i.i c.args.count max_masters c.loop-i-test.true)
-
-pub bounds-out-i : goal.bounds-out-i
-bounds-out-i c = omega (arith, below_both c.loop-i.i c.args.count max_masters c.loop-i-test.true)
-
-pub overflow_add-i : goal.overflow_add-i
-overflow_add-i c = omega (arith, below_both c.loop-i.i c.args.count max_masters c.loop-i-test.true)
-
-pub loop-i-smaller : goal.loop-i-smaller
-loop-i-smaller c = omega (arith, below_both c.loop-i.i c.args.count max_masters c.loop-i-test.true)
-
 pub loop-i-preserved : goal.loop-i-preserved
 loop-i-preserved c =
     let head = c.loop-i in
     let a = c.args in
-    let both = below_both head.i a.count max_masters c.loop-i-test.true in
-    let less : head.i < length a.contending = omega (arith, both) in
-    let less_other : head.i < length a.positions = omega (arith, both) in
+    let less : head.i < length a.contending = omega arith in
+    let less_other : head.i < length a.positions = omega arith in
     let room : head.i < length (replicate max_masters c.seat_of-out.result) =
-    omega (arith, both, length-replicate max_masters c.seat_of-out.result) in (
-      omega (arith, both),
+    omega (arith, length-replicate max_masters c.seat_of-out.result) in (
+      omega arith,
       rw c.seat_of.ensures (paired-more (seat_of writes_clear) _ _ _ _ _ false 0 head.invariant.1 less
           less_other room),
     )
@@ -55,9 +32,8 @@ pub returns : goal.returns
 returns c =
     let head = c.loop-i in
     let a = c.args in
-    let past = past-either head.i a.count max_masters c.loop-i-test.false in
-    let here : head.i ≡ min (length a.contending) a.count = omega (arith, past, head.invariant.0) in
-    let there : head.i ≡ min (length a.positions) a.count = omega (arith, past, head.invariant.0) in
+    let here : head.i ≡ min (length a.contending) a.count = omega (arith, head.invariant.0) in
+    let there : head.i ≡ min (length a.positions) a.count = omega (arith, head.invariant.0) in
     let left : max_masters - head.i ≡ max_masters - a.count = omega (arith, here) in
     head.invariant.1
     ∙ ap₂ (λ (seats rest : List Seat). seats ++ rest)

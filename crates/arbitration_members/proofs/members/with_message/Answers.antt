@@ -4,7 +4,7 @@ use mathlib.Core.Path.{◌≡◌, refl, ap, ◌∙◌}
 use mathlib.Core.Bool.{Bool, true, false}
 use mathlib.Core.List.{List, ◌++◌}
 use lib.ListN.{length, replicate, length-replicate}
-use Rattle.laws.proofs.Bools.{below_both, past-either}
+use borrow.Author.Rules.{rules}
 use Rattle.laws.proofs.Loops.{filled_more, drop-replicate}
 use Rattle.arbitration_rules.specs.Limits.{max_masters}
 use Rattle.arbitration_members.proofs.members.with_message.Goals as goal
@@ -12,41 +12,18 @@ use Rattle.arbitration_members.proofs.members.with_message.Goals as goal
 pub loop-i-init : goal.loop-i-init
 loop-i-init c = (omega arith, refl)
 
-pub bounds-out-i : goal.bounds-out-i
-bounds-out-i c = omega (
-  arith,
-  below_both c.loop-i.i c.args.count max_masters
-      c.loop-i-test.true,
-)
-
-pub overflow_add-i : goal.overflow_add-i
-overflow_add-i c = omega (
-  arith,
-  below_both c.loop-i.i c.args.count max_masters
-      c.loop-i-test.true,
-)
-
-pub loop-i-smaller : goal.loop-i-smaller
-loop-i-smaller c = omega (
-  arith,
-  below_both c.loop-i.i c.args.count max_masters
-      c.loop-i-test.true,
-)
-
 pub loop-i-preserved : goal.loop-i-preserved
 loop-i-preserved c =
     let head = c.loop-i in
-    let less = below_both c.loop-i.i c.args.count max_masters c.loop-i-test.true in
     let room : head.i < length (replicate {A = Bool} max_masters false) = omega
-    (arith, less, length-replicate {A = Bool} max_masters false) in
-    (omega (arith, less), filled_more true _ _ _ head.invariant.1 room)
+    (arith, length-replicate {A = Bool} max_masters false) in
+    (search rules, filled_more true _ _ _ head.invariant.1 room)
 
 pub returns : goal.returns
 returns c =
     let head = c.loop-i in
-    let past = past-either c.loop-i.i c.args.count max_masters c.loop-i-test.false in
     let count = c.args.count in
-    let end : head.i ≡ min count max_masters = omega (arith, past, head.invariant.0) in
+    let end : head.i ≡ min count max_masters = omega (arith, head.invariant.0) in
     let left : max_masters - head.i ≡ max_masters - count = omega (arith, end) in
     head.invariant.1
     ∙ ap (λ (rest : List Bool). replicate head.i true ++ rest)

@@ -1,4 +1,3 @@
-use native.Mathlib.Omega.{arith}
 use Prim.Native.Nat.{ℕ}
 use mathlib.Core.Path.{refl, ap, ◌∙◌}
 use mathlib.Core.List.{[]}
@@ -9,18 +8,16 @@ use borrow.Author.Rules.{rules}
 use Rattle.arbitration_members.proofs.messages.column.Goals as goal
 
 pub loop-i-init : goal.loop-i-init
-loop-i-init c = (omega arith, refl)
+loop-i-init c = refl
 
 pub loop-i-preserved : goal.loop-i-preserved
 loop-i-preserved c =
     let head = c.loop-i in
-    let a = c.args in (
-      search rules,
-      ap (λ (sent : ℕ). set head.out head.i sent) c.sent_at.ensures
-          ∙ gathered-more (sent_at a.index) _ _ _ head.i [] head.invariant.1 (search rules) (search rules),
-    )
+    let a = c.args in
+    ap (λ (sent : ℕ). set head.out head.i sent) c.sent_at.ensures
+    ∙ gathered-more (sent_at a.index) _ _ _ head.i [] head.invariant (search rules) (search rules)
 
 pub returns : goal.returns
 returns c =
     let head = c.loop-i in
-    gathered-all (sent_at c.args.index) _ _ _ head.i head.invariant.1 (search rules) (search rules)
+    gathered-all (sent_at c.args.index) _ _ _ head.i head.invariant (search rules) (search rules)

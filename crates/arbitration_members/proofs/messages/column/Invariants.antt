@@ -1,5 +1,4 @@
 -- What is gathered so far.
-use Prim.Native.Nat.{◌≤◌, ◌-◌}
 use mathlib.Core.Path.{◌≡◌}
 use mathlib.Core.List.{◌++◌, map}
 use lib.ListN.{take, drop, replicate}
@@ -8,9 +7,4 @@ use Rattle.arbitration_rules.specs.Outcome.{sent_at}
 use Rattle.arbitration_members.proofs.messages.column.Given as goal
 
 abbrev pub invariant-loop-i : goal.invariant-loop-i
-invariant-loop-i l =
-    (l.i ≤ max_masters)
-    × (l.out ≡ map (sent_at l.index) (take l.i l.rows) ++ drop l.i (replicate max_masters 0))
-
-abbrev pub decreases-loop-i : goal.decreases-loop-i
-decreases-loop-i l = max_masters - l.i
+invariant-loop-i l = l.out ≡ map (sent_at l.index) (take l.i l.row-items) ++ drop l.i (replicate max_masters 0)

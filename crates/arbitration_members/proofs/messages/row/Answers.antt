@@ -3,7 +3,6 @@ use Prim.Native.Nat.{◌<◌, ◌-◌, min}
 use mathlib.Core.Path.{◌≡◌, refl}
 use lib.ListN.{length, drop, length-drop}
 use lib.Seq.{get_or-drop}
-use Rattle.laws.proofs.Bools.{below_both, past-either}
 use Rattle.laws.proofs.Loops.{copied_more, copied-done}
 use Rattle.arbitration_rules.specs.Limits.{max_length}
 use Rattle.arbitration_members.proofs.messages.row.Goals as goal
@@ -11,52 +10,20 @@ use Rattle.arbitration_members.proofs.messages.row.Goals as goal
 pub loop-i-init : goal.loop-i-init
 loop-i-init c = (omega arith, refl)
 
-pub overflow_add-out : goal.overflow_add-out
-overflow_add-out c =
-    let less = below_both c.loop-i.i (c.args.to - c.args.from) max_length
-    c.loop-i-test.true in
-    omega (arith, less, c.requires)
-
-pub bounds-sent-from : goal.bounds-sent-from
-bounds-sent-from c =
-    let head = c.loop-i in
-    let less = below_both head.i (c.args.to - c.args.from) max_length c.loop-i-test.true in
-    omega (arith, less, c.requires)
-
-pub bounds-out-i : goal.bounds-out-i
-bounds-out-i c =
-    let head = c.loop-i in
-    let less = below_both head.i (c.args.to - c.args.from) max_length c.loop-i-test.true in
-    omega (arith, less, c.requires)
-
-pub overflow_add-i : goal.overflow_add-i
-overflow_add-i c =
-    let head = c.loop-i in
-    let less = below_both head.i (c.args.to - c.args.from) max_length c.loop-i-test.true in
-    omega (arith, less, c.requires)
-
-pub loop-i-smaller : goal.loop-i-smaller
-loop-i-smaller c =
-    let head = c.loop-i in
-    let less = below_both head.i (c.args.to - c.args.from) max_length c.loop-i-test.true in
-    omega (arith, less, c.requires)
-
 pub loop-i-preserved : goal.loop-i-preserved
 loop-i-preserved c =
     let head = c.loop-i in
-    let less = below_both head.i (c.args.to - c.args.from) max_length c.loop-i-test.true in
     let list = drop c.args.from c.args.sent.now in
     let here : head.i < length list =
-    omega (arith, less, c.requires, length-drop c.args.from c.args.sent.now) in (
-      omega (arith, less),
-      rw (← get_or-drop) (copied_more 256 max_length list _ head.i 0 head.invariant.1 here (omega (arith, less))),
+    omega (arith, c.requires, length-drop c.args.from c.args.sent.now) in (
+      omega arith,
+      rw (← get_or-drop) (copied_more 256 max_length list _ head.i 0 head.invariant.1 here (omega arith)),
     )
 
 pub returns : goal.returns
 returns c =
     let head = c.loop-i in
     let size = c.args.to - c.args.from in
-    let past = past-either head.i size max_length c.loop-i-test.false in
-    let end : head.i ≡ min size max_length = omega (arith, past, head.invariant.0) in
+    let end : head.i ≡ min size max_length = omega (arith, head.invariant.0) in
     copied-done 256 max_length (drop c.args.from c.args.sent.now) _ head.i size head.invariant.1 end
     (omega (arith, c.requires, length-drop c.args.from c.args.sent.now))

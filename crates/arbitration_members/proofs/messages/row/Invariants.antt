@@ -10,6 +10,3 @@ abbrev pub invariant-loop-i : goal.invariant-loop-i
 invariant-loop-i l =
     (l.i ≤ min (l.to - l.from) max_length)
     × (l.out ≡ take l.i (drop l.from l.sent) ++ drop l.i (replicate max_length 256))
-
-abbrev pub decreases-loop-i : goal.decreases-loop-i
-decreases-loop-i l = max_length - l.i

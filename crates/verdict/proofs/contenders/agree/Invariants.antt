@@ -1,11 +1,6 @@
 -- The boards passed so far are not in or have the message.
-use Prim.Native.Nat.{◌-◌}
-use Rattle.arbitration_rules.specs.Limits.{max_masters}
 use Rattle.verdict.proofs.Agreeing.{Agreeing}
 use Rattle.verdict.proofs.contenders.agree.Given as goal
 
 abbrev pub invariant-loop-i : goal.invariant-loop-i
 invariant-loop-i l = Agreeing l.message l.seats l.lengths l.sent l.i l.from
-
-abbrev pub decreases-loop-i : goal.decreases-loop-i
-decreases-loop-i l = max_masters - l.i
