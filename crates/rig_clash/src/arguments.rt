@@ -1,43 +1,55 @@
 // The words of the command line: the command, clash, night or draw, is the first.
-use crate::problem::Problem;
+use crate::forms::Form;
+use crate::problem;
+use crate::problem::{Problem, Reach};
 use crate::words::is_dash;
-use crate::{forms, problem};
 use rig_lines::arguments::{Found, count, find, word};
-use rig_lines::lists::place_of;
 use rig_lines::numbers::{is_number, value};
 use rig_lines::options::is_option;
 use std::rt::Env;
 
-// The places of the options in their list; those from the first that takes the next word on take it.
-const TABLE: usize = 0;
+#[derive(Clone, Copy, PartialEq, Eq)]
+enum Command {
+    Clash,
+    Night,
+    Draw,
+}
 
-const REGISTERS: usize = 1;
+// The options that take the next word.
+#[derive(Clone, Copy, PartialEq, Eq)]
+enum Taking {
+    Room,
+    Corrections,
+    Trace,
+}
 
-const WAVE: usize = 2;
+#[derive(Clone, Copy, PartialEq, Eq)]
+enum Flag {
+    Table,
+    Registers,
+    Wave,
+    Svg,
+    Taking(Taking),
+}
 
-const ROOM: usize = 3;
-
-const CORRECTIONS: usize = 4;
-
-const TRACE: usize = 5;
-
-const SVG: usize = 6;
-
-// The commands, by their places in their list.
-const NIGHT: usize = 1;
-
-const DRAW: usize = 2;
+// What a word is, where files are looked for: a file, or an option, which may take the next word.
+#[derive(Clone, Copy, PartialEq, Eq)]
+enum Role {
+    File,
+    Alone,
+    Taking,
+}
 
 #[derive(Clone, Copy)]
 pub(crate) struct Arguments {
-    command: usize,
+    command: Command,
     pub(crate) svg: bool,
     // whether an argument names a file of loads
     file: bool,
-    // which one names the file of corrections; 0: none does
-    pub(crate) corrections: usize,
-    // which one names the load whose trace is shown; 0: none does
-    pub(crate) trace: usize,
+    // which one names the file of corrections
+    pub(crate) corrections: Option<usize>,
+    // which one names the load whose trace is shown
+    pub(crate) trace: Option<usize>,
     pub(crate) table: bool,
     pub(crate) registers: bool,
     pub(crate) wave: bool,
@@ -45,57 +57,59 @@ pub(crate) struct Arguments {
     pub(crate) room: usize,
     // standard input is one of the files
     input: bool,
-    // the next word is the number of --room, the file of --corrections or the load of --trace
-    wants_room: bool,
-    wants_corrections: bool,
-    wants_trace: bool,
+    // the option that the next word is for
+    wants: Option<Taking>,
     // what is wrong with them
-    pub(crate) problem: Problem,
+    pub(crate) problem: Option<Problem>,
 }
 
-fn option_of(word: &[u8]) -> usize {
-    place_of(
-        b"--table\n--registers\n--wave\n--room\n--corrections\n--trace\n--svg",
-        word,
-    )
+fn flag_of(word: &[u8]) -> Option<Flag> {
+    match word {
+        b"--table" => Some(Flag::Table),
+        b"--registers" => Some(Flag::Registers),
+        b"--wave" => Some(Flag::Wave),
+        b"--room" => Some(Flag::Taking(Taking::Room)),
+        b"--corrections" => Some(Flag::Taking(Taking::Corrections)),
+        b"--trace" => Some(Flag::Taking(Taking::Trace)),
+        b"--svg" => Some(Flag::Svg),
+        _ => None,
+    }
 }
 
 impl Arguments {
-    fn none(command: usize) -> Arguments {
+    fn none(command: Command) -> Arguments {
         Arguments {
             command,
             svg: false,
             file: false,
-            corrections: 0,
-            trace: 0,
+            corrections: None,
+            trace: None,
             table: false,
             registers: false,
             wave: false,
             room: usize::MAX,
             input: false,
-            wants_room: false,
-            wants_corrections: false,
-            wants_trace: false,
-            problem: problem::none(),
+            wants: None,
+            problem: None,
         }
     }
 
-    pub(crate) fn is_broken(self) -> bool {
-        !self.problem.is_none()
+    fn is_broken(self) -> bool {
+        self.problem.is_some()
     }
 
-    fn trouble(mut self, form: usize, word: &[u8]) -> Arguments {
-        self.problem = problem::of(0, form, word, 0, 0, 0);
+    fn trouble(mut self, form: Form, word: &[u8]) -> Arguments {
+        self.problem = Some(problem::of(None, form, word, 0, 0, 0, Reach::Line));
         self
     }
 
     fn with_room(mut self, word: &[u8]) -> Arguments {
         let number = text::decimal(word);
         if !is_number(number) {
-            return self.trouble(forms::NUMBER, word);
+            return self.trouble(Form::Number, word);
         }
         self.room = value(number) as usize;
-        self.wants_room = false;
+        self.wants = None;
         self
     }
 
@@ -107,7 +121,7 @@ impl Arguments {
     // Standard input is read once.
     fn with_input(mut self) -> Arguments {
         if self.input {
-            return self.trouble(forms::INPUT_TWICE, b"");
+            return self.trouble(Form::InputTwice, b"");
         }
         self.input = true;
         self
@@ -115,8 +129,8 @@ impl Arguments {
 
     // The file after --corrections.
     fn with_corrections(mut self, argument: usize, word: &[u8]) -> Arguments {
-        self.corrections = argument;
-        self.wants_corrections = false;
+        self.corrections = Some(argument);
+        self.wants = None;
         if is_dash(word) {
             return self.with_input();
         }
@@ -125,50 +139,27 @@ impl Arguments {
 
     // The load after --trace.
     fn with_trace(mut self, argument: usize) -> Arguments {
-        self.trace = argument;
-        self.wants_trace = false;
+        self.trace = Some(argument);
+        self.wants = None;
         self
     }
 
     fn with_option(self, word: &[u8]) -> Arguments {
-        let option = option_of(word);
-        if !takes(self.command, option) {
-            return self.trouble(unknown_form(self.command), word);
+        match flag_of(word) {
+            Some(flag) if takes(self.command, flag) => self.with_flag(flag),
+            _ => self.trouble(unknown_form(self.command), word),
         }
-        self.with_known(option)
     }
 
-    fn with_known(mut self, option: usize) -> Arguments {
-        match option {
-            TABLE => {
-                self.table = true;
-                self
-            }
-            REGISTERS => {
-                self.registers = true;
-                self
-            }
-            WAVE => {
-                self.wave = true;
-                self
-            }
-            ROOM => {
-                self.wants_room = true;
-                self
-            }
-            CORRECTIONS => {
-                self.wants_corrections = true;
-                self
-            }
-            TRACE => {
-                self.wants_trace = true;
-                self
-            }
-            _ => {
-                self.svg = true;
-                self
-            }
+    fn with_flag(mut self, flag: Flag) -> Arguments {
+        match flag {
+            Flag::Table => self.table = true,
+            Flag::Registers => self.registers = true,
+            Flag::Wave => self.wave = true,
+            Flag::Svg => self.svg = true,
+            Flag::Taking(taking) => self.wants = Some(taking),
         }
+        self
     }
 
     // A word that no option takes.
@@ -187,146 +178,137 @@ impl Arguments {
 
     // The load that is drawn.
     fn with_load(self, argument: usize, word: &[u8]) -> Arguments {
-        if self.trace > 0 {
-            return self.trouble(forms::AFTER_LOAD, word);
+        if self.trace.is_some() {
+            return self.trouble(Form::AfterLoad, word);
         }
         self.with_trace(argument)
     }
 
     pub(crate) fn nights(self) -> bool {
-        self.command == NIGHT
+        self.command == Command::Night
     }
 
     pub(crate) fn draws(self) -> bool {
-        self.command == DRAW
+        self.command == Command::Draw
     }
 
     fn with_word(self, argument: usize, word: &[u8]) -> Arguments {
-        if self.wants_room {
-            return self.with_room(word);
+        match self.wants {
+            Some(Taking::Room) => self.with_room(word),
+            Some(Taking::Corrections) => self.with_corrections(argument, word),
+            Some(Taking::Trace) => self.with_trace(argument),
+            None => self.with_other(argument, word),
         }
-        if self.wants_corrections {
-            return self.with_corrections(argument, word);
-        }
-        if self.wants_trace {
-            return self.with_trace(argument);
-        }
-        self.with_other(argument, word)
     }
 
     fn with_argument<E: Env>(self, env: &E, argument: usize) -> Arguments {
         let mut space = io::buffer();
         match find(env, argument, &mut space) {
             Found::Word(n) => self.with_word(argument, &space[..n]),
-            _ => self.trouble(forms::LONG_ARGUMENT, b""),
+            _ => self.trouble(Form::LongArgument, b""),
         }
     }
 
     // What is wrong once all words are read: an option lacks its word, there is no file, or a table or a trace is not
     // shown alone.
-    fn lacking(self) -> usize {
-        if self.wants_room {
-            return forms::NO_NUMBER;
-        }
-        if self.wants_corrections {
-            return forms::NO_CORRECTIONS;
-        }
-        if self.wants_trace {
-            return forms::NO_TRACE;
+    fn lacking(self) -> Option<Form> {
+        match self.wants {
+            Some(Taking::Room) => return Some(Form::NoNumber),
+            Some(Taking::Corrections) => return Some(Form::NoCorrections),
+            Some(Taking::Trace) => return Some(Form::NoTrace),
+            None => {}
         }
         if !self.file {
-            return forms::NO_FILE;
+            return Some(Form::NoFile);
         }
-        if self.draws() & (self.trace == 0) {
-            return forms::NO_DRAWN;
+        if self.draws() & self.trace.is_none() {
+            return Some(Form::NoDrawn);
         }
         if self.table & (self.registers | self.wave) {
-            return forms::TABLE;
+            return Some(Form::Table);
         }
-        if (self.trace > 0) & (self.table | self.registers | self.wave) {
-            return forms::TRACE;
+        if self.trace.is_some() & (self.table | self.registers | self.wave) {
+            return Some(Form::Trace);
         }
-        forms::NONE
+        None
     }
 
     fn finished(self) -> Arguments {
         if self.is_broken() {
             return self;
         }
-        self.trouble(self.lacking(), b"")
+        match self.lacking() {
+            Some(form) => self.trouble(form, b""),
+            None => self,
+        }
     }
 }
 
-fn command<E: Env>(env: &E) -> usize {
+fn command_of<E: Env>(env: &E) -> Command {
     let mut space = io::buffer();
     let n = word(env, 1, &mut space);
-    place_of(b"clash\nnight\ndraw", &space[..n])
+    match &space[..n] {
+        b"night" => Command::Night,
+        b"draw" => Command::Draw,
+        _ => Command::Clash,
+    }
 }
 
 // Whether a command takes an option: a night takes corrections alone, and draw takes --svg too, which clash does not.
-fn takes(command: usize, option: usize) -> bool {
+fn takes(command: Command, flag: Flag) -> bool {
+    let corrects = flag == Flag::Taking(Taking::Corrections);
     match command {
-        NIGHT => option == CORRECTIONS,
-        DRAW => (option == CORRECTIONS) | (option == SVG),
-        _ => option < SVG,
+        Command::Night => corrects,
+        Command::Draw => corrects | (flag == Flag::Svg),
+        Command::Clash => flag != Flag::Svg,
     }
 }
 
-fn unknown_form(command: usize) -> usize {
+fn unknown_form(command: Command) -> Form {
     match command {
-        NIGHT => forms::NIGHT_OPTION,
-        DRAW => forms::DRAW_OPTION,
-        _ => forms::OPTION,
+        Command::Night => Form::NightOption,
+        Command::Draw => Form::DrawOption,
+        Command::Clash => Form::Option,
     }
 }
 
 pub(crate) fn parse<E: Env>(env: &E) -> Arguments {
-    let mut given = Arguments::none(command(env));
-    let end = count(env);
-    let mut i: usize = 2;
-    while i < end {
+    let mut given = Arguments::none(command_of(env));
+    for argument in 2..count(env) {
         if given.is_broken() {
             return given;
         }
-        given = given.with_argument(env, i);
-        i += 1;
+        given = given.with_argument(env, argument);
     }
     given.finished()
 }
 
-// How many arguments it takes to pass a word that is no file; 0 where it is a file.
-fn passed_by(word: &[u8]) -> usize {
-    let option = option_of(word);
-    match option {
-        ROOM => 2,
-        CORRECTIONS => 2,
-        TRACE => 2,
-        _ => is_option(word) as usize,
+fn role_of(word: &[u8]) -> Role {
+    match flag_of(word) {
+        Some(Flag::Taking(_)) => Role::Taking,
+        _ if is_option(word) => Role::Alone,
+        _ => Role::File,
     }
 }
 
-// The same of an argument; where there is none, all.
-fn passed<E: Env>(env: &E, argument: usize) -> usize {
+// The same of an argument.
+fn role_at<E: Env>(env: &E, argument: usize) -> Role {
     let mut space = io::buffer();
     match find(env, argument, &mut space) {
-        Found::Word(n) => passed_by(&space[..n]),
-        Found::TooLong => 0,
-        Found::Missing => usize::MAX,
+        Found::Word(n) => role_of(&space[..n]),
+        _ => Role::File,
     }
 }
 
-// The argument at or after one that names a file; 0 where none does.
-pub(crate) fn next_file<E: Env>(env: &E, from: usize) -> usize {
-    let mut i = from;
-    while i < usize::MAX {
-        let past = passed(env, i);
-        if past == 0 {
-            return i;
+// The first argument from one on that names a file.
+pub(crate) fn next_file<E: Env>(env: &E, from: usize) -> Option<usize> {
+    let mut taken = false;
+    for argument in from..count(env) {
+        let role = role_at(env, argument);
+        if !taken & (role == Role::File) {
+            return Some(argument);
         }
-        if past > usize::MAX - i {
-            return 0;
-        }
-        i += past;
+        taken = !taken & (role == Role::Taking);
     }
-    0
+    None
 }

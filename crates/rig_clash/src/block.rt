@@ -1,10 +1,9 @@
 // The block of a load: who won, who lost where, and what else is asked for.
-use crate::board::Group;
+use crate::list::Style;
 use crate::load::Load;
 use crate::outcome::Outcome;
-use crate::phrase::{either, put_front, put_line, put_numbers};
+use crate::phrase::{put_front, put_line, put_numbers};
 use crate::refusals::Stage;
-use crate::rows::before;
 use crate::state::Options;
 use crate::{board, corrected, list, refusals, registers, wave};
 use rig_lines::console::PAGE;
@@ -28,13 +27,13 @@ fn put_undecided(
         return at;
     }
     let word = put_front(page, at, kept, b"  UNDECIDED between ", &[]);
-    let who = list::put_all(page, word, kept, list::NUMBERS, outcome.others(load));
+    let who = list::put_all(page, word, kept, Style::Numbers, outcome.others(load));
     let form = b": the bus stopped after byte # (%), before they differ; nothing was sent whole\n";
     put_numbers(
         page,
         who,
         form,
-        &[before(outcome.count) as u64, outcome.last as u64],
+        &[outcome.count.saturating_sub(1) as u64, outcome.last as u64],
     )
 }
 
@@ -48,9 +47,9 @@ pub(crate) fn put_notes(
 ) -> usize {
     let silent = board::put_silent(page, at, kept, load);
     let note = b"  note: no ack line, rehearsed as all acknowledged";
-    let unacked = put_line(page, silent, kept, load.ack_line == 0, note, &[]);
+    let unacked = put_line(page, silent, kept, load.ack_line.is_none(), note, &[]);
     let numbers = [
-        load.expect_line,
+        load.expect_line.unwrap_or(0),
         load.winner as u64,
         load.carried,
         load.length,
@@ -74,8 +73,8 @@ fn put_outcome(
     outcome: Outcome,
 ) -> usize {
     let undecided = put_undecided(page, at, kept, load, outcome);
-    let within = board::put_group(page, undecided, kept, load, outcome, Group::In);
-    let lost = board::put_group(page, within, kept, load, outcome, Group::Lost);
+    let within = board::put_contenders(page, undecided, kept, load, outcome);
+    let lost = board::put_losers(page, within, kept, load, outcome);
     put_notes(page, lost, kept, load, outcome.expected)
 }
 
@@ -91,8 +90,7 @@ pub(crate) fn put(
     levels: &[u8],
 ) -> usize {
     let header = put_header(page, at, kept, load);
-    let verdict = outcome.verdict;
-    if let Verdict::Refused(number) = verdict {
+    if let Verdict::Refused(number) = outcome.verdict {
         return refusals::put_line(
             page,
             header,
@@ -104,7 +102,7 @@ pub(crate) fn put(
         );
     }
     let shown = put_outcome(page, header, kept, load, outcome);
-    let boards = either(options.registers, load.boards, 0);
+    let boards = if options.registers { load.boards } else { 0 };
     let next = registers::put_all(page, shown, kept, load, outcome, boards);
     if options.wave {
         return wave::put(page, next, kept, load, outcome, carried, levels);

@@ -1,24 +1,22 @@
 // A row of the drawing: its bytes and bits, and the two lines of the bus.
 use crate::order::byte_at;
-use crate::phrase::{begin_numbers, either, line_numbers, put_numbers};
+use crate::phrase::{begin_numbers, line_numbers, put_numbers};
 use crate::rows;
-use crate::rows::shifted;
+use crate::rows::Next;
 use crate::svg::{LEFT, NAMES, x_of};
-use crate::wave::is_high_at;
+use crate::wave::{Wire, is_high_at};
 use rig_lines::console::PAGE;
-use rig_lines::lists::line_of;
-use rig_lines::numbers::least;
-use text::put_bytes;
+use text::{put_byte, put_bytes};
 
 // The bits, below the top of a row.
 const BITS: usize = 30;
 
-// The symbol of a bit, from the first on, by its place: a byte's bits, then whether it was acknowledged.
-fn symbol_of(byte: u8, ack: u8, bit: usize) -> usize {
+// The symbol of a bit, from the first on: a byte's bits, then whether it was acknowledged.
+fn symbol_of(byte: u8, ack: u8, bit: usize) -> u8 {
     if bit >= rows::BITS - 1 {
-        return either(ack == 0, 2, 3);
+        return if ack == 0 { b'A' } else { b'N' };
     }
-    ((byte >> (7 - bit)) % 2) as usize
+    b'0' + (byte >> (7 - bit)) % 2
 }
 
 // A bit of a byte at a column.
@@ -31,19 +29,17 @@ fn put_bit(
     column: usize,
     y: usize,
 ) -> usize {
-    let x = x_of(shifted(column, 2 * least(bit, rows::BITS)));
-    let words = b"<text x=\"#\" y=\"#\">0</text>\n<text x=\"#\" y=\"#\">1</text>\n\
-        <text x=\"#\" y=\"#\">A</text>\n<text x=\"#\" y=\"#\">N</text>";
-    let symbol = line_of(words, symbol_of(byte, ack, bit));
-    line_numbers(page, at, true, symbol, &[x, shifted(y, BITS) as u64])
+    let x = x_of(column.saturating_add(2 * bit.min(rows::BITS)));
+    let words = b"<text x=\"#\" y=\"#\">";
+    let text = begin_numbers(page, at, words, &[x, y.saturating_add(BITS) as u64]);
+    let symbol = put_byte(page, text, symbol_of(byte, ack, bit));
+    put_bytes(page, symbol, b"</text>\n")
 }
 
 fn put_bits(page: &mut [u8; PAGE], at: usize, byte: u8, ack: u8, column: usize, y: usize) -> usize {
     let mut next = at;
-    let mut bit: usize = 0;
-    while bit < rows::BITS {
+    for bit in 0..rows::BITS {
         next = put_bit(page, next, byte, ack, bit, column, y);
-        bit += 1;
     }
     next
 }
@@ -61,22 +57,16 @@ fn put_cell(
 ) -> usize {
     let column = rows::column_of(parts, first, byte);
     let value = byte_at(carried, byte);
-    let top = shifted(y, NAMES) as u64;
+    let top = y.saturating_add(NAMES) as u64;
     let name = b"<text x=\"#\" y=\"#\">%</text>\n";
     let named = begin_numbers(page, at, name, &[x_of(column), top, value as u64]);
     let bits = put_bits(page, named, value, byte_at(acks, byte), column, y);
-    let next = rows::next_of(parts, byte, carried.len());
-    let words = line_of(
-        b"\n<text x=\"#\" y=\"#\">Sr</text>\n<text x=\"#\" y=\"#\">P</text>",
-        next,
-    );
-    line_numbers(
-        page,
-        bits,
-        next > 0,
-        words,
-        &[x_of(shifted(column, rows::BYTE + 1)), top],
-    )
+    let after = [x_of(column.saturating_add(rows::BYTE + 1)), top];
+    match rows::next_of(parts, byte, carried.len()) {
+        Next::Byte => bits,
+        Next::Restart => begin_numbers(page, bits, b"<text x=\"#\" y=\"#\">Sr</text>\n", &after),
+        Next::Stop => begin_numbers(page, bits, b"<text x=\"#\" y=\"#\">P</text>\n", &after),
+    }
 }
 
 pub(crate) fn put_cells(
@@ -88,19 +78,16 @@ pub(crate) fn put_cells(
     first: usize,
     y: usize,
 ) -> usize {
-    let end = rows::end_of(first, carried.len());
     let mut next = put_first(page, at, first, y);
-    let mut byte = first;
-    while byte < end {
+    for byte in first..rows::end_of(first, carried.len()) {
         next = put_cell(page, next, carried, acks, parts, first, byte, y);
-        byte += 1;
     }
     next
 }
 
 // The first byte's index, and START in the first row.
 fn put_first(page: &mut [u8; PAGE], at: usize, first: usize, y: usize) -> usize {
-    let top = shifted(y, NAMES) as u64;
+    let top = y.saturating_add(NAMES) as u64;
     let index = b"<text x=\"8\" y=\"#\">byte #</text>\n";
     let named = begin_numbers(page, at, index, &[top, first as u64]);
     line_numbers(
@@ -113,11 +100,11 @@ fn put_first(page: &mut [u8; PAGE], at: usize, first: usize, y: usize) -> usize 
 }
 
 // A line's height at a level.
-fn y_at(levels: &[u8], at: usize, sda: bool, y: usize) -> usize {
-    if is_high_at(levels, at, sda) {
+fn y_at(levels: &[u8], at: usize, wire: Wire, y: usize) -> usize {
+    if is_high_at(levels, at, wire) {
         return y;
     }
-    shifted(y, 18)
+    y.saturating_add(18)
 }
 
 // From one column to the next: down or up where the line changed, and on.
@@ -127,18 +114,16 @@ fn put_step(
     levels: &[u8],
     from: usize,
     i: usize,
-    sda: bool,
+    wire: Wire,
     y: usize,
 ) -> usize {
-    let height = y_at(levels, i, sda, y);
-    let same = (i <= from) | (y_at(levels, rows::before(i), sda, y) == height);
-    let x = x_of(shifted(rows::less(i, from), 1));
-    put_numbers(
-        page,
-        at,
-        line_of(b" V# H#\n? H#", same as usize),
-        &[height as u64, x],
-    )
+    let height = y_at(levels, i, wire, y);
+    let same = (i <= from) | (y_at(levels, i.saturating_sub(1), wire, y) == height);
+    let x = x_of(i.saturating_sub(from).saturating_add(1));
+    if same {
+        return put_numbers(page, at, b" H#", &[x]);
+    }
+    put_numbers(page, at, b" V# H#", &[height as u64, x])
 }
 
 fn put_steps(
@@ -147,14 +132,12 @@ fn put_steps(
     levels: &[u8],
     from: usize,
     end: usize,
-    sda: bool,
+    wire: Wire,
     y: usize,
 ) -> usize {
     let mut next = at;
-    let mut i = from;
-    while i < end {
-        next = put_step(page, next, levels, from, i, sda, y);
-        i += 1;
+    for i in from..end {
+        next = put_step(page, next, levels, from, i, wire, y);
     }
     next
 }
@@ -167,16 +150,16 @@ fn put_path(
     levels: &[u8],
     from: usize,
     end: usize,
-    sda: bool,
+    wire: Wire,
     y: usize,
 ) -> usize {
     let numbers = [
-        shifted(y, 14) as u64,
+        y.saturating_add(14) as u64,
         LEFT as u64,
-        y_at(levels, from, sda, y) as u64,
+        y_at(levels, from, wire, y) as u64,
     ];
     let start = begin_numbers(page, at, words, &numbers);
-    let steps = put_steps(page, start, levels, from, end, sda, y);
+    let steps = put_steps(page, start, levels, from, end, wire, y);
     put_bytes(
         page,
         steps,
@@ -195,6 +178,24 @@ pub(crate) fn put_signals(
 ) -> usize {
     let scl = b"<text x=\"8\" y=\"#\">SCL</text>\n<path d=\"M# #";
     let sda = b"<text x=\"8\" y=\"#\">SDA</text>\n<path d=\"M# #";
-    let first = put_path(page, at, scl, levels, from, end, false, shifted(y, 40));
-    put_path(page, first, sda, levels, from, end, true, shifted(y, 74))
+    let first = put_path(
+        page,
+        at,
+        scl,
+        levels,
+        from,
+        end,
+        Wire::Scl,
+        y.saturating_add(40),
+    );
+    put_path(
+        page,
+        first,
+        sda,
+        levels,
+        from,
+        end,
+        Wire::Sda,
+        y.saturating_add(74),
+    )
 }

@@ -1,5 +1,6 @@
 // Tonight's corrections laid over a load: the library says which message each board gets.
 use crate::kept::{BYTES, MESSAGES_AT, PARTS_AT, ROOM, TONIGHT_AT};
+use crate::list::Style;
 use crate::load::Load;
 use crate::phrase::{put_front, put_numbers};
 use crate::state::State;
@@ -8,8 +9,6 @@ use arbitration_rules::{MAX_LENGTH, MAX_MASTERS};
 use catalogue::Located;
 use load_text::{gather, gather_lengths};
 use rig_lines::console::{PAGE, put_quoted};
-use rig_lines::numbers::least;
-use rig_lines::parts;
 use text::{put_byte, put_bytes};
 
 // The boards by number, as the library takes them.
@@ -19,30 +18,13 @@ const NUMBERS: [u32; MAX_MASTERS] = [0, 1, 2, 3, 4, 5, 6, 7, 8, 9, 10, 11, 12, 1
 const ABSENT: u8 = 42;
 
 fn number_of(board: usize) -> u32 {
-    least(board, MAX_MASTERS) as u32
-}
-
-// So much of a message as is kept.
-fn cut(length: u32) -> u32 {
-    least(length as usize, MAX_LENGTH) as u32
-}
-
-fn cut_all(lengths: [u32; MAX_MASTERS]) -> [u32; MAX_MASTERS] {
-    let mut all = lengths;
-    let mut board: usize = 0;
-    while board < MAX_MASTERS {
-        all[board] = cut(lengths[board]);
-        board += 1;
-    }
-    all
+    board.min(MAX_MASTERS) as u32
 }
 
 // The corrections for the load that is being read are marked as met.
 fn meet(kept: &mut [u8; ROOM], count: usize) {
-    let mut correction: usize = 0;
-    while correction < count {
+    for correction in 0..count {
         slots::meet(kept, correction);
-        correction += 1;
     }
 }
 
@@ -66,8 +48,8 @@ fn keep_row(kept: &mut [u8; ROOM], board: usize, correction: usize) {
     kept::put_row(kept, kept::row_of(PARTS_AT, board), &parts);
 }
 
-// The board of a correction among the first so many, else their number.
-fn board_of(kept: &[u8], boards: usize, correction: usize) -> usize {
+// The board of a correction among the first so many.
+fn board_of(kept: &[u8], boards: usize, correction: usize) -> Option<usize> {
     boards::find(kept, boards, slots::board(kept, correction))
 }
 
@@ -81,10 +63,9 @@ fn with_correction(
     if !slots::is_current(kept, correction) {
         return state;
     }
-    let board = board_of(kept, state.file.boards, correction);
-    if board >= state.file.boards {
+    let Some(board) = board_of(kept, state.file.boards, correction) else {
         return unknown(page, kept, state, correction);
-    }
+    };
     keep_row(kept, board, correction);
     let length = slots::length(kept, correction) as u32;
     state.with_load(state.load.with_correction(board, length))
@@ -97,10 +78,8 @@ fn with_corrections(
     count: usize,
 ) -> State {
     let mut state = begun;
-    let mut correction: usize = 0;
-    while correction < count {
+    for correction in 0..count {
         state = with_correction(page, kept, state, correction);
-        correction += 1;
     }
     state
 }
@@ -132,49 +111,36 @@ fn listed(messages: &[u8], rows: [u32; MAX_MASTERS], without: [bool; MAX_MASTERS
     }
 }
 
-// What the library says of a board: tonight's list is taken apart, and then the one that stands.
-fn located_in(
-    board: usize,
-    tonight: &[u8],
-    tonight_boards: &[u32],
-    tonight_lengths: &[u32],
-    standing: List,
-) -> Located {
-    let bytes = standing.bytes;
-    let boards = standing.boards;
-    let lengths = standing.lengths;
-    let listed = parts::stamps(standing.count, &boards);
-    let measured = parts::stamps(standing.count, &lengths);
-    catalogue::locate(
-        number_of(board),
-        tonight,
-        tonight_boards,
-        tonight_lengths,
-        kept::part(&bytes, 0, standing.size),
-        &boards[..listed],
-        &lengths[..measured],
-    )
+impl List {
+    fn bytes(&self) -> &[u8] {
+        kept::part(&self.bytes, 0, self.size)
+    }
+
+    fn boards(&self) -> &[u32] {
+        &self.boards[..self.count.min(MAX_MASTERS)]
+    }
+
+    fn lengths(&self) -> &[u32] {
+        &self.lengths[..self.count.min(MAX_MASTERS)]
+    }
 }
 
-fn located(board: usize, tonight: List, standing: List) -> Located {
-    let bytes = tonight.bytes;
-    let boards = tonight.boards;
-    let lengths = tonight.lengths;
-    let listed = parts::stamps(tonight.count, &boards);
-    let measured = parts::stamps(tonight.count, &lengths);
-    located_in(
-        board,
-        kept::part(&bytes, 0, tonight.size),
-        &boards[..listed],
-        &lengths[..measured],
-        standing,
+// What the library says of a board.
+fn located(board: usize, tonight: &List, standing: &List) -> Located {
+    catalogue::locate(
+        number_of(board),
+        tonight.bytes(),
+        tonight.boards(),
+        tonight.lengths(),
+        standing.bytes(),
+        standing.boards(),
+        standing.lengths(),
     )
 }
 
 // A message of tonight's, in the row of a board.
-fn keep_message(kept: &mut [u8; ROOM], board: usize, tonight: List, place: Located) {
-    let bytes = tonight.bytes;
-    let message = kept::part(&bytes, place.offset, place.length as usize);
+fn keep_message(kept: &mut [u8; ROOM], board: usize, tonight: &List, place: Located) {
+    let message = kept::part(&tonight.bytes, place.offset, place.length as usize);
     put_bytes(kept, kept::row_of(MESSAGES_AT, board), message);
 }
 
@@ -183,8 +149,8 @@ fn with_board(
     kept: &mut [u8; ROOM],
     load: Load,
     board: usize,
-    tonight: List,
-    standing: List,
+    tonight: &List,
+    standing: &List,
 ) -> Load {
     let place = located(board, tonight, standing);
     if (place.number != 0) & (place.number != ABSENT) {
@@ -205,28 +171,27 @@ fn with_boards(
     kept: &mut [u8; ROOM],
     begun: Load,
     boards: usize,
-    tonight: List,
-    standing: List,
+    tonight: &List,
+    standing: &List,
 ) -> Load {
     let mut load = begun;
-    let mut board: usize = 0;
-    while board < boards {
+    for board in 0..boards {
         load = with_board(kept, load, board, tonight, standing);
-        board += 1;
     }
     load
 }
 
 // The corrections of the load, over the messages that stand in it.
 fn overlaid(kept: &mut [u8; ROOM], load: Load) -> Load {
-    let standing = load.standing;
-    let silent = load.silent;
-    let rows = load.lengths;
-    let cut = cut_all(rows);
-    let corrections = load.tonight;
-    let tonight = listed(kept::part(kept, TONIGHT_AT, BYTES), corrections, standing);
-    let before = listed(kept::part(kept, MESSAGES_AT, BYTES), cut, silent);
-    with_boards(kept, load, load.boards, tonight, before)
+    // so much of each message is kept
+    let cut = load.lengths.map(|length| length.min(MAX_LENGTH as u32));
+    let tonight = listed(
+        kept::part(kept, TONIGHT_AT, BYTES),
+        load.tonight,
+        load.standing,
+    );
+    let before = listed(kept::part(kept, MESSAGES_AT, BYTES), cut, load.silent);
+    with_boards(kept, load, load.boards, &tonight, &before)
 }
 
 // Lays the corrections over the load that ends, unless it is in error.
@@ -276,10 +241,8 @@ fn without_load(page: &mut [u8; PAGE], kept: &[u8], state: State, correction: us
 // The loads that were in none of the files.
 pub(crate) fn unmet(page: &mut [u8; PAGE], kept: &[u8], begun: State, count: usize) -> State {
     let mut state = begun;
-    let mut correction: usize = 0;
-    while correction < count {
+    for correction in 0..count {
         state = without_load(page, kept, state, correction);
-        correction += 1;
     }
     state
 }
@@ -290,7 +253,6 @@ pub(crate) fn put(page: &mut [u8; PAGE], at: usize, kept: &[u8], load: Load) -> 
         return at;
     }
     let from = put_front(page, at, kept, b"  corrected ", &[]);
-    let standing = load.standing;
-    let end = list::put_all(page, from, kept, list::BOTH, standing);
+    let end = list::put_all(page, from, kept, Style::Both, load.standing);
     put_byte(page, end, b'\n')
 }

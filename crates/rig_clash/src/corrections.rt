@@ -1,18 +1,18 @@
 // The file of tonight's corrections. Whatever is wrong with it, nothing is rehearsed.
+use crate::forms::Form;
 use crate::kept::{FILE_AT, NAME_AT, ROOM, SLOTS};
-use crate::phrase::{begin_numbers, either, put_line};
+use crate::phrase::begin_numbers;
+use crate::problem::Reach;
 use crate::state::State;
 use crate::statements::Statement;
 use crate::words::Kind;
-use crate::{ending, forms, kept, lines, load, reading, slots, sources, statements, words};
+use crate::{ending, kept, lines, load, reading, slots, sources, statements, words};
 use arbitration_rules::MAX_LENGTH;
 use load_text::{LOAD_NAME, is_board_name, is_load_name};
 use rig_lines::console::PAGE;
 use rig_lines::files::{Opened, Reader};
 use rig_lines::input;
 use rig_lines::input::Line;
-use rig_lines::lists::line_of;
-use rig_lines::numbers::{least_number, more};
 use std::fs::File;
 use std::io::Stdin;
 use std::rt::{Env, Files};
@@ -20,51 +20,49 @@ use text::{after_word, first_word, put_bytes};
 
 const BYTES: u64 = MAX_LENGTH as u64;
 
-// Says what is wrong with the line that was followed, where something is; line 0: none in particular.
+// Says what is wrong with the line that was followed, where something is, or with the file.
 fn said(page: &mut [u8; PAGE], state: State) -> State {
-    if !state.is_wrong() {
+    let Some(problem) = state.problem else {
         return state;
-    }
-    let line = state.problem.line;
-    let words = line_of(
-        b"! corrections line #: \n! corrections: ",
-        (line == 0) as usize,
-    );
-    let place = begin_numbers(page, state.at, words, &[line]);
-    let wrong = state.problem.put(page, place);
+    };
+    let place = match problem.line {
+        Some(line) => begin_numbers(page, state.at, b"! corrections line #: ", &[line]),
+        None => begin_numbers(page, state.at, b"! corrections: ", &[]),
+    };
+    let wrong = problem.put(page, place);
     let end = put_bytes(page, wrong, b"; nothing is rehearsed\n");
     state.moved(end).without_problem().faulted().done()
 }
 
 // The load that is read has no board line yet.
 fn lacks_board(kept: &[u8], state: State) -> bool {
-    let count = state.corrections;
-    state.load.open & (slots::find_load(kept, count, kept::name(kept)) == count)
+    let found = slots::find_load(kept, state.corrections, kept::name(kept));
+    state.load.open & found.is_none()
 }
 
 fn without_board(kept: &[u8], state: State) -> State {
-    state.with_problem(state.load.line, forms::WITHOUT_BOARD, kept::name(kept), 0)
+    let line = Some(state.load.line);
+    state.with_problem(line, Form::WithoutBoard, kept::name(kept), 0, Reach::Line)
 }
 
 // What is wrong with `load NAME`, or with the load before it, where something is: no load before has the name.
 fn judged_load(kept: &[u8], state: State, rest: &[u8]) -> State {
     let name = first_word(rest);
     let extra = first_word(after_word(rest));
-    let first = slots::find_load(kept, state.corrections, name);
     if lacks_board(kept, state) {
         return without_board(kept, state);
     }
     if name.len() == 0 {
-        return state.wrong_by(forms::NO_NAME, 0);
+        return state.wrong_by(Form::NoName, 0);
     }
     if !is_load_name(name) {
-        return state.wrong(forms::LOAD_NAME, name, 0);
+        return state.wrong(Form::LoadName, name, 0);
     }
     if extra.len() > 0 {
-        return state.wrong(forms::ONE_WORD, extra, 0);
+        return state.wrong(Form::OneWord, extra, 0);
     }
-    if first < state.corrections {
-        return state.wrong(forms::TAKEN, name, slots::load_line(kept, first));
+    if let Some(first) = slots::find_load(kept, state.corrections, name) {
+        return state.wrong(Form::Taken, name, slots::load_line(kept, first));
     }
     state
 }
@@ -76,8 +74,7 @@ fn with_load(kept: &mut [u8; ROOM], state: State, rest: &[u8]) -> State {
         return next;
     }
     kept::keep(kept, NAME_AT, LOAD_NAME, first_word(rest));
-    let loads = more(state.file.loads);
-    next.file.loads = loads;
+    next.file.loads = state.file.loads.saturating_add(1);
     next.load = load::begun(state.source.line, false, 0, 0);
     next
 }
@@ -85,32 +82,31 @@ fn with_load(kept: &mut [u8; ROOM], state: State, rest: &[u8]) -> State {
 // What is wrong with `board NAME HH HH ..` or `board NAME -`, where something is: the board has no line in this load
 // yet, and at most so many bytes.
 fn judged_board(kept: &[u8], state: State, name: &[u8], bytes: &[u8]) -> State {
-    let first = slots::find(kept, state.corrections, name);
     let count = words::count(bytes);
     if !state.load.open {
-        return state.wrong(forms::OUTSIDE, b"board", 0);
+        return state.wrong(Form::Outside, b"board", 0);
     }
     if state.corrections >= SLOTS {
-        return state.wrong_by(forms::MANY_CORRECTIONS, 0);
+        return state.wrong_by(Form::ManyCorrections, 0);
     }
     if name.len() == 0 {
-        return state.wrong_by(forms::NO_BOARD, 0);
+        return state.wrong_by(Form::NoBoard, 0);
     }
     if !is_board_name(name) {
-        return state.wrong(forms::BOARD_NAME, name, 0);
+        return state.wrong(Form::BoardName, name, 0);
     }
-    if first < state.corrections {
-        return state.wrong(forms::SECOND_BOARD, name, slots::line(kept, first));
+    if let Some(first) = slots::find(kept, state.corrections, name) {
+        return state.wrong(Form::SecondBoard, name, slots::line(kept, first));
     }
     let next = lines::judged(state, bytes);
     if next.is_wrong() {
         return next;
     }
     if count == 0 {
-        return state.wrong_by(forms::NO_BOARD, 0);
+        return state.wrong_by(Form::NoBoard, 0);
     }
     if count > BYTES {
-        return state.wrong(forms::LONG_MESSAGE, name, count);
+        return state.wrong(Form::LongMessage, name, count);
     }
     state
 }
@@ -131,7 +127,7 @@ fn with_board(kept: &mut [u8; ROOM], state: State, name: &[u8], bytes: &[u8]) ->
     let mut row = [0u8; MAX_LENGTH];
     let mut parts = [0u8; MAX_LENGTH];
     let correction = state.corrections;
-    let length = least_number(words::count(sent(bytes)), BYTES) as u8;
+    let length = words::count(sent(bytes)).min(BYTES) as u8;
     words::put_values(&mut row, Kind::Byte, sent(bytes));
     words::put_parts(&mut parts, sent(bytes));
     slots::keep(
@@ -155,7 +151,7 @@ fn with_end(kept: &[u8], state: State, rest: &[u8]) -> State {
     if lacks_board(kept, state) {
         return without_board(kept, state);
     }
-    ending::with_end(state, rest, forms::CORRECTIONS_COUNTED)
+    ending::with_end(state, rest, Form::CorrectionsCounted)
 }
 
 // A line of text, without its comment.
@@ -166,15 +162,19 @@ fn with_text(kept: &mut [u8; ROOM], state: State, line: &[u8]) -> State {
     if word.len() == 0 {
         return state;
     }
-    if state.file.end_line > 0 {
-        return ending::after_end(state, forms::AFTER_CORRECTIONS);
+    if let Some(end) = state.file.end_line {
+        return ending::after_end(state, Form::AfterCorrections, end);
     }
     match statement {
         Statement::Load => with_load(kept, state, rest),
         Statement::End => with_end(kept, state, rest),
         Statement::Board => with_board(kept, state, first_word(rest), after_word(rest)),
         _ => state.wrong(
-            either(state.load.open, forms::IN_CORRECTIONS, forms::OUTSIDE),
+            if state.load.open {
+                Form::InCorrections
+            } else {
+                Form::Outside
+            },
             word,
             0,
         ),
@@ -182,45 +182,22 @@ fn with_text(kept: &mut [u8; ROOM], state: State, line: &[u8]) -> State {
 }
 
 // A line that is too long or no text.
-fn without_text(state: State, form: usize) -> State {
-    if state.file.end_line > 0 {
-        return ending::after_end(state, forms::AFTER_CORRECTIONS);
+fn without_text(state: State, form: Form) -> State {
+    if let Some(end) = state.file.end_line {
+        return ending::after_end(state, Form::AfterCorrections, end);
     }
     state.wrong_by(form, 0)
 }
 
 // The end of the input.
 fn ended(kept: &[u8], state: State) -> State {
-    if state.file.end_line > 0 {
+    if state.file.end_line.is_some() {
         return state.done();
     }
     if lacks_board(kept, state) {
         return without_board(kept, state);
     }
-    state.with_problem(0, forms::NO_END, kept, 0)
-}
-
-// `cannot open` or `cannot read`, and why.
-fn unread(
-    page: &mut [u8; PAGE],
-    kept: &[u8],
-    state: State,
-    reads: bool,
-    argument: usize,
-    errno: u64,
-) -> State {
-    let words =
-        b"! cannot open +: `; nothing is rehearsed\n! cannot read +: `; nothing is rehearsed";
-    let numbers = [argument as u64, errno];
-    let end = put_line(
-        page,
-        state.at,
-        kept,
-        true,
-        line_of(words, reads as usize),
-        &numbers,
-    );
-    state.moved(end).faulted().done()
+    state.with_problem(None, Form::NoEnd, b"", 0, Reach::Line)
 }
 
 // Follows what taking a line found.
@@ -241,37 +218,35 @@ pub(crate) fn with_line(
     line: &[u8],
 ) -> State {
     if let Line::Failed = found {
-        return unread(
-            page,
-            kept,
-            state,
-            true,
-            state.source.argument,
-            state.source.errno,
-        );
+        let source = state.source;
+        let words = b"! cannot read +: `; nothing is rehearsed";
+        return ending::failed(page, kept, state, words, source.argument, source.errno);
     }
     let next = followed(kept, state, found, line);
     said(page, next)
 }
 
-// Keeps the corrections of the file that an argument names; argument 0: there are none.
+// Keeps the corrections of the file that an argument names, where one does.
 pub(crate) fn read<R: Env + Files<File = File>>(
     rt: &R,
     stdin: Stdin,
     page: &mut [u8; PAGE],
     kept: &mut [u8; ROOM],
     state: State,
-    argument: usize,
+    argument: Option<usize>,
 ) -> State {
-    if argument == 0 {
+    let Some(argument) = argument else {
         return state;
-    }
+    };
     let mut reader = Reader::Standard(stdin);
     sources::keep(rt, kept, FILE_AT, argument);
     match sources::open(rt, &mut reader, kept, argument) {
         Opened::Source(source) => {
             reading::run_source(&mut reader, page, kept, state, source, true)
         }
-        Opened::Failed(errno) => unread(page, kept, state, false, argument, errno),
+        Opened::Failed(errno) => {
+            let words = b"! cannot open +: `; nothing is rehearsed";
+            ending::failed(page, kept, state, words, argument, errno)
+        }
     }
 }

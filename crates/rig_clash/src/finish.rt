@@ -14,7 +14,7 @@ const PROGRESS: u64 = 100;
 
 // A board that has no line.
 fn missing_board(page: &mut [u8; PAGE], kept: &[u8], state: State, board: usize) -> State {
-    if state.load.line_of(board) > 0 {
+    if state.load.line_of(board).is_some() {
         return state;
     }
     let form = b"! line #: load *: no line for board $ (boards: line #)";
@@ -25,10 +25,8 @@ fn missing_board(page: &mut [u8; PAGE], kept: &[u8], state: State, board: usize)
 
 fn missing_boards(page: &mut [u8; PAGE], kept: &[u8], begun: State, boards: usize) -> State {
     let mut state = begun;
-    let mut board: usize = 0;
-    while board < boards {
+    for board in 0..boards {
         state = missing_board(page, kept, state, board);
-        board += 1;
     }
     state
 }
@@ -72,7 +70,7 @@ fn put_broken(page: &mut [u8; PAGE], at: usize, kept: &[u8], table: bool) -> usi
 
 // What a load came to is counted, and its name kept where it is one to see.
 fn tallied(kept: &mut [u8; ROOM], state: State, verdict: Verdict, expected: bool) -> State {
-    let unacked = (state.load.ack_line == 0) & !is_refusal(verdict);
+    let unacked = state.load.ack_line.is_none() & !is_refusal(verdict);
     let tally = state.tally.with_verdict(verdict, expected);
     let counted = tally.with_notes(unacked, state.load.corrected);
     noted(kept, state.with_tally(counted), is_seen(verdict, expected))
@@ -92,7 +90,7 @@ fn put(
     if options.svg {
         return svg::put(page, at, kept, load, outcome, carried, levels);
     }
-    if (options.trace > 0) & !options.draws {
+    if options.trace & !options.draws {
         return recording::put(page, at, levels, outcome);
     }
     if options.table {
@@ -121,8 +119,7 @@ fn rehearsed(page: &mut [u8; PAGE], kept: &mut [u8; ROOM], state: State) -> Stat
         &carried,
         &levels,
     );
-    let verdict = outcome.verdict;
-    tallied(kept, state.moved(at), verdict, outcome.expected)
+    tallied(kept, state.moved(at), outcome.verdict, outcome.expected)
 }
 
 // The same as a night.
@@ -130,13 +127,12 @@ fn rehearsed_night(page: &mut [u8; PAGE], kept: &mut [u8; ROOM], state: State) -
     let night = nights::of(kept, state.load);
     let expected = night.is_expected(state.load);
     let at = rounds::put(page, state.at, kept, state.load, night, expected);
-    let verdict = night.verdict;
-    tallied(kept, state.moved(at), verdict, expected)
+    tallied(kept, state.moved(at), night.verdict, expected)
 }
 
 // A note of how many loads there were, where no trace is asked for.
 fn progress(page: &mut [u8; PAGE], state: State) -> State {
-    if (state.options.trace > 0) | (state.tally.loads % PROGRESS != 0) {
+    if state.options.trace | (state.tally.loads % PROGRESS != 0) {
         return state;
     }
     state.moved(put_note(page, state.at, b"", b"rig: # load~\n", &[state.tally.loads]))
@@ -154,8 +150,8 @@ enum Course {
 
 // A load in error has its block, unless it is to be a trace or an SVG document.
 fn course_of(kept: &[u8], state: State) -> Course {
-    let shown = (state.options.trace == 0) | state.options.draws;
-    let asked = recording::is_asked(kept, state.options.trace);
+    let shown = !state.options.trace | state.options.draws;
+    let asked = !state.options.trace | recording::is_asked(kept);
     if state.load.broken & asked & shown & !state.options.svg {
         return Course::Unrehearsed;
     }
@@ -172,8 +168,7 @@ fn course_of(kept: &[u8], state: State) -> Course {
 }
 
 fn finished(page: &mut [u8; PAGE], kept: &mut [u8; ROOM], state: State) -> State {
-    let course = course_of(kept, state);
-    match course {
+    match course_of(kept, state) {
         Course::Night => rehearsed_night(page, kept, state),
         Course::Rehearsed => rehearsed(page, kept, state),
         Course::Unrehearsed => unrehearsed(page, kept, state),

@@ -1,10 +1,8 @@
 // What is kept of a file, of the load that is being read and of the corrections, in one lent slice of bytes: texts in
 // cells that are filled up with zeros, which no text has, and the messages, a row of bytes for each board.
-use crate::rows::shifted;
 use arbitration_rules::{MAX_LENGTH, MAX_MASTERS};
 use load_text::{BOARD_NAME, LOAD_NAME};
 use rig_lines::numbers::value;
-use rig_lines::parts;
 use text::{put_byte, put_bytes};
 
 // The longest title, and as many bytes as the names of loads to see may take.
@@ -69,28 +67,17 @@ const ZEROS: [u8; TITLE] = [0; TITLE];
 
 // So many bytes from a place on, as far as there are.
 pub(crate) fn part(bytes: &[u8], from: usize, count: usize) -> &[u8] {
-    let start = parts::bytes(from, bytes);
-    let rest = &bytes[start..];
-    let end = parts::bytes(count, rest);
-    &rest[..end]
+    let rest = &bytes[from.min(bytes.len())..];
+    &rest[..count.min(rest.len())]
 }
 
-// How many bytes stand before the first zero.
-fn length(cell: &[u8]) -> usize {
-    let mut i = 0;
-    while i < cell.len() {
-        if cell[i] == 0 {
-            return i;
-        }
-        i += 1;
-    }
-    i
-}
-
-// The text in a cell.
+// The text in a cell: the bytes before the first zero.
 pub(crate) fn text_in(kept: &[u8], from: usize, width: usize) -> &[u8] {
     let cell = part(kept, from, width);
-    part(cell, 0, length(cell))
+    match cell.iter().position(|b| *b == 0) {
+        Some(end) => &cell[..end],
+        None => cell,
+    }
 }
 
 // A text put into a cell, as much of it as there is room for.
@@ -130,22 +117,23 @@ pub(crate) fn title(kept: &[u8]) -> &[u8] {
     text_in(kept, TITLE_AT, TITLE)
 }
 
+// Where a cell begins, among so many of one width from a place on; the first, where there is none so far on.
+pub(crate) fn cell_at(from: usize, width: usize, count: usize, cell: usize) -> usize {
+    if cell < count {
+        from.saturating_add(cell.saturating_mul(width))
+    } else {
+        from
+    }
+}
+
 // Where a board's cell begins.
 fn cell_of(board: usize) -> usize {
-    if board < MAX_MASTERS {
-        BOARDS_AT + board * BOARD_NAME
-    } else {
-        BOARDS_AT
-    }
+    cell_at(BOARDS_AT, BOARD_NAME, MAX_MASTERS, board)
 }
 
 // Where a board's row begins, among rows that begin at a place.
 pub(crate) fn row_of(rows: usize, board: usize) -> usize {
-    if board < MAX_MASTERS {
-        shifted(rows, board * MAX_LENGTH)
-    } else {
-        rows
-    }
+    cell_at(rows, MAX_LENGTH, MAX_MASTERS, board)
 }
 
 pub(crate) fn board_name(kept: &[u8], board: usize) -> &[u8] {

@@ -1,19 +1,18 @@
 // The statements of a load: `board`, `ack` and `expect`.
+use crate::forms::Form;
 use crate::kept::{ACKS, ACKS_AT, ROOM};
 use crate::state::State;
 use crate::words::Kind;
-use crate::{boards, forms, kept, words};
+use crate::{boards, kept, words};
 use arbitration_rules::{MAX_LENGTH, MAX_MASTERS};
-use check::same;
 use load_text::{Parts, parts_in};
-use rig_lines::numbers::{least_number, more};
 use text::{after_word, first_word, put_bytes};
 
 // More than any line has words.
 const MANY: u64 = 4096;
 
 fn few(count: u64) -> u32 {
-    least_number(count, MANY) as u32
+    count.min(MANY) as u32
 }
 
 // The bytes of a board, which are bytes.
@@ -39,12 +38,12 @@ pub(crate) fn judged(state: State, bytes: &[u8]) -> State {
     let other = words::first_other(Kind::Byte, bytes);
     if words::is_dash(first_word(bytes)) {
         if extra.len() > 0 {
-            return state.wrong(forms::AFTER_DASH, extra, 0);
+            return state.wrong(Form::AfterDash, extra, 0);
         }
         return state;
     }
     if other.len() > 0 {
-        return state.wrong(words::form_of(other, forms::BYTES), other, 0);
+        return state.wrong(words::form_of(other, Form::Bytes), other, 0);
     }
     state
 }
@@ -53,16 +52,14 @@ pub(crate) fn judged(state: State, bytes: &[u8]) -> State {
 pub(crate) fn with_board(kept: &mut [u8; ROOM], state: State, rest: &[u8]) -> State {
     let name = first_word(rest);
     let bytes = after_word(rest);
-    let board = boards::find(kept, state.file.boards, name);
-    let before = state.load.line_of(board);
     if name.len() == 0 {
-        return state.wrong_by(forms::NO_BOARD, 0);
+        return state.wrong_by(Form::NoBoard, 0);
     }
-    if board >= state.file.boards {
+    let Some(board) = boards::find(kept, state.file.boards, name) else {
         return state.unknown_board(name);
-    }
-    if before > 0 {
-        return state.wrong(forms::SECOND_BOARD, name, before);
+    };
+    if let Some(before) = state.load.line_of(board) {
+        return state.wrong(Form::SecondBoard, name, before);
     }
     let next = judged(
         state.with_load(state.load.with_line(board, state.source.line)),
@@ -77,13 +74,10 @@ pub(crate) fn with_board(kept: &mut [u8; ROOM], state: State, rest: &[u8]) -> St
 // A row more, of which the first sixteen are kept.
 fn with_row(mut state: State) -> State {
     let board = state.load.boards;
-    let rows = more(state.load.rows);
-    let load = state.load.with_line(board, state.source.line);
-    state.load = load;
-    state.load.rows = rows;
+    state.load = state.load.with_line(board, state.source.line);
+    state.load.rows = state.load.rows.saturating_add(1);
     if board < MAX_MASTERS {
-        let boards = board + 1;
-        state.load.boards = boards;
+        state.load.boards = board + 1;
     }
     state
 }
@@ -93,7 +87,7 @@ pub(crate) fn with_numbered(kept: &mut [u8; ROOM], state: State, bytes: &[u8]) -
     let next = with_row(state);
     let other = words::first_other(Kind::Short, bytes);
     if other.len() > 0 {
-        return next.wrong(words::form_of(other, forms::SHORT_BYTES), other, 0);
+        return next.wrong(words::form_of(other, Form::ShortBytes), other, 0);
     }
     if state.load.boards < MAX_MASTERS {
         return with_bytes(kept, next, state.load.boards, Kind::Short, bytes);
@@ -103,30 +97,27 @@ pub(crate) fn with_numbered(kept: &mut [u8; ROOM], state: State, bytes: &[u8]) -
 
 // `all` and nothing else.
 fn is_all(words: &[u8]) -> bool {
-    same(first_word(words), b"all") & (first_word(after_word(words)).len() == 0)
+    matches!(first_word(words), b"all") & (first_word(after_word(words)).len() == 0)
 }
 
 // `ack A A ..` or `ack all`
 pub(crate) fn with_ack(kept: &mut [u8; ROOM], mut state: State, acks: &[u8]) -> State {
-    if state.load.ack_line > 0 {
-        return state.wrong_by(forms::SECOND_ACK, state.load.ack_line);
+    if let Some(line) = state.load.ack_line {
+        return state.wrong_by(Form::SecondAck, line);
     }
     let mut row = [0u8; ACKS];
-    let line = state.source.line;
-    let all = is_all(acks);
-    let other = words::first_other(Kind::Ack, acks);
-    let count = few(words::count(acks)) as usize;
-    state.load.ack_line = line;
-    state.load.all_acked = all;
-    if all {
+    state.load.ack_line = Some(state.source.line);
+    state.load.all_acked = is_all(acks);
+    if state.load.all_acked {
         return state;
     }
+    let other = words::first_other(Kind::Ack, acks);
     if other.len() > 0 {
-        return state.wrong(forms::ACKS, other, 0);
+        return state.wrong(Form::Acks, other, 0);
     }
     words::put_values(&mut row, Kind::Ack, acks);
     put_bytes(kept, ACKS_AT, &row);
-    state.load.acks = count;
+    state.load.acks = few(words::count(acks)) as usize;
     state
 }
 
@@ -135,10 +126,10 @@ fn with_parts(state: State, board: usize, rest: &[u8]) -> State {
     let word = first_word(rest);
     let extra = first_word(after_word(rest));
     match parts_in(word) {
-        Parts::No => state.wrong(forms::PARTS, word, 0),
+        Parts::No => state.wrong(Form::Parts, word, 0),
         Parts::Of(carried, length) => {
             if extra.len() > 0 {
-                return state.wrong(forms::PARTS, extra, 0);
+                return state.wrong(Form::Parts, extra, 0);
             }
             state.with_load(state.load.with_expected(board, carried, length))
         }
@@ -149,20 +140,18 @@ fn with_parts(state: State, board: usize, rest: &[u8]) -> State {
 pub(crate) fn with_expect(kept: &[u8], mut state: State, rest: &[u8]) -> State {
     let name = first_word(rest);
     let parts = after_word(rest);
-    let line = state.source.line;
-    let board = boards::find(kept, state.file.boards, name);
-    if state.load.expect_line > 0 {
-        return state.wrong_by(forms::SECOND_EXPECT, state.load.expect_line);
+    if let Some(line) = state.load.expect_line {
+        return state.wrong_by(Form::SecondExpect, line);
     }
-    state.load.expect_line = line;
+    state.load.expect_line = Some(state.source.line);
     if name.len() == 0 {
-        return state.wrong_by(forms::NO_PARTS, 0);
+        return state.wrong_by(Form::NoParts, 0);
     }
-    if board >= state.file.boards {
+    let Some(board) = boards::find(kept, state.file.boards, name) else {
         return state.unknown_board(name);
-    }
+    };
     if first_word(parts).len() == 0 {
-        return state.wrong_by(forms::NO_PARTS, 0);
+        return state.wrong_by(Form::NoParts, 0);
     }
     with_parts(state, board, parts)
 }

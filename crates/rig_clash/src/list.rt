@@ -1,21 +1,35 @@
 // Boards in a list.
 use crate::phrase::put;
-use crate::rows::shifted;
 use arbitration_rules::MAX_MASTERS;
 use rig_lines::console::PAGE;
-use rig_lines::lists::line_of;
+use text::put_bytes;
 
-// How a list looks, by the place of its words: boards by their numbers, by their names or by both, with a space after
-// each comma, or without.
-pub(crate) const NUMBERS: usize = 0;
+// How a list looks: boards by their numbers, by their names or by both, with a space after each comma, or without.
+#[derive(Clone, Copy)]
+pub(crate) enum Style {
+    Numbers,
+    Names,
+    Both,
+    TightNumbers,
+    TightNames,
+}
 
-pub(crate) const NAMES: usize = 2;
+impl Style {
+    fn mark(self) -> &'static [u8] {
+        match self {
+            Style::Numbers | Style::TightNumbers => b"#",
+            Style::Names | Style::TightNames => b"$",
+            Style::Both => b"@",
+        }
+    }
 
-pub(crate) const BOTH: usize = 4;
-
-pub(crate) const TIGHT_NUMBERS: usize = 6;
-
-pub(crate) const TIGHT_NAMES: usize = 8;
+    fn comma(self) -> &'static [u8] {
+        match self {
+            Style::TightNumbers | Style::TightNames => b",",
+            _ => b", ",
+        }
+    }
+}
 
 // A board, unless it is among others.
 fn put_next(
@@ -23,21 +37,19 @@ fn put_next(
     from: usize,
     at: usize,
     kept: &[u8],
-    style: usize,
+    style: Style,
     board: usize,
     other: bool,
 ) -> usize {
     if other {
         return at;
     }
-    let words = b"#\n, #\n$\n, $\n@\n, @\n#\n,#\n$\n,$";
-    put(
-        page,
-        at,
-        kept,
-        line_of(words, shifted(style, (at > from) as usize)),
-        &[board as u64],
-    )
+    let next = if at > from {
+        put_bytes(page, at, style.comma())
+    } else {
+        at
+    };
+    put(page, next, kept, style.mark(), &[board as u64])
 }
 
 // All boards but others.
@@ -45,14 +57,12 @@ pub(crate) fn put_all(
     page: &mut [u8; PAGE],
     from: usize,
     kept: &[u8],
-    style: usize,
+    style: Style,
     others: [bool; MAX_MASTERS],
 ) -> usize {
     let mut next = from;
-    let mut board: usize = 0;
-    while board < MAX_MASTERS {
-        next = put_next(page, from, next, kept, style, board, others[board]);
-        board += 1;
+    for (board, other) in others.iter().enumerate() {
+        next = put_next(page, from, next, kept, style, board, *other);
     }
     next
 }

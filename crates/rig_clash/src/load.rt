@@ -14,16 +14,16 @@ pub(crate) struct Load {
     // how many boards there are, in the old form as many as there are rows, and how many of them are kept
     pub(crate) rows: u64,
     pub(crate) boards: usize,
-    // the line of each board, 0: none; how many bytes it has; whether it is silent, as is a place without a board
-    pub(crate) lines: [u64; MAX_MASTERS],
+    // the line of each board; how many bytes it has; whether it is silent, as is a place without a board
+    pub(crate) lines: [Option<u64>; MAX_MASTERS],
     pub(crate) lengths: [u32; MAX_MASTERS],
     pub(crate) silent: [bool; MAX_MASTERS],
-    // the line with the acknowledges, 0: none; how many there are, where it does not say `all`
-    pub(crate) ack_line: u64,
+    // the line with the acknowledges; how many there are, where it does not say `all`
+    pub(crate) ack_line: Option<u64>,
     pub(crate) acks: usize,
     pub(crate) all_acked: bool,
-    // the line that says what is expected, 0: none; the board that wins, and its bytes that are carried, of how many
-    pub(crate) expect_line: u64,
+    // the line that says what is expected; the board that wins, and its bytes that are carried, of how many
+    pub(crate) expect_line: Option<u64>,
     pub(crate) winner: usize,
     pub(crate) carried: u64,
     pub(crate) length: u64,
@@ -31,8 +31,8 @@ pub(crate) struct Load {
     pub(crate) corrected: bool,
     pub(crate) standing: [bool; MAX_MASTERS],
     pub(crate) tonight: [u32; MAX_MASTERS],
-    // the number by which the library refuses the corrections, 0: it does not
-    pub(crate) number: u8,
+    // the number by which the library refuses the corrections, where it does
+    pub(crate) number: Option<u8>,
 }
 
 pub(crate) fn none() -> Load {
@@ -44,20 +44,20 @@ pub(crate) fn none() -> Load {
         widest: 0,
         rows: 0,
         boards: 0,
-        lines: [0; MAX_MASTERS],
+        lines: [None; MAX_MASTERS],
         lengths: [0; MAX_MASTERS],
         silent: [true; MAX_MASTERS],
-        ack_line: 0,
+        ack_line: None,
         acks: 0,
         all_acked: false,
-        expect_line: 0,
+        expect_line: None,
         winner: 0,
         carried: 0,
         length: 0,
         corrected: false,
         standing: [true; MAX_MASTERS],
         tonight: [0; MAX_MASTERS],
-        number: 0,
+        number: None,
     }
 }
 
@@ -74,33 +74,22 @@ pub(crate) fn begun(line: u64, named: bool, boards: usize, widest: usize) -> Loa
 
 impl Load {
     // The line of a board.
-    pub(crate) fn line_of(self, board: usize) -> u64 {
-        let lines = self.lines;
-        if board < MAX_MASTERS { lines[board] } else { 0 }
+    pub(crate) fn line_of(self, board: usize) -> Option<u64> {
+        *self.lines.get(board)?
     }
 
     pub(crate) fn length_of(self, board: usize) -> u32 {
-        let lengths = self.lengths;
-        if board < MAX_MASTERS {
-            lengths[board]
-        } else {
-            0
-        }
+        self.lengths.get(board).copied().unwrap_or(0)
     }
 
     pub(crate) fn is_silent(self, board: usize) -> bool {
-        let silent = self.silent;
-        if board < MAX_MASTERS {
-            silent[board]
-        } else {
-            true
-        }
+        self.silent.get(board).copied().unwrap_or(true)
     }
 
     // A board's line is read: it is not silent unless the line says so.
     pub(crate) fn with_line(mut self, board: usize, line: u64) -> Load {
         if board < MAX_MASTERS {
-            self.lines[board] = line;
+            self.lines[board] = Some(line);
         }
         self
     }
@@ -142,31 +131,20 @@ impl Load {
 
     // The library refuses the corrections.
     pub(crate) fn refused_by(mut self, number: u8) -> Load {
-        self.number = number;
+        self.number = Some(number);
         self
     }
 
     // The length of the longest message.
     pub(crate) fn longest(self) -> u32 {
-        let lengths = self.lengths;
-        let mut most: u32 = 0;
-        let mut i: usize = 0;
-        while i < MAX_MASTERS {
-            most = greater(most, lengths[i]);
-            i += 1;
-        }
-        most
+        self.lengths.iter().copied().max().unwrap_or(0)
     }
 
     // How many acknowledges the library gets: those of the line, or one for each byte of the longest message.
     pub(crate) fn ack_count(self) -> usize {
-        if (self.ack_line == 0) | self.all_acked {
+        if self.ack_line.is_none() | self.all_acked {
             return self.longest() as usize;
         }
         self.acks
     }
-}
-
-fn greater(a: u32, b: u32) -> u32 {
-    if a < b { b } else { a }
 }

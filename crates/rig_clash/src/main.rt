@@ -46,8 +46,10 @@ mod words; // words.rt: the bytes and the acknowledges of a line
 
 use crate::phrase::line_numbers;
 use arguments::{Arguments, next_file};
+use forms::Form;
 use kept::{ASKED_AT, FILE_AT, ROOM};
 use phrase::put_line;
+use problem::Problem;
 use rig_lines::arguments::count;
 use rig_lines::console::{PAGE, flush};
 use rig_lines::files::{Opened, Reader};
@@ -70,14 +72,16 @@ fn with_file<R: Env + Files<File = File>>(
     names::clear(kept);
     kept::clear_board_names(kept);
     sources::keep(rt, kept, FILE_AT, argument);
-    let named = several & (state.options.trace == 0);
+    let named = several & !state.options.trace;
     let next = state.moved(put_line(page, state.at, kept, named, b"file +", &[argument as u64]));
     let mut reader = Reader::Standard(stdin);
     match sources::open(rt, &mut reader, kept, argument) {
         Opened::Source(source) => {
             reading::run_source(&mut reader, page, kept, next, source, false)
         }
-        Opened::Failed(errno) => ending::failed(page, kept, next, false, argument, errno),
+        Opened::Failed(errno) => {
+            ending::failed(page, kept, next, b"! cannot open +: `", argument, errno)
+        }
     }
 }
 
@@ -90,42 +94,32 @@ fn run_files<R: Env + Files<File = File>>(
     begun: State,
     first: usize,
 ) -> State {
-    let several = next_file(rt, after(first)) > 0;
+    let several = next_file(rt, first.saturating_add(1)).is_some();
     let mut state = begun;
-    let mut argument = first;
-    let mut turns = count(rt);
-    while turns > 0 {
-        if argument == 0 {
+    let mut next = Some(first);
+    for _ in 0..count(rt) {
+        let Some(argument) = next else {
             return state;
-        }
+        };
         state = with_file(rt, stdin, page, kept, state, argument, several);
-        argument = next_file(rt, after(argument));
-        turns -= 1;
+        next = next_file(rt, argument.saturating_add(1));
     }
     state
 }
 
-fn after(argument: usize) -> usize {
-    if argument < usize::MAX {
-        argument + 1
-    } else {
-        argument
-    }
-}
-
 // The last two lines; a trace has no line but its samples and the last one.
 fn summed(page: &mut [u8; PAGE], kept: &[u8; ROOM], state: State) {
-    let seen = tally::put_seen(page, state.at, kept, state.tally, state.options.trace == 0);
+    let seen = tally::put_seen(page, state.at, kept, state.tally, !state.options.trace);
     let last = tally::put_last(page, seen, state.tally);
     flush(page, last);
 }
 
 // The load whose trace is asked for is there.
 fn met(page: &mut [u8; PAGE], kept: &[u8], state: State) -> State {
-    if (state.options.trace == 0) | (state.tally.loads > 0) {
+    if !state.options.trace | (state.tally.loads > 0) {
         return state;
     }
-    complaints::fault(page, state, forms::UNKNOWN_LOAD, kept::asked(kept))
+    complaints::fault(page, state, Form::UnknownLoad, kept::asked(kept))
 }
 
 // All files, or the one that has the load that is drawn: the word after it is no file.
@@ -135,8 +129,10 @@ fn run_all<R: Env + Files<File = File>>(
     page: &mut [u8; PAGE],
     kept: &mut [u8; ROOM],
     state: State,
-    first: usize,
 ) -> State {
+    let Some(first) = next_file(rt, 2) else {
+        return state;
+    };
     if state.options.draws {
         return with_file(rt, stdin, page, kept, state, first, false);
     }
@@ -155,7 +151,7 @@ fn run_loads<R: Env + Files<File = File>>(
     if state.tally.has_fault() {
         return state;
     }
-    let done = run_all(rt, stdin, page, kept, state, next_file(rt, 2));
+    let done = run_all(rt, stdin, page, kept, state);
     let read = corrected::unmet(page, kept, done, done.corrections);
     met(page, kept, read)
 }
@@ -166,7 +162,7 @@ fn options_of(given: Arguments) -> Options {
         registers: given.registers,
         wave: given.wave | given.draws(),
         room: given.room,
-        trace: given.trace,
+        trace: given.trace.is_some(),
         night: given.nights(),
         draws: given.draws(),
         svg: given.svg,
@@ -177,7 +173,9 @@ fn options_of(given: Arguments) -> Options {
 fn run<R: Env + Files<File = File>>(rt: &R, stdin: Stdin, given: Arguments) {
     let mut page = [0u8; PAGE];
     let mut kept = [0u8; ROOM];
-    sources::keep(rt, &mut kept, ASKED_AT, given.trace);
+    if let Some(argument) = given.trace {
+        sources::keep(rt, &mut kept, ASKED_AT, argument);
+    }
     let header = b"  load       title          winner    bytes verdict";
     let at = line_numbers(&mut page, 0, given.table, header, &[]);
     let begun = state::begun(options_of(given)).moved(at);
@@ -187,9 +185,9 @@ fn run<R: Env + Files<File = File>>(rt: &R, stdin: Stdin, given: Arguments) {
 }
 
 // `error`, and what is wrong with the arguments.
-fn refuse(page: &mut [u8; PAGE], given: Arguments) {
+fn refuse(page: &mut [u8; PAGE], problem: Problem) {
     let word = put_bytes(page, 0, b"error ");
-    let words = given.problem.put(page, word);
+    let words = problem.put(page, word);
     let end = put_byte(page, words, b'\n');
     flush(page, end);
 }
@@ -197,9 +195,8 @@ fn refuse(page: &mut [u8; PAGE], given: Arguments) {
 fn main(rt: HostRuntime) {
     let mut page = [0u8; PAGE];
     let given = arguments::parse(&rt);
-    if given.is_broken() {
-        refuse(&mut page, given);
-    } else {
-        run(&rt, rt.stdin(), given);
+    match given.problem {
+        Some(problem) => refuse(&mut page, problem),
+        None => run(&rt, rt.stdin(), given),
     }
 }

@@ -1,7 +1,5 @@
 // The names of a file's loads, each with the line that took it: slots that are found by a number made of the name.
-use crate::kept::{NAMED, NAMES, NAMES_AT, ROOM, keep, number_in, text_in};
-use crate::rows::shifted;
-use check::same;
+use crate::kept::{NAMED, NAMES, NAMES_AT, ROOM, cell_at, keep, number_in, text_in};
 use load_text::LOAD_NAME;
 use text::{put_byte, put_decimal};
 
@@ -16,12 +14,7 @@ fn mixed(number: u64, b: u8) -> u64 {
 
 // The slot at which to look first.
 fn slot_of(name: &[u8]) -> usize {
-    let mut number: u64 = 0;
-    let mut i = 0;
-    while i < name.len() {
-        number = mixed(number, name[i]);
-        i += 1;
-    }
+    let number: u64 = name.iter().fold(0, |number, b| mixed(number, *b));
     number as usize % NAMES
 }
 
@@ -31,15 +24,11 @@ fn after(slot: usize) -> usize {
 
 // Where the name of a slot is kept, and its line.
 fn cell_of(slot: usize) -> usize {
-    if slot < NAMES {
-        NAMES_AT + slot * NAMED
-    } else {
-        NAMES_AT
-    }
+    cell_at(NAMES_AT, NAMED, NAMES, slot)
 }
 
 fn line_of(slot: usize) -> usize {
-    shifted(cell_of(slot), LOAD_NAME)
+    cell_of(slot).saturating_add(LOAD_NAME)
 }
 
 fn is_free(kept: &[u8], slot: usize) -> bool {
@@ -48,38 +37,34 @@ fn is_free(kept: &[u8], slot: usize) -> bool {
 
 // The slot is free, or has this name.
 fn suits(kept: &[u8], slot: usize, name: &[u8]) -> bool {
-    is_free(kept, slot) | same(text_in(kept, cell_of(slot), LOAD_NAME), name)
+    is_free(kept, slot) | (text_in(kept, cell_of(slot), LOAD_NAME) == name)
 }
 
 fn find(kept: &[u8], name: &[u8]) -> usize {
     let mut slot = slot_of(name);
-    let mut left = NAMES;
-    while left > 0 {
+    for _ in 0..NAMES {
         if suits(kept, slot, name) {
             return slot;
         }
         slot = after(slot);
-        left -= 1;
     }
     slot
 }
 
 // Takes a name for the load of a line, where it is free; else answers the line that took it.
-pub(crate) fn take(kept: &mut [u8; ROOM], name: &[u8], line: u64) -> u64 {
+pub(crate) fn take(kept: &mut [u8; ROOM], name: &[u8], line: u64) -> Option<u64> {
     let slot = find(kept, name);
     if !is_free(kept, slot) {
-        return number_in(kept, line_of(slot));
+        return Some(number_in(kept, line_of(slot)));
     }
     keep(kept, cell_of(slot), NAMED, name);
     put_decimal(kept, line_of(slot), line);
-    0
+    None
 }
 
 // Every name is free.
 pub(crate) fn clear(kept: &mut [u8; ROOM]) {
-    let mut slot: usize = 0;
-    while slot < NAMES {
+    for slot in 0..NAMES {
         put_byte(kept, cell_of(slot), 0);
-        slot += 1;
     }
 }

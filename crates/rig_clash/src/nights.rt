@@ -1,11 +1,10 @@
 // What the night of a load comes to: the losers try again, until every message is carried.
 use crate::load::Load;
 use crate::outcome::refused_first;
-use crate::{kept, request};
+use crate::request;
 use arbitration_rules::MAX_MASTERS;
 use load_text::master_of;
 use night::NightRun;
-use rig_lines::parts;
 use usi::Usi;
 use verdict::Verdict;
 
@@ -21,28 +20,20 @@ pub(crate) struct Night {
 }
 
 impl Night {
-    // The round that carries a board's message; 0 where it is silent.
-    fn round_of(self, load: Load, board: usize) -> usize {
-        let rounds = self.rounds;
-        let silent = load.silent;
-        let master = master_of(silent, board);
+    // The round that carries a board's message, unless it is silent.
+    fn round_of(self, load: Load, board: usize) -> Option<usize> {
         if load.is_silent(board) {
-            return 0;
+            return None;
         }
-        if master < MAX_MASTERS {
-            rounds[master] as usize
-        } else {
-            0
-        }
+        let round = self.rounds.get(master_of(load.silent, board))?;
+        Some(*round as usize)
     }
 
     // The boards that a round does not carry.
     pub(crate) fn others(self, load: Load, round: usize) -> [bool; MAX_MASTERS] {
         let mut others = [true; MAX_MASTERS];
-        let mut board: usize = 0;
-        while board < MAX_MASTERS {
-            others[board] = self.round_of(load, board) != round;
-            board += 1;
+        for (board, other) in others.iter_mut().enumerate() {
+            *other = self.round_of(load, board) != Some(round);
         }
         others
     }
@@ -50,18 +41,17 @@ impl Night {
     // The load has no `expect`, or the first round went as it says.
     pub(crate) fn is_expected(self, load: Load) -> bool {
         let length = load.length_of(load.winner) as u64;
-        let first = self.round_of(load, load.winner) == 1;
-        (load.expect_line == 0) | (first & (load.carried == length) & (load.length == length))
+        let first = self.round_of(load, load.winner) == Some(1);
+        load.expect_line.is_none() | (first & (load.carried == length) & (load.length == length))
     }
 }
 
 // What the library says.
 fn told(load: Load, done: NightRun) -> Night {
-    let refusal = done.refusal;
     let rounds = done.rounds;
     Night {
-        verdict: refused_first(load, verdict_of(refusal.number, done.count)),
-        place: refusal.place,
+        verdict: refused_first(load, verdict_of(done.refusal.number, done.count)),
+        place: done.refusal.place,
         count: done.count,
         rounds,
     }
@@ -78,16 +68,11 @@ fn verdict_of(number: u8, count: usize) -> Verdict {
 pub(crate) fn of(kept: &[u8], load: Load) -> Night {
     let table = [Usi::power_up(0, 0); MAX_MASTERS];
     let request = request::of(kept, load);
-    let bytes = request.bytes;
-    let lengths = request.parts;
-    let counts = request.counts;
-    let parted = parts::stamps(request.parted, &lengths);
-    let count = parts::stamps(request.count, &counts);
     let done = night::rehearse(
         table,
-        kept::part(&bytes, 0, request.size),
-        &lengths[..parted],
-        &counts[..count],
+        request.bytes(),
+        request.parts(),
+        request.counts(),
         request::acks(kept, load),
         MAX_MASTERS,
         MAX_MASTERS,

@@ -1,9 +1,9 @@
 // The statement `load`, which begins a load.
+use crate::forms::Form;
 use crate::kept::{ACKS, ACKS_AT, NAME_AT, ROOM, TITLE, TITLE_AT};
 use crate::state::State;
-use crate::{forms, kept, load, names};
+use crate::{kept, load, names};
 use load_text::{LOAD_NAME, is_load_name};
-use rig_lines::numbers::more;
 use text::{after_word, first_word, put_byte, put_bytes};
 
 fn put_blank(room: &mut [u8], at: usize) -> usize {
@@ -20,8 +20,7 @@ fn put_joined(room: &mut [u8], words: &[u8]) -> usize {
     while first_word(rest).len() > 0 {
         at = put_blank(room, at);
         at = put_bytes(room, at, first_word(rest));
-        let next = after_word(rest);
-        rest = next;
+        rest = after_word(rest);
     }
     at
 }
@@ -44,14 +43,13 @@ fn keep_name(kept: &mut [u8; ROOM], name: &[u8]) {
 
 // A load of which nothing but its first line is read.
 fn opened(mut state: State) -> State {
-    let loads = more(state.file.loads);
     state.load = load::begun(
         state.source.line,
-        state.file.named,
+        state.file.is_named(),
         state.file.boards,
         state.file.widest,
     );
-    state.file.loads = loads;
+    state.file.loads = state.file.loads.saturating_add(1);
     state.with_tally(state.tally.with_load())
 }
 
@@ -74,33 +72,33 @@ fn keep_first(kept: &mut [u8; ROOM], name: &[u8]) {
 fn begun(kept: &mut [u8; ROOM], state: State, words: &[u8]) -> State {
     let name = first_word(words);
     let extra = first_word(after_word(words));
-    let long = with_title(kept, state.file.named, words);
+    let long = with_title(kept, state.file.is_named(), words);
     if name.len() == 0 {
-        return state.wrong_by(forms::NO_NAME, 0);
+        return state.wrong_by(Form::NoName, 0);
     }
     if !is_load_name(name) {
-        return state.wrong(forms::LOAD_NAME, name, 0);
+        return state.wrong(Form::LoadName, name, 0);
     }
-    if !state.file.named {
+    if !state.file.is_named() {
         if extra.len() > 0 {
-            return state.wrong(forms::TITLE, extra, 0);
+            return state.wrong(Form::Title, extra, 0);
         }
         return state;
     }
     let taken = names::take(kept, name, state.source.line);
     if long {
-        return state.wrong_by(forms::LONG_TITLE, 0);
+        return state.wrong_by(Form::LongTitle, 0);
     }
-    if taken > 0 {
-        return state.wrong_by(forms::TAKEN, taken);
+    match taken {
+        Some(line) => state.wrong_by(Form::Taken, line),
+        None => state,
     }
-    state
 }
 
 // The next load of a file: `load NAME TITLE`.
 pub(crate) fn with_load(kept: &mut [u8; ROOM], state: State, words: &[u8]) -> State {
-    if state.file.named & (state.file.loads >= names::LOADS) {
-        return state.wrong_by(forms::MANY_LOADS, 0).done();
+    if state.file.is_named() & (state.file.loads >= names::LOADS) {
+        return state.wrong_by(Form::ManyLoads, 0).done();
     }
     keep_first(kept, first_word(words));
     begun(kept, opened(state), words)

@@ -4,32 +4,20 @@ use crate::load::Load;
 use arbitration_rules::MAX_LENGTH;
 
 pub(crate) fn byte_at(bytes: &[u8], at: usize) -> u8 {
-    if at < bytes.len() { bytes[at] } else { 0 }
+    bytes.get(at).copied().unwrap_or(0)
 }
 
-// The first acknowledge above a value.
+// How many acknowledges stand before the first above a value.
 pub(crate) fn first_above(acks: &[u8], value: u8) -> usize {
-    let mut i = 0;
-    while i < acks.len() {
-        if acks[i] > value {
-            return i;
-        }
-        i += 1;
-    }
-    i
+    acks.iter()
+        .position(|ack| *ack > value)
+        .unwrap_or(acks.len())
 }
 
-// The first of the longest boards.
-pub(crate) fn longest(load: Load) -> usize {
+// The first of the longest boards, where there is one.
+pub(crate) fn longest(load: Load) -> Option<usize> {
     let most = load.longest();
-    let mut board: usize = 0;
-    while board < load.boards {
-        if !load.is_silent(board) & (load.length_of(board) == most) {
-            return board;
-        }
-        board += 1;
-    }
-    board
+    (0..load.boards).find(|board| !load.is_silent(*board) & (load.length_of(*board) == most))
 }
 
 pub(crate) fn message(kept: &[u8], load: Load, board: usize) -> &[u8] {
@@ -50,16 +38,14 @@ pub(crate) fn parts(kept: &[u8], load: Load, board: usize) -> &[u8] {
     )
 }
 
-// The first byte of a part that is odd, a read.
+// How many bytes stand before the first byte of a part that is odd, a read.
 pub(crate) fn first_read(message: &[u8], parts: &[u8]) -> usize {
-    let mut i = 0;
-    while i < message.len() {
-        if (message[i] % 2 == 1) & (byte_at(parts, i) > 0) {
+    for (i, byte) in message.iter().enumerate() {
+        if (*byte % 2 == 1) & (byte_at(parts, i) > 0) {
             return i;
         }
-        i += 1;
     }
-    i
+    message.len()
 }
 
 // What stands at a place, as messages are ordered: a part's first byte is below a STOP, and any other above.
@@ -82,14 +68,10 @@ fn symbol(message: &[u8], parts: &[u8], place: usize) -> u16 {
 
 // How many bytes at their fronts two messages have in common, with their parts.
 fn common(message: &[u8], parts: &[u8], other: &[u8], other_parts: &[u8]) -> usize {
-    let mut i = 0;
-    while i < message.len() {
-        if symbol(message, parts, i) != symbol(other, other_parts, i) {
-            return i;
-        }
-        i += 1;
-    }
-    i
+    let count = message.len();
+    (0..count)
+        .find(|i| symbol(message, parts, *i) != symbol(other, other_parts, *i))
+        .unwrap_or(count)
 }
 
 // Where a board's message first differs from another's, by the bytes before; its length where it does not.
@@ -130,13 +112,7 @@ fn lesser(kept: &[u8], load: Load, best: usize, board: usize) -> usize {
 
 // The first board with the least message.
 pub(crate) fn least(kept: &[u8], load: Load) -> usize {
-    let mut best: usize = 0;
-    let mut board: usize = 0;
-    while board < load.boards {
-        best = lesser(kept, load, best, board);
-        board += 1;
-    }
-    best
+    (0..load.boards).fold(0, |best, board| lesser(kept, load, best, board))
 }
 
 // The lesser of two symbols is an ending, a restart or a STOP, and the other is not the same one.
@@ -155,30 +131,16 @@ fn parts_from(kept: &[u8], load: Load, least: usize, board: usize, acked: usize)
 }
 
 // The first such board; acked: how many bytes are acknowledged, from the first on.
-pub(crate) fn parted_from(kept: &[u8], load: Load, least: usize, acked: usize) -> usize {
-    let mut board: usize = 0;
-    while board < load.boards {
-        if parts_from(kept, load, least, board, acked) {
-            return board;
-        }
-        board += 1;
-    }
-    board
+pub(crate) fn parted_from(kept: &[u8], load: Load, least: usize, acked: usize) -> Option<usize> {
+    (0..load.boards).find(|board| parts_from(kept, load, least, *board, acked))
 }
 
 // A board ends or restarts where another, whose message is the greater there, does not.
 fn ends_first(kept: &[u8], load: Load, board: usize) -> bool {
-    !load.is_silent(board) & (parted_from(kept, load, board, MAX_LENGTH) < load.boards)
+    !load.is_silent(board) & parted_from(kept, load, board, MAX_LENGTH).is_some()
 }
 
 // The first such board.
-pub(crate) fn first_ending(kept: &[u8], load: Load) -> usize {
-    let mut board: usize = 0;
-    while board < load.boards {
-        if ends_first(kept, load, board) {
-            return board;
-        }
-        board += 1;
-    }
-    board
+pub(crate) fn first_ending(kept: &[u8], load: Load) -> Option<usize> {
+    (0..load.boards).find(|board| ends_first(kept, load, *board))
 }

@@ -1,11 +1,10 @@
 // What the rehearsal of a load comes to.
 use crate::load::Load;
+use crate::order::byte_at;
 use crate::{kept, order, request};
 use arbitration::Rehearsed;
 use arbitration_rules::{MAX_LENGTH, MAX_MASTERS, Seat};
 use load_text::{count_parts, master_of};
-use rig_lines::numbers::least;
-use rig_lines::parts;
 use usi::Usi;
 use verdict::Verdict;
 
@@ -21,7 +20,7 @@ pub(crate) const LEVELS: usize = START + (BYTE + END) * MAX_LENGTH;
 
 // How many levels are recorded for so many bytes, in so many parts.
 pub(crate) fn recorded(bytes: usize, parts: usize) -> usize {
-    START + BYTE * least(bytes, MAX_LENGTH) + END * least(parts, MAX_LENGTH)
+    START + BYTE * bytes.min(MAX_LENGTH) + END * parts.min(MAX_LENGTH)
 }
 
 #[derive(Clone, Copy)]
@@ -45,41 +44,27 @@ pub(crate) struct Outcome {
 
 impl Outcome {
     pub(crate) fn is_refused(self) -> bool {
-        let verdict = self.verdict;
-        is_refusal(verdict)
+        is_refusal(self.verdict)
     }
 
     pub(crate) fn is_undecided(self) -> bool {
-        let verdict = self.verdict;
-        if let Verdict::Undecided = verdict {
-            true
-        } else {
-            false
-        }
+        matches!(self.verdict, Verdict::Undecided)
     }
 
     // The load is one to see.
     pub(crate) fn is_marked(self) -> bool {
-        let verdict = self.verdict;
-        is_seen(verdict, self.expected)
+        is_seen(self.verdict, self.expected)
     }
 
     // What became of a board that is not silent.
     pub(crate) fn seat_of(self, load: Load, board: usize) -> Seat {
-        let seats = self.seats;
-        let silent = load.silent;
-        seat_at(seats, master_of(silent, board))
+        let master = master_of(load.silent, board);
+        self.seats.get(master).copied().unwrap_or(self.seats[0])
     }
 
     pub(crate) fn module_of(self, load: Load, board: usize) -> Usi {
-        let modules = self.modules;
-        let silent = load.silent;
-        let master = master_of(silent, board);
-        if master < MAX_MASTERS {
-            modules[master]
-        } else {
-            modules[0]
-        }
+        let master = master_of(load.silent, board);
+        self.modules.get(master).copied().unwrap_or(self.modules[0])
     }
 
     // A board is still in.
@@ -91,102 +76,68 @@ impl Outcome {
     // The boards that are not.
     pub(crate) fn others(self, load: Load) -> [bool; MAX_MASTERS] {
         let mut others = [true; MAX_MASTERS];
-        let mut board: usize = 0;
-        while board < MAX_MASTERS {
-            others[board] = !self.contends(load, board);
-            board += 1;
+        for (board, other) in others.iter_mut().enumerate() {
+            *other = !self.contends(load, board);
         }
         others
     }
 }
 
 pub(crate) fn is_refusal(verdict: Verdict) -> bool {
-    if let Verdict::Refused(_) = verdict {
-        true
-    } else {
-        false
-    }
+    matches!(verdict, Verdict::Refused(_))
 }
 
 // A load to see: all but one that was sent as expected.
 pub(crate) fn is_seen(verdict: Verdict, expected: bool) -> bool {
-    match verdict {
-        Verdict::Sent(_) => !expected,
-        _ => true,
-    }
-}
-
-fn seat_at(seats: [Seat; MAX_MASTERS], master: usize) -> Seat {
-    if master < MAX_MASTERS {
-        seats[master]
-    } else {
-        seats[0]
-    }
+    !matches!(verdict, Verdict::Sent(_)) | !expected
 }
 
 // The load went as its `expect` says, or has none.
 fn as_expected(load: Load, outcome: Outcome) -> bool {
-    let verdict = outcome.verdict;
-    if load.expect_line == 0 {
+    if load.expect_line.is_none() {
         return true;
     }
     let whole = (load.length_of(load.winner) as u64 == load.length)
         & (outcome.count as u64 == load.carried);
-    match verdict {
-        Verdict::Sent(_) => whole & outcome.contends(load, load.winner),
-        Verdict::Cut(_) => whole & outcome.contends(load, load.winner),
+    match outcome.verdict {
+        Verdict::Sent(_) | Verdict::Cut(_) => whole & outcome.contends(load, load.winner),
         _ => false,
     }
 }
 
 // The first board that is still in.
-fn winner(load: Load, outcome: Outcome) -> usize {
-    let mut board: usize = 0;
-    while board < load.boards {
-        if outcome.contends(load, board) {
-            return board;
-        }
-        board += 1;
-    }
-    board
+fn winner(load: Load, outcome: Outcome) -> Option<usize> {
+    (0..load.boards).find(|board| outcome.contends(load, *board))
 }
 
 fn last(carried: &[u8], count: usize) -> u8 {
     if count == 0 {
         return 0;
     }
-    let before = count - 1;
-    if before < carried.len() {
-        carried[before]
-    } else {
-        0
-    }
+    byte_at(carried, count - 1)
 }
 
 // With the first board that is still in, and what follows from its message.
 fn with_winner(kept: &[u8], load: Load, mut outcome: Outcome) -> Outcome {
-    let board = winner(load, outcome);
+    let board = winner(load, outcome).unwrap_or(load.boards);
     let parts = kept::part(order::parts(kept, load, board), 0, outcome.count);
     let levels = recorded(outcome.count, count_parts(parts));
-    let length = load.length_of(board);
     outcome.winner = board;
-    outcome.length = length as usize;
+    outcome.length = load.length_of(board) as usize;
     outcome.levels = levels;
-    let expected = as_expected(load, outcome);
-    outcome.expected = expected;
+    outcome.expected = as_expected(load, outcome);
     outcome
 }
 
 // The outcome of a rehearsal.
 fn told(kept: &[u8], load: Load, done: Rehearsed, verdict: Verdict, carried: &[u8]) -> Outcome {
     let reply = done.reply;
-    let refusal = reply.refusal;
     let seats = reply.seats;
     let modules = done.modules;
     let outcome = Outcome {
         verdict,
         expected: true,
-        place: refusal.place,
+        place: reply.refusal.place,
         count: reply.count,
         last: last(carried, reply.count),
         levels: 0,
@@ -200,30 +151,13 @@ fn told(kept: &[u8], load: Load, done: Rehearsed, verdict: Verdict, carried: &[u
 
 // Corrections that the library refuses are a refusal of the load.
 pub(crate) fn refused_first(load: Load, verdict: Verdict) -> Verdict {
-    if load.number > 0 {
-        return Verdict::Refused(load.number);
+    match load.number {
+        Some(number) => Verdict::Refused(number),
+        None => verdict,
     }
-    verdict
 }
 
-// The messages of the masters, rehearsed and judged.
-fn rehearsed(
-    kept: &[u8],
-    load: Load,
-    bytes: &[u8],
-    parts: &[u32],
-    counts: &[u32],
-    acks: &[u8],
-    carried: &mut [u8],
-    levels: &mut [u8],
-) -> Outcome {
-    let table = [Usi::power_up(0, 0); MAX_MASTERS];
-    let done = arbitration::rehearse(table, bytes, parts, counts, acks, carried, levels);
-    let verdict = verdict::judge(done.reply, bytes, parts, counts, acks);
-    told(kept, load, done, refused_first(load, verdict), carried)
-}
-
-// Rehearses a load.
+// Rehearses a load and judges it; so much of the room for its levels is lent.
 pub(crate) fn of(
     kept: &[u8],
     load: Load,
@@ -231,21 +165,15 @@ pub(crate) fn of(
     carried: &mut [u8],
     levels: &mut [u8],
 ) -> Outcome {
+    let table = [Usi::power_up(0, 0); MAX_MASTERS];
     let request = request::of(kept, load);
-    let bytes = request.bytes;
-    let lengths = request.parts;
-    let counts = request.counts;
-    let parted = parts::stamps(request.parted, &lengths);
-    let count = parts::stamps(request.count, &counts);
-    let part = parts::bytes(room, levels);
-    rehearsed(
-        kept,
-        load,
-        kept::part(&bytes, 0, request.size),
-        &lengths[..parted],
-        &counts[..count],
-        request::acks(kept, load),
-        carried,
-        &mut levels[..part],
-    )
+    let bytes = request.bytes();
+    let parts = request.parts();
+    let counts = request.counts();
+    let acks = request::acks(kept, load);
+    let lent = room.min(levels.len());
+    let room = &mut levels[..lent];
+    let done = arbitration::rehearse(table, bytes, parts, counts, acks, carried, room);
+    let verdict = verdict::judge(done.reply, bytes, parts, counts, acks);
+    told(kept, load, done, refused_first(load, verdict), carried)
 }

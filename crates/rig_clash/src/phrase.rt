@@ -2,10 +2,8 @@
 use crate::columns::pad;
 use crate::kept;
 use crate::order::byte_at;
-use crate::rows::{before, less, shifted};
 use rig_lines::console::{PAGE, begin, note, put_form, put_shown};
 use rig_lines::files::put_reason;
-use rig_lines::lists::line_of;
 use text::{put_byte, put_bytes, put_decimal, put_hex_byte};
 
 // What stands for the next number, in decimal or as two hexadecimal digits; for `s`, unless the number before was 1.
@@ -40,40 +38,41 @@ const COLUMN: u8 = b'_';
 const PASSED: u8 = b'?';
 
 fn number_at(numbers: &[u64], place: usize) -> u64 {
-    if place < numbers.len() {
-        numbers[place]
-    } else {
-        0
-    }
+    numbers.get(place).copied().unwrap_or(0)
 }
 
 // The place after a byte of the words.
 fn after(b: u8, place: usize) -> usize {
     match b {
-        DECIMAL | HEX | NAME | BOARD | FILE | REASON | COLUMN | PASSED => shifted(place, 1),
-        MESSAGE => shifted(place, 3),
+        DECIMAL | HEX | NAME | BOARD | FILE | REASON | COLUMN | PASSED => place.saturating_add(1),
+        MESSAGE => place.saturating_add(3),
         _ => place,
     }
 }
 
 fn put_title(page: &mut [u8; PAGE], at: usize, title: &[u8]) -> usize {
-    let space = put_bytes(page, at, line_of(b" ", (title.len() == 0) as usize));
+    let space = put_bytes(page, at, if title.len() == 0 { b"" } else { b" " });
     put_bytes(page, space, title)
 }
 
 // A board by its name, or by its number and its name.
 fn put_board(page: &mut [u8; PAGE], at: usize, name: &[u8], number: u64, both: bool) -> usize {
-    let form = shifted(either(both, 2, 0), (name.len() > 0) as usize);
-    let front = put_form(page, at, line_of(b"board #\n\n#\n# ", form), &[number]);
+    let words: &[u8] = match (both, name.len() > 0) {
+        (false, false) => b"board #",
+        (false, true) => b"",
+        (true, false) => b"#",
+        (true, true) => b"# ",
+    };
+    let front = put_form(page, at, words, &[number]);
     put_bytes(page, front, name)
 }
 
-// What stands before a byte of a message: nothing, a space, or ` / ` where a part begins.
-pub(crate) fn gap_of(i: usize, part: u8) -> usize {
+// What stands before a byte of a message: nothing, what stands between two bytes, or ` / ` where a part begins.
+pub(crate) fn gap_of(i: usize, part: u8, between: &'static [u8]) -> &'static [u8] {
     if i == 0 {
-        return 0;
+        return b"";
     }
-    either(part > 0, 2, 1)
+    if part > 0 { b" / " } else { between }
 }
 
 // A file by its name, or standard input.
@@ -97,20 +96,18 @@ fn put_message(
         kept,
         kept::row_of(kept::MESSAGES_AT, board),
         start,
-        less(end, start),
+        end.saturating_sub(start),
     );
     let parts = kept::row(
         kept,
         kept::row_of(kept::PARTS_AT, board),
         start,
-        less(end, start),
+        end.saturating_sub(start),
     );
     let mut next = at;
-    let mut i = 0;
-    while i < message.len() {
-        let words = line_of(b"%\n %\n / %", gap_of(i, byte_at(parts, i)));
-        next = put_form(page, next, words, &[byte_at(message, i) as u64]);
-        i += 1;
+    for (i, byte) in message.iter().enumerate() {
+        let gap = put_bytes(page, next, gap_of(i, byte_at(parts, i), b" "));
+        next = put_hex_byte(page, gap, *byte);
     }
     next
 }
@@ -125,11 +122,11 @@ fn put_kept(
     place: usize,
 ) -> usize {
     let number = number_at(numbers, place);
-    let one = number_at(numbers, before(place)) == 1;
-    let start = number_at(numbers, shifted(place, 1)) as usize;
-    let end = number_at(numbers, shifted(place, 2)) as usize;
+    let one = number_at(numbers, place.saturating_sub(1)) == 1;
+    let start = number_at(numbers, place.saturating_add(1)) as usize;
+    let end = number_at(numbers, place.saturating_add(2)) as usize;
     match b {
-        PLURAL => put_bytes(page, at, line_of(b"s", one as usize)),
+        PLURAL => put_bytes(page, at, if one { b"" } else { b"s" }),
         LOAD => put_bytes(page, at, kept::name(kept)),
         TITLE => put_title(page, at, kept::title(kept)),
         MESSAGE => put_message(page, at, kept, number as usize, start, end),
@@ -175,11 +172,9 @@ pub(crate) fn put_in(
 ) -> usize {
     let mut next = at;
     let mut place: usize = 0;
-    let mut i = 0;
-    while i < words.len() {
-        next = put_mark(page, from, next, kept, words[i], numbers, place);
-        place = after(words[i], place);
-        i += 1;
+    for b in words {
+        next = put_mark(page, from, next, kept, *b, numbers, place);
+        place = after(*b, place);
     }
     next
 }
@@ -264,9 +259,4 @@ pub(crate) fn line_numbers(
     numbers: &[u64],
 ) -> usize {
     put_line(page, at, words, wanted, words, numbers)
-}
-
-// One place or another.
-pub(crate) fn either(first: bool, one: usize, other: usize) -> usize {
-    if first { one } else { other }
 }

@@ -1,5 +1,5 @@
 // What is wrong with a line: words with marks, and what they stand for. It is said once the line is followed.
-use crate::forms;
+use crate::forms::Form;
 use crate::kept::part;
 use crate::phrase::put_numbers;
 use rig_lines::console::{PAGE, put_count, put_quoted};
@@ -20,44 +20,37 @@ const LOADS: u8 = b'&';
 
 const LAST: u8 = b'^';
 
+// What is not read for what is wrong: the line, anything of the file, or the rest of it.
+#[derive(Clone, Copy, PartialEq, Eq)]
+pub(crate) enum Reach {
+    Line,
+    File,
+    Rest,
+}
+
 #[derive(Clone, Copy)]
 pub(crate) struct Problem {
-    // the line that is wrong, 0: none in particular
-    pub(crate) line: u64,
-    // the words, by number; the word that was met
-    form: usize,
+    // the line that is wrong, where it is one in particular
+    pub(crate) line: Option<u64>,
+    // the words; the word that was met
+    form: Form,
     word: [u8; WORD],
     size: usize,
     number: u64,
     // how many loads the file has up to here, and the line of the last
     loads: u64,
     load_line: u64,
-    // for this nothing of the file is read, or no more of it
-    pub(crate) unread: bool,
-    pub(crate) last: bool,
-}
-
-pub(crate) fn none() -> Problem {
-    Problem {
-        line: 0,
-        form: forms::NONE,
-        word: [0; WORD],
-        size: 0,
-        number: 0,
-        loads: 0,
-        load_line: 0,
-        unread: false,
-        last: false,
-    }
+    pub(crate) reach: Reach,
 }
 
 pub(crate) fn of(
-    line: u64,
-    form: usize,
+    line: Option<u64>,
+    form: Form,
     word: &[u8],
     number: u64,
     loads: u64,
     load_line: u64,
+    reach: Reach,
 ) -> Problem {
     let mut met = [0u8; WORD];
     let size = put_bytes(&mut met, 0, word);
@@ -69,24 +62,17 @@ pub(crate) fn of(
         number,
         loads,
         load_line,
-        unread: false,
-        last: false,
+        reach,
     }
 }
 
 impl Problem {
-    pub(crate) fn is_none(self) -> bool {
-        self.form == forms::NONE
-    }
-
     pub(crate) fn put(self, page: &mut [u8; PAGE], at: usize) -> usize {
-        let word = self.word;
-        let met = part(&word, 0, self.size);
-        forms::put(
+        put_words(
             page,
             at,
-            self.form,
-            met,
+            self.form.words(),
+            part(&self.word, 0, self.size),
             self.number,
             self.loads,
             self.load_line,
@@ -131,10 +117,8 @@ pub(crate) fn put_words(
     last: u64,
 ) -> usize {
     let mut next = at;
-    let mut i = 0;
-    while i < form.len() {
-        next = put_mark(page, next, form[i], word, number, loads, last);
-        i += 1;
+    for b in form {
+        next = put_mark(page, next, *b, word, number, loads, last);
     }
     next
 }

@@ -1,18 +1,19 @@
 // A file of loads, or of corrections, line by line.
+use crate::forms::Form;
 use crate::kept::ROOM;
 use crate::sources::PIECE;
 use crate::state::State;
-use crate::{complaints, corrections, ending, forms, statements};
+use crate::{complaints, corrections, ending, statements};
 use rig_lines::console::{PAGE, flush};
 use rig_lines::files::Reader;
 use rig_lines::input;
 use rig_lines::input::{Line, Source};
 
 // Why a line is none of text.
-pub(crate) fn form_of(found: Line) -> usize {
+pub(crate) fn form_of(found: Line) -> Form {
     match found {
-        Line::TooLong => forms::LONG_LINE,
-        _ => forms::NO_TEXT,
+        Line::TooLong => Form::LongLine,
+        _ => Form::NoText,
     }
 }
 
@@ -73,13 +74,11 @@ fn run_lines(
     line: &mut [u8; input::ROOM],
 ) -> State {
     let mut state = begun;
-    let mut turns = u64::MAX;
-    while turns > 0 {
+    for _ in 0..u64::MAX {
         if !state.file.more {
             return state;
         }
         state = with_line(reader, page, kept, state, piece, line);
-        turns -= 1;
     }
     state
 }

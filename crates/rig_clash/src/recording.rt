@@ -3,15 +3,14 @@ use crate::kept;
 use crate::kept::part;
 use crate::outcome::{LEVELS, Outcome};
 use crate::phrase::begin_numbers;
-use check::same;
 use rig_lines::console::PAGE;
 
 // From one sample to the next.
 const GAP: u64 = 50;
 
-// The load that is being read has the name that an argument is; argument 0: any name.
-pub(crate) fn is_asked(kept: &[u8], argument: usize) -> bool {
-    (argument == 0) | same(kept::asked(kept), kept::name(kept))
+// The load that is being read is the one that is asked for by name.
+pub(crate) fn is_asked(kept: &[u8]) -> bool {
+    kept::asked(kept) == kept::name(kept)
 }
 
 fn stamp(sample: usize) -> u64 {
@@ -28,10 +27,8 @@ fn put_sample(page: &mut [u8; PAGE], at: usize, sample: usize, level: u8) -> usi
 
 fn put_samples(page: &mut [u8; PAGE], at: usize, levels: &[u8]) -> usize {
     let mut next = at;
-    let mut i = 0;
-    while i < levels.len() {
-        next = put_sample(page, next, i, levels[i]);
-        i += 1;
+    for (i, level) in levels.iter().enumerate() {
+        next = put_sample(page, next, i, *level);
     }
     next
 }

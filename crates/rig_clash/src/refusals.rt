@@ -2,13 +2,11 @@
 use crate::kept::{ACKS, ACKS_AT};
 use crate::load::Load;
 use crate::order::byte_at;
-use crate::phrase::{either, put, put_front};
-use crate::rows::shifted;
+use crate::phrase::{put, put_front};
 use crate::{kept, order};
 use arbitration_rules::MAX_LENGTH;
 use load_text::board_of;
 use rig_lines::console::PAGE;
-use rig_lines::lists::line_of;
 use text::put_byte;
 
 // Where a refusal is said: in a block, in the table, or in the block of a night.
@@ -19,51 +17,14 @@ pub(crate) enum Stage {
     Night,
 }
 
-// The places of the words in their list, by what they are about; where there are two, those of a block stand first,
-// and those of the table after them.
-const SILENT: usize = 0;
-
-const NO_BOARD: usize = 1;
-
-const MANY_BOARDS: usize = 2;
-
-const EMPTY: usize = 4;
-
-const LONG: usize = 6;
-
-const BEGUN_BY_READ: usize = 8;
-
-const RESTARTED_BY_READ: usize = 10;
-
-const ACK_COUNT: usize = 12;
-
-const ACK_VALUE: usize = 14;
-
-// The other message goes on, or ends.
-const ENDED: usize = 16;
-
-const RESTARTED: usize = 18;
-
-const BEGINS: usize = 20;
-
-const RESTARTS: usize = 21;
-
-const UNACKNOWLEDGED: usize = 22;
-
-const NOT_RISING: usize = 23;
-
-const NOT_FITTING: usize = 24;
-
-const LITTLE_ROOM: usize = 25;
-
-// Words by their place, and their numbers.
+// Words with marks, and their numbers.
 #[derive(Clone, Copy)]
 struct Words {
-    form: usize,
+    form: &'static [u8],
     numbers: [u64; 8],
 }
 
-fn by(form: usize, a: u64, b: u64, c: u64) -> Words {
+fn by(form: &'static [u8], a: u64, b: u64, c: u64) -> Words {
     Words {
         form,
         numbers: [a, b, c, 0, 0, 0, 0, 0],
@@ -73,25 +34,65 @@ fn by(form: usize, a: u64, b: u64, c: u64) -> Words {
 // 12: there is no master, or there are too many.
 fn masters(load: Load, brief: bool) -> Words {
     if load.named {
-        return by(SILENT, 0, 0, 0);
+        return by(b"every board is silent", 0, 0, 0);
     }
-    let many = either(brief, MANY_BOARDS + 1, MANY_BOARDS);
-    by(either(load.rows == 0, NO_BOARD, many), load.rows, 0, 0)
+    if load.rows == 0 {
+        return by(b"no board", 0, 0, 0);
+    }
+    if brief {
+        return by(b"# boards", load.rows, 0, 0);
+    }
+    by(
+        b"# boards, and at most 16 may start together",
+        load.rows,
+        0,
+        0,
+    )
+}
+
+fn length_words(length: u64, brief: bool) -> &'static [u8] {
+    match (length == 0, brief) {
+        (true, false) => b"$ (line #) has no bytes",
+        (true, true) => b"$ has no bytes",
+        (false, false) => b"$ (line #) has # bytes, and at most 64 may be sent",
+        (false, true) => b"$? has # bytes",
+    }
+}
+
+fn read_words(place: usize, brief: bool) -> &'static [u8] {
+    match (place == 0, brief) {
+        (true, false) => b"$ (line #) begins with %, which is odd, a read",
+        (true, true) => b"$? begins with %",
+        (false, false) => b"$ (line #) restarts with %, which is odd, a read",
+        (false, true) => b"$? restarts with %",
+    }
 }
 
 // 13: a message of no bytes or too many. 14: one that begins, or restarts, with a read.
 fn of_message(kept: &[u8], load: Load, number: u8, board: usize, brief: bool) -> Words {
     let message = order::message(kept, load, board);
-    let line = load.line_of(board);
-    let table = brief as usize;
+    let line = load.line_of(board).unwrap_or(0);
     if number == 14 {
         let place = order::first_read(message, order::parts(kept, load, board));
-        let form = shifted(table, either(place == 0, BEGUN_BY_READ, RESTARTED_BY_READ));
-        return by(form, board as u64, line, byte_at(message, place) as u64);
+        let byte = byte_at(message, place);
+        return by(read_words(place, brief), board as u64, line, byte as u64);
     }
     let length = load.length_of(board) as u64;
-    let form = shifted(table, either(length == 0, EMPTY, LONG));
-    by(form, board as u64, line, length)
+    by(length_words(length, brief), board as u64, line, length)
+}
+
+fn value_words(brief: bool) -> &'static [u8] {
+    if brief {
+        return b"acknowledge #? is #";
+    }
+    b"acknowledge # (line #) is #, neither 0 nor 1"
+}
+
+fn count_words(brief: bool) -> &'static [u8] {
+    if brief {
+        return b"# acknowledge~? for #";
+    }
+    b"# acknowledge~ (line #) for the # byte~ of $ (line #), the longest"
 }
 
 // 15: acknowledges that are not as many as the longest message has bytes, or one above 1.
@@ -100,17 +101,21 @@ fn acknowledges(kept: &[u8], load: Load, brief: bool) -> Words {
     if load.acks == load.longest() as usize {
         let place = order::first_above(acks, 1);
         let value = byte_at(acks, place) as u64;
-        let form = shifted(ACK_VALUE, brief as usize);
-        return by(form, place as u64, load.ack_line, value);
+        return by(
+            value_words(brief),
+            place as u64,
+            load.ack_line.unwrap_or(0),
+            value,
+        );
     }
-    let board = order::longest(load);
+    let board = order::longest(load).unwrap_or(load.boards);
     let length = load.length_of(board) as u64;
-    let line = load.line_of(board);
+    let line = load.line_of(board).unwrap_or(0);
     Words {
-        form: shifted(ACK_COUNT, brief as usize),
+        form: count_words(brief),
         numbers: [
             load.acks as u64,
-            load.ack_line,
+            load.ack_line.unwrap_or(0),
             length,
             board as u64,
             line,
@@ -124,14 +129,24 @@ fn acknowledges(kept: &[u8], load: Load, brief: bool) -> Words {
 // 16 in a row: the one that ends begins the other.
 fn pair(board: usize, other: usize, ends: bool, restarts: bool) -> Words {
     if ends {
-        return by(BEGINS, other as u64, board as u64, 0);
+        return by(b"$ begins $", other as u64, board as u64, 0);
     }
-    by(
-        either(restarts, RESTARTS, BEGINS),
-        board as u64,
-        other as u64,
-        0,
-    )
+    if restarts {
+        return by(b"$ restarts in $", board as u64, other as u64, 0);
+    }
+    by(b"$ begins $", board as u64, other as u64, 0)
+}
+
+// The same in a block.
+fn parting_words(ends: bool, restarts: bool) -> &'static [u8] {
+    match (restarts, ends) {
+        (false, false) => b"$ (line #) ends with &, acknowledged, where $ (line #) goes on with %",
+        (false, true) => b"$ (line #) ends with &, acknowledged, where $ (line #) ends",
+        (true, false) => {
+            b"$ (line #) restarts after &, acknowledged, where $ (line #) goes on with %"
+        }
+        (true, true) => b"$ (line #) restarts after &, acknowledged, where $ (line #) ends",
+    }
 }
 
 // 16: a message ends or restarts, acknowledged up to there, where another does not.
@@ -143,12 +158,12 @@ fn parting(kept: &[u8], load: Load, board: usize, other: usize, brief: bool) -> 
     if brief {
         return pair(board, other, ends, restarts);
     }
-    let line = load.line_of(board);
-    let whom = load.line_of(other);
+    let line = load.line_of(board).unwrap_or(0);
+    let whom = load.line_of(other).unwrap_or(0);
     let byte = byte_at(message, place) as u64;
     let from = board as u64;
     Words {
-        form: shifted(ends as usize, either(restarts, RESTARTED, ENDED)),
+        form: parting_words(ends, restarts),
         numbers: [from, line, from, 0, place as u64, other as u64, whom, byte],
     }
 }
@@ -157,53 +172,47 @@ fn parting(kept: &[u8], load: Load, board: usize, other: usize, brief: bool) -> 
 // all are, the first that ends or restarts where another does not.
 fn undecided(kept: &[u8], load: Load, stage: Stage) -> Words {
     if let Stage::Night = stage {
-        let first = order::first_ending(kept, load);
-        return parting(
-            kept,
-            load,
-            first,
-            order::parted_from(kept, load, first, MAX_LENGTH),
-            false,
-        );
+        let first = order::first_ending(kept, load).unwrap_or(load.boards);
+        let other = order::parted_from(kept, load, first, MAX_LENGTH).unwrap_or(load.boards);
+        return parting(kept, load, first, other, false);
     }
     let acked = order::first_above(kept::part(kept, ACKS_AT, ACKS), 0);
     let board = order::least(kept, load);
-    parting(
-        kept,
-        load,
-        board,
-        order::parted_from(kept, load, board, acked),
-        is_brief(stage),
-    )
+    let other = order::parted_from(kept, load, board, acked).unwrap_or(load.boards);
+    parting(kept, load, board, other, is_brief(stage))
 }
 
 fn is_brief(stage: Stage) -> bool {
-    if let Stage::Table = stage {
-        true
-    } else {
-        false
-    }
+    matches!(stage, Stage::Table)
 }
 
 // 43: in a night, an acknowledge that is 1.
 fn unacknowledged(kept: &[u8], load: Load) -> Words {
     let place = order::first_above(kept::part(kept, ACKS_AT, ACKS), 0);
-    by(UNACKNOWLEDGED, place as u64, load.ack_line, 0)
+    let words = b"acknowledge # (line #) is 1, and in a night every byte is acknowledged";
+    by(words, place as u64, load.ack_line.unwrap_or(0), 0)
+}
+
+// The buffers are too short.
+fn little_room(brief: bool) -> Words {
+    if brief {
+        return by(b"too little room", 0, 0, 0);
+    }
+    by(b"the reply needs more room than was lent", 0, 0, 0)
 }
 
 // What a refusal says; place: the master that it is about. 8: the buffers are too short.
 fn words_of(kept: &[u8], load: Load, number: u8, place: usize, stage: Stage) -> Words {
-    let silent = load.silent;
     let brief = is_brief(stage);
     match number {
         12 => masters(load, brief),
-        13 | 14 => of_message(kept, load, number, board_of(silent, place), brief),
+        13 | 14 => of_message(kept, load, number, board_of(load.silent, place), brief),
         15 => acknowledges(kept, load, brief),
         16 => undecided(kept, load, stage),
-        40 => by(NOT_RISING, 0, 0, 0),
-        41 => by(NOT_FITTING, 0, 0, 0),
+        40 => by(b"the boards do not rise", 0, 0, 0),
+        41 => by(b"the lengths do not fit", 0, 0, 0),
         43 => unacknowledged(kept, load),
-        _ => by(shifted(LITTLE_ROOM, brief as usize), 0, 0, 0),
+        _ => little_room(brief),
     }
 }
 
@@ -218,23 +227,7 @@ pub(crate) fn put_words(
     stage: Stage,
 ) -> usize {
     let words = words_of(kept, load, number, place, stage);
-    let numbers = words.numbers;
-    let list =
-        b"every board is silent\nno board\n# boards, and at most 16 may start together\n# boards\n\
-        $ (line #) has no bytes\n$ has no bytes\n\
-        $ (line #) has # bytes, and at most 64 may be sent\n$? has # bytes\n\
-        $ (line #) begins with %, which is odd, a read\n$? begins with %\n\
-        $ (line #) restarts with %, which is odd, a read\n$? restarts with %\n\
-        # acknowledge~ (line #) for the # byte~ of $ (line #), the longest\n# acknowledge~? for #\n\
-        acknowledge # (line #) is #, neither 0 nor 1\nacknowledge #? is #\n\
-        $ (line #) ends with &, acknowledged, where $ (line #) goes on with %\n\
-        $ (line #) ends with &, acknowledged, where $ (line #) ends\n\
-        $ (line #) restarts after &, acknowledged, where $ (line #) goes on with %\n\
-        $ (line #) restarts after &, acknowledged, where $ (line #) ends\n\
-        $ begins $\n$ restarts in $\n\
-        acknowledge # (line #) is 1, and in a night every byte is acknowledged\n\
-        the boards do not rise\nthe lengths do not fit\nthe reply needs more room than was lent\ntoo little room";
-    put(page, at, kept, line_of(list, words.form), &numbers)
+    put(page, at, kept, words.form, &words.numbers)
 }
 
 // The line of a refused load.

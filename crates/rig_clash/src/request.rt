@@ -11,12 +11,26 @@ const COUNTS: usize = MAX_MASTERS + 1;
 // The bytes of the messages, the lengths of their parts, how many parts each has, and how many there are of each.
 #[derive(Clone, Copy)]
 pub(crate) struct Request {
-    pub(crate) bytes: [u8; BYTES],
-    pub(crate) size: usize,
-    pub(crate) parts: [u32; BYTES],
-    pub(crate) parted: usize,
-    pub(crate) counts: [u32; COUNTS],
-    pub(crate) count: usize,
+    bytes: [u8; BYTES],
+    size: usize,
+    parts: [u32; BYTES],
+    parted: usize,
+    counts: [u32; COUNTS],
+    count: usize,
+}
+
+impl Request {
+    pub(crate) fn bytes(&self) -> &[u8] {
+        kept::part(&self.bytes, 0, self.size)
+    }
+
+    pub(crate) fn parts(&self) -> &[u32] {
+        &self.parts[..self.parted.min(BYTES)]
+    }
+
+    pub(crate) fn counts(&self) -> &[u32] {
+        &self.counts[..self.count.min(COUNTS)]
+    }
 }
 
 // How many masters there are: in the old form more rows than are kept count as one too many.
@@ -32,17 +46,11 @@ pub(crate) fn of(kept: &[u8], load: Load) -> Request {
     let mut bytes = [0u8; BYTES];
     let mut parts = [0u32; BYTES];
     let mut counts = [0u32; COUNTS];
-    let silent = load.silent;
-    let rows = load.lengths;
+    let rows = kept::part(kept, MESSAGES_AT, BYTES);
     let starts = kept::part(kept, PARTS_AT, BYTES);
-    let size = gather(
-        kept::part(kept, MESSAGES_AT, BYTES),
-        rows,
-        silent,
-        &mut bytes,
-    );
-    let parted = gather_parts(starts, silent, &mut parts);
-    let count = gather_counts(starts, silent, &mut counts);
+    let size = gather(rows, load.lengths, load.silent, &mut bytes);
+    let parted = gather_parts(starts, load.silent, &mut parts);
+    let count = gather_counts(starts, load.silent, &mut counts);
     Request {
         bytes,
         size,

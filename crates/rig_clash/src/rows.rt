@@ -5,7 +5,6 @@ use crate::order::byte_at;
 use crate::outcome::{Outcome, recorded};
 use arbitration_rules::MAX_LENGTH;
 use load_text::count_parts;
-use rig_lines::numbers::least;
 
 // The bytes of a row.
 pub(crate) const ROW: usize = 3;
@@ -16,29 +15,10 @@ pub(crate) const BYTE: usize = 18;
 // The bits on the bus for each byte: eight, and the acknowledge.
 pub(crate) const BITS: usize = 9;
 
-// One less, and no less than 0.
-pub(crate) fn before(n: usize) -> usize {
-    if n > 0 { n - 1 } else { 0 }
-}
-
-fn after(n: usize) -> usize {
-    shifted(n, 1)
-}
-
-// A number and another, as far as there are numbers.
-pub(crate) fn shifted(n: usize, by: usize) -> usize {
-    least(n, usize::MAX - by) + by
-}
-
-// One number less another, and no less than 0.
-pub(crate) fn less(a: usize, b: usize) -> usize {
-    if a > b { a - b } else { 0 }
-}
-
 // The first recorded level of a byte: every part begun up to it, but the first, begins with a restart.
 pub(crate) fn level_of(parts: &[u8], byte: usize) -> usize {
-    let begun = count_parts(part(parts, 0, after(byte)));
-    recorded(byte, before(begun))
+    let begun = count_parts(part(parts, 0, byte.saturating_add(1)));
+    recorded(byte, begun.saturating_sub(1))
 }
 
 // The first recorded level of a row that begins with a byte: START's, or the byte's own.
@@ -51,12 +31,12 @@ pub(crate) fn first_level(parts: &[u8], first: usize) -> usize {
 
 // The column of a byte in a row that begins with a byte.
 pub(crate) fn column_of(parts: &[u8], first: usize, byte: usize) -> usize {
-    less(level_of(parts, byte), first_level(parts, first))
+    level_of(parts, byte).saturating_sub(first_level(parts, first))
 }
 
 // The byte past the last of a row.
 pub(crate) fn end_of(first: usize, count: usize) -> usize {
-    least(shifted(first, ROW), count)
+    first.saturating_add(ROW).min(count)
 }
 
 // The level past the last of a row that ends before a byte.
@@ -69,20 +49,30 @@ pub(crate) fn end_level(parts: &[u8], end: usize, outcome: Outcome) -> usize {
 
 // How many rows there are for so many bytes, and the first byte of each.
 pub(crate) fn count_of(count: usize) -> usize {
-    (least(count, MAX_LENGTH) + ROW - 1) / ROW
+    (count.min(MAX_LENGTH) + ROW - 1) / ROW
 }
 
 pub(crate) fn first_of(row: usize) -> usize {
-    least(row, MAX_LENGTH) * ROW
+    row.min(MAX_LENGTH) * ROW
 }
 
-// What follows a byte: 0, another byte; 1, a repeated START; 2, STOP.
-pub(crate) fn next_of(parts: &[u8], byte: usize, count: usize) -> usize {
-    let next = after(byte);
+// What follows a byte: another, a repeated START, or STOP.
+#[derive(Clone, Copy)]
+pub(crate) enum Next {
+    Byte,
+    Restart,
+    Stop,
+}
+
+pub(crate) fn next_of(parts: &[u8], byte: usize, count: usize) -> Next {
+    let next = byte.saturating_add(1);
     if next >= count {
-        return 2;
+        return Next::Stop;
     }
-    (byte_at(parts, next) > 0) as usize
+    if byte_at(parts, next) > 0 {
+        return Next::Restart;
+    }
+    Next::Byte
 }
 
 // A board lost at a byte from one on, before another.
@@ -109,21 +99,12 @@ pub(crate) fn lost_column(
 ) -> usize {
     let seat = outcome.seat_of(load, board);
     let position = seat.position as usize;
-    shifted(
-        column_of(parts, first, position / BITS),
-        2 * (position % BITS),
-    )
+    column_of(parts, first, position / BITS).saturating_add(2 * (position % BITS))
 }
 
 // How many boards lost at a byte from one on, before another.
 pub(crate) fn losers(load: Load, outcome: Outcome, first: usize, end: usize) -> usize {
-    let mut count: usize = 0;
-    let mut board: usize = 0;
-    while board < load.boards {
-        if lost_in(load, outcome, board, first, end) {
-            count = after(count);
-        }
-        board += 1;
-    }
-    count
+    (0..load.boards)
+        .filter(|board| lost_in(load, outcome, *board, first, end))
+        .count()
 }

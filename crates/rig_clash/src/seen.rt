@@ -7,13 +7,9 @@ pub(crate) fn names(kept: &[u8]) -> &[u8] {
     kept::text_in(kept, SEEN_AT, SEEN)
 }
 
-fn room_after(taken: usize) -> usize {
-    if taken < SEEN { SEEN - taken } else { 0 }
-}
-
 // There is room for the name of the load that is being read, and a space.
 pub(crate) fn fits(kept: &[u8]) -> bool {
-    kept::name(kept).len() < room_after(names(kept).len())
+    kept::name(kept).len() < SEEN.saturating_sub(names(kept).len())
 }
 
 // Its name is kept.

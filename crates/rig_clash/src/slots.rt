@@ -4,7 +4,6 @@ use crate::kept;
 use crate::kept::{NUMBER, ROOM, SLOT, SLOTS, SLOTS_AT};
 use crate::order::byte_at;
 use arbitration_rules::MAX_LENGTH;
-use check::same;
 use load_text::{BOARD_NAME, LOAD_NAME};
 use text::{put_byte, put_bytes, put_decimal};
 
@@ -26,11 +25,7 @@ const PARTS_AT: usize = BYTES_AT + MAX_LENGTH;
 const MET: u8 = b'+';
 
 fn slot_of(correction: usize) -> usize {
-    if correction < SLOTS {
-        SLOTS_AT + correction * SLOT
-    } else {
-        SLOTS_AT
-    }
+    kept::cell_at(SLOTS_AT, SLOT, SLOTS, correction)
 }
 
 fn slot(kept: &[u8], correction: usize) -> &[u8] {
@@ -74,7 +69,7 @@ pub(crate) fn is_met(kept: &[u8], correction: usize) -> bool {
 
 // It is for the load whose name is kept.
 pub(crate) fn is_current(kept: &[u8], correction: usize) -> bool {
-    same(load(kept, correction), kept::name(kept))
+    load(kept, correction) == kept::name(kept)
 }
 
 // A correction for the load whose name is kept was met.
@@ -84,32 +79,18 @@ pub(crate) fn meet(kept: &mut [u8; ROOM], correction: usize) {
     }
 }
 
-// The first of so many corrections that is for a load, else their number.
-pub(crate) fn find_load(kept: &[u8], count: usize, name: &[u8]) -> usize {
-    let mut correction: usize = 0;
-    while correction < count {
-        if same(load(kept, correction), name) {
-            return correction;
-        }
-        correction += 1;
-    }
-    count
+// The first of so many corrections that is for a load.
+pub(crate) fn find_load(kept: &[u8], count: usize, name: &[u8]) -> Option<usize> {
+    (0..count).find(|correction| load(kept, *correction) == name)
 }
 
 fn is_for(kept: &[u8], correction: usize, board_name: &[u8]) -> bool {
-    is_current(kept, correction) & same(board(kept, correction), board_name)
+    is_current(kept, correction) & (board(kept, correction) == board_name)
 }
 
-// The one that is for a board of the load whose name is kept, else their number.
-pub(crate) fn find(kept: &[u8], count: usize, board_name: &[u8]) -> usize {
-    let mut correction: usize = 0;
-    while correction < count {
-        if is_for(kept, correction, board_name) {
-            return correction;
-        }
-        correction += 1;
-    }
-    count
+// The one that is for a board of the load whose name is kept.
+pub(crate) fn find(kept: &[u8], count: usize, board_name: &[u8]) -> Option<usize> {
+    (0..count).find(|correction| is_for(kept, *correction, board_name))
 }
 
 // Keeps the correction of a board of the load whose name is kept; row: its bytes, so many; parts: where they begin.

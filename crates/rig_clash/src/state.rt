@@ -1,8 +1,9 @@
 // What is known while the files are read.
+use crate::forms::Form;
 use crate::load::Load;
-use crate::problem::Problem;
+use crate::problem::{Problem, Reach};
 use crate::tally::Tally;
-use crate::{forms, load, problem, tally};
+use crate::{load, problem, tally};
 use rig_lines::input;
 use rig_lines::input::Source;
 
@@ -13,13 +14,20 @@ pub(crate) struct Options {
     pub(crate) registers: bool,
     pub(crate) wave: bool,
     pub(crate) room: usize,
-    // the argument that names the load whose trace is shown; 0: none is
-    pub(crate) trace: usize,
+    // a load's trace or its drawing is asked for; the load's name is kept
+    pub(crate) trace: bool,
     // each load is a night
     pub(crate) night: bool,
     // that load is drawn, in text or as an SVG document
     pub(crate) draws: bool,
     pub(crate) svg: bool,
+}
+
+// How a file names its boards, by its first statement: by `boards`, or by their rows, as in the old form.
+#[derive(Clone, Copy, PartialEq, Eq)]
+pub(crate) enum Naming {
+    Names,
+    Rows,
 }
 
 // The file that is being read.
@@ -29,17 +37,16 @@ pub(crate) struct File {
     pub(crate) more: bool,
     // it is the file of corrections
     pub(crate) corrects: bool,
-    // the first statement was `boards`, or it was `load`, as in the old form; neither: there was none yet
-    pub(crate) named: bool,
-    pub(crate) numbered: bool,
+    // where there was a statement
+    pub(crate) naming: Option<Naming>,
     // how many boards are named, the longest name, and the line of `boards`
     pub(crate) boards: usize,
     pub(crate) widest: usize,
     pub(crate) boards_line: u64,
     // how many loads were begun
     pub(crate) loads: u64,
-    // the line of `end`, 0: none
-    pub(crate) end_line: u64,
+    // the line of `end`
+    pub(crate) end_line: Option<u64>,
 }
 
 #[derive(Clone, Copy)]
@@ -54,20 +61,25 @@ pub(crate) struct State {
     pub(crate) corrections: usize,
     pub(crate) tally: Tally,
     // what is wrong with the line that is being read
-    pub(crate) problem: Problem,
+    pub(crate) problem: Option<Problem>,
+}
+
+impl File {
+    pub(crate) fn is_named(self) -> bool {
+        self.naming == Some(Naming::Names)
+    }
 }
 
 fn unread(corrects: bool) -> File {
     File {
         more: true,
         corrects,
-        named: false,
-        numbered: false,
+        naming: None,
         boards: 0,
         widest: 0,
         boards_line: 0,
         loads: 0,
-        end_line: 0,
+        end_line: None,
     }
 }
 
@@ -80,7 +92,7 @@ pub(crate) fn begun(options: Options) -> State {
         load: load::none(),
         corrections: 0,
         tally: tally::none(),
-        problem: problem::none(),
+        problem: None,
     }
 }
 
@@ -140,46 +152,46 @@ impl State {
 
     // Nothing is wrong, or what was is said.
     pub(crate) fn without_problem(mut self) -> State {
-        self.problem = problem::none();
+        self.problem = None;
         self
     }
 
-    // A line is wrong, in words with their marks: a word that was met, and a number.
+    // Something is wrong, in words with their marks: a word that was met, and a number.
     pub(crate) fn with_problem(
         mut self,
-        line: u64,
-        form: usize,
+        line: Option<u64>,
+        form: Form,
         word: &[u8],
         number: u64,
+        reach: Reach,
     ) -> State {
         let loads = self.file.loads;
-        self.problem = problem::of(line, form, word, number, loads, self.load.line);
+        self.problem = Some(problem::of(line, form, word, number, loads, self.load.line, reach));
         self
     }
 
     // The line that is read is wrong.
-    pub(crate) fn wrong(self, form: usize, word: &[u8], number: u64) -> State {
-        self.with_problem(self.source.line, form, word, number)
+    pub(crate) fn wrong(self, form: Form, word: &[u8], number: u64) -> State {
+        self.with_problem(Some(self.source.line), form, word, number, Reach::Line)
     }
 
     // The same in words that name no word that was met.
-    pub(crate) fn wrong_by(self, form: usize, number: u64) -> State {
+    pub(crate) fn wrong_by(self, form: Form, number: u64) -> State {
         self.wrong(form, b"", number)
     }
 
     pub(crate) fn is_wrong(self) -> bool {
-        !self.problem.is_none()
+        self.problem.is_some()
     }
 
     // No board of the file has that name.
     pub(crate) fn unknown_board(self, name: &[u8]) -> State {
-        self.wrong(forms::UNKNOWN_BOARD, name, self.file.boards_line)
+        self.wrong(Form::UnknownBoard, name, self.file.boards_line)
     }
 
     // A fault before the first load, for which nothing of the file is read.
-    pub(crate) fn unread(self, form: usize, word: &[u8]) -> State {
-        let mut next = self.wrong(form, word, 0);
-        next.problem.unread = true;
-        next.done()
+    pub(crate) fn unread(self, form: Form, word: &[u8]) -> State {
+        let line = Some(self.source.line);
+        self.with_problem(line, form, word, 0, Reach::File).done()
     }
 }

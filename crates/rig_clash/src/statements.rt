@@ -1,10 +1,10 @@
 // The statements of a file of loads, each by its first word.
+use crate::forms::Form;
 use crate::kept::ROOM;
 use crate::phrase::put_note;
-use crate::state::{File, State};
-use crate::{boards, ending, finish, forms, lines, opening};
+use crate::state::{File, Naming, State};
+use crate::{boards, ending, finish, lines, opening};
 use rig_lines::console::PAGE;
-use rig_lines::lists::place_of;
 use text::{after_word, first_word};
 
 #[derive(Clone, Copy)]
@@ -19,14 +19,13 @@ pub(crate) enum Statement {
 }
 
 pub(crate) fn named(word: &[u8]) -> Statement {
-    let place = place_of(b"boards\nload\nboard\nack\nexpect\nend", word);
-    match place {
-        0 => Statement::Boards,
-        1 => Statement::Load,
-        2 => Statement::Board,
-        3 => Statement::Ack,
-        4 => Statement::Expect,
-        5 => Statement::End,
+    match word {
+        b"boards" => Statement::Boards,
+        b"load" => Statement::Load,
+        b"board" => Statement::Board,
+        b"ack" => Statement::Ack,
+        b"expect" => Statement::Expect,
+        b"end" => Statement::End,
         _ => Statement::Other,
     }
 }
@@ -35,7 +34,8 @@ pub(crate) fn named(word: &[u8]) -> Statement {
 #[derive(Clone, Copy)]
 enum Deed {
     Nothing,
-    Ended,
+    // after `end`, which stands on that line
+    Ended(u64),
     Boards,
     Load,
     FirstLoad,
@@ -47,7 +47,7 @@ enum Deed {
     SecondBoards,
     First,
     // with these words
-    Wrong(usize),
+    Wrong(Form),
 }
 
 // The first statement of a file.
@@ -68,7 +68,7 @@ fn inside(statement: Statement) -> Deed {
         Statement::Board => Deed::Board,
         Statement::Ack => Deed::Ack,
         Statement::Expect => Deed::Expect,
-        Statement::Other => Deed::Wrong(forms::INSIDE),
+        Statement::Other => Deed::Wrong(Form::Inside),
     }
 }
 
@@ -78,7 +78,7 @@ fn outside(statement: Statement) -> Deed {
         Statement::Load => Deed::Load,
         Statement::End => Deed::End,
         Statement::Boards => Deed::SecondBoards,
-        _ => Deed::Wrong(forms::OUTSIDE),
+        _ => Deed::Wrong(Form::Outside),
     }
 }
 
@@ -88,32 +88,28 @@ fn numbered(statement: Statement) -> Deed {
         Statement::Load => Deed::Load,
         Statement::Board => Deed::NumberedBoard,
         Statement::Ack => Deed::Ack,
-        Statement::Boards => Deed::Wrong(forms::LATE_BOARDS),
-        _ => Deed::Wrong(forms::NUMBERED),
+        Statement::Boards => Deed::Wrong(Form::LateBoards),
+        _ => Deed::Wrong(Form::Numbered),
     }
 }
 
 // A statement, where `end` was none before.
 fn stated(file: File, open: bool, word: &[u8]) -> Deed {
     let statement = named(word);
-    if file.numbered {
-        return numbered(statement);
+    match file.naming {
+        None => first(statement),
+        Some(Naming::Rows) => numbered(statement),
+        Some(Naming::Names) if open => inside(statement),
+        Some(Naming::Names) => outside(statement),
     }
-    if !file.named {
-        return first(statement);
-    }
-    if open {
-        return inside(statement);
-    }
-    outside(statement)
 }
 
 fn deed_of(state: State, word: &[u8]) -> Deed {
     if word.len() == 0 {
         return Deed::Nothing;
     }
-    if state.file.end_line > 0 {
-        return Deed::Ended;
+    if let Some(line) = state.file.end_line {
+        return Deed::Ended(line);
     }
     stated(state.file, state.load.open, word)
 }
@@ -128,10 +124,10 @@ fn recorded(kept: &mut [u8; ROOM], state: State, deed: Deed, word: &[u8], rest: 
         Deed::NumberedBoard => lines::with_numbered(kept, state, rest),
         Deed::Ack => lines::with_ack(kept, state, rest),
         Deed::Expect => lines::with_expect(kept, state, rest),
-        Deed::End => ending::with_end(state, rest, forms::COUNTED),
-        Deed::Ended => ending::after_end(state, forms::AFTER_END),
-        Deed::SecondBoards => state.wrong_by(forms::SECOND_BOARDS, state.file.boards_line),
-        Deed::First => state.unread(forms::FIRST, word),
+        Deed::End => ending::with_end(state, rest, Form::Counted),
+        Deed::Ended(line) => ending::after_end(state, Form::AfterEnd, line),
+        Deed::SecondBoards => state.wrong_by(Form::SecondBoards, state.file.boards_line),
+        Deed::First => state.unread(Form::First, word),
         Deed::Wrong(form) => state.wrong(form, word, 0),
     }
 }
@@ -139,7 +135,7 @@ fn recorded(kept: &mut [u8; ROOM], state: State, deed: Deed, word: &[u8], rest: 
 // The first `load` of a file in the old form, of which a note says so.
 fn in_old_form(page: &mut [u8; PAGE], kept: &[u8], mut state: State) -> State {
     let words = b"rig: +: no boards line, so boards are numbered by their rows\n";
-    state.file.numbered = true;
+    state.file.naming = Some(Naming::Rows);
     state.moved(put_note(page, state.at, kept, words, &[state.source.argument as u64]))
 }
 
@@ -165,11 +161,11 @@ pub(crate) fn with_line(
 }
 
 // A line that is too long or no text.
-pub(crate) fn without_text(state: State, form: usize) -> State {
-    if state.file.end_line > 0 {
-        return ending::after_end(state, forms::AFTER_END);
+pub(crate) fn without_text(state: State, form: Form) -> State {
+    if let Some(line) = state.file.end_line {
+        return ending::after_end(state, Form::AfterEnd, line);
     }
-    if state.file.named | state.file.numbered {
+    if state.file.naming.is_some() {
         return state.wrong_by(form, 0);
     }
     state.unread(form, b"")

@@ -4,12 +4,9 @@ use crate::kept::{ACKS, ACKS_AT};
 use crate::load::Load;
 use crate::outcome::{LEVELS, Outcome};
 use crate::phrase::{begin_numbers, line_numbers};
-use crate::rows::shifted;
 use crate::{kept, order, rows};
 use arbitration_rules::MAX_MASTERS;
 use rig_lines::console::PAGE;
-use rig_lines::lists::line_of;
-use rig_lines::numbers::least;
 use text::{put_byte, put_bytes};
 
 // The first column, the width of each, and the most that a row has.
@@ -35,7 +32,7 @@ pub(crate) const NAMES: usize = 12;
 const LOST: usize = 110;
 
 pub(crate) fn x_of(column: usize) -> u64 {
-    (LEFT + STEP * least(column, LEVELS)) as u64
+    (LEFT + STEP * column.min(LEVELS)) as u64
 }
 
 // A byte of a text: what XML keeps for itself by its name, and nothing but ASCII.
@@ -54,10 +51,8 @@ fn ascii(b: u8) -> u8 {
 
 fn put_escaped(page: &mut [u8; PAGE], at: usize, text: &[u8]) -> usize {
     let mut next = at;
-    let mut i = 0;
-    while i < text.len() {
-        next = put_escaped_byte(page, next, text[i]);
-        i += 1;
+    for b in text {
+        next = put_escaped_byte(page, next, *b);
     }
     next
 }
@@ -66,7 +61,7 @@ fn put_escaped(page: &mut [u8; PAGE], at: usize, text: &[u8]) -> usize {
 fn put_title(page: &mut [u8; PAGE], at: usize, kept: &[u8]) -> usize {
     let title = kept::title(kept);
     let name = put_escaped(page, at, kept::name(kept));
-    let space = put_bytes(page, name, line_of(b" ", (title.len() == 0) as usize));
+    let space = put_bytes(page, name, if title.len() == 0 { b"" } else { b" " });
     put_escaped(page, space, title)
 }
 
@@ -110,7 +105,7 @@ fn put_shade(
     }
     let x = x_of(rows::lost_column(load, outcome, parts, board, first));
     let words = b"<rect x=\"#\" y=\"#\" width=\"24\" height=\"80\" fill=\"";
-    let rect = begin_numbers(page, at, words, &[x, shifted(y, 16) as u64]);
+    let rect = begin_numbers(page, at, words, &[x, y.saturating_add(16) as u64]);
     put_bytes(page, rect, b"#f9e79f\"/>\n")
 }
 
@@ -124,10 +119,8 @@ fn put_shades(
     y: usize,
 ) -> usize {
     let mut next = at;
-    let mut board: usize = 0;
-    while board < load.boards {
+    for board in 0..load.boards {
         next = put_shade(page, next, load, outcome, parts, first, board, y);
-        board += 1;
     }
     next
 }
@@ -142,10 +135,11 @@ fn put_loser(
     column: usize,
     y: usize,
 ) -> usize {
-    let words = line_of(
-        b"<text x=\"#\" y=\"#\">#\n<text x=\"#\" y=\"#\"># ",
-        load.named as usize,
-    );
+    let words: &[u8] = if load.named {
+        b"<text x=\"#\" y=\"#\"># "
+    } else {
+        b"<text x=\"#\" y=\"#\">#"
+    };
     let number = begin_numbers(page, at, words, &[x_of(column), y as u64, board as u64]);
     let name = put_escaped(page, number, kept::board_name(kept, board));
     put_bytes(page, name, b" lost</text>\n")
@@ -164,15 +158,13 @@ fn put_losers(
 ) -> usize {
     let end = rows::end_of(first, outcome.count);
     let mut next = at;
-    let mut y = shifted(top, LOST);
-    let mut board: usize = 0;
-    while board < load.boards {
+    let mut y = top.saturating_add(LOST);
+    for board in 0..load.boards {
         if rows::lost_in(load, outcome, board, first, end) {
             let column = rows::lost_column(load, outcome, parts, board, first);
             next = put_loser(page, next, kept, load, board, column, y);
-            y = shifted(y, LOSER);
+            y = y.saturating_add(LOSER);
         }
-        board += 1;
     }
     next
 }
@@ -201,7 +193,7 @@ fn put_row(
 // The top of the row below.
 fn below(load: Load, outcome: Outcome, first: usize, y: usize) -> usize {
     let lost = rows::losers(load, outcome, first, rows::end_of(first, outcome.count));
-    shifted(y, HEIGHT + LOSER * least(lost, MAX_MASTERS))
+    y.saturating_add(HEIGHT + LOSER * lost.min(MAX_MASTERS))
 }
 
 fn put_rows(
@@ -213,27 +205,23 @@ fn put_rows(
     carried: &[u8],
     levels: &[u8],
 ) -> usize {
-    let rows = rows::count_of(outcome.count);
     let mut next = at;
     let mut y = TOP;
-    let mut row: usize = 0;
-    while row < rows {
+    for row in 0..rows::count_of(outcome.count) {
         let first = rows::first_of(row);
         next = put_row(page, next, kept, load, outcome, carried, levels, first, y);
         y = below(load, outcome, first, y);
-        row += 1;
     }
     next
 }
 
 fn width_of(outcome: Outcome) -> usize {
-    let columns = shifted(rows::less(outcome.levels, LEAST), LEAST);
-    100 + LEFT + STEP * least(columns, WIDEST)
+    100 + LEFT + STEP * outcome.levels.max(LEAST).min(WIDEST)
 }
 
 fn height_of(load: Load, outcome: Outcome) -> usize {
-    let lost = least(rows::losers(load, outcome, 0, outcome.count), MAX_MASTERS);
-    TOP + HEIGHT * least(rows::count_of(outcome.count), LEVELS) + LOSER * lost
+    let lost = rows::losers(load, outcome, 0, outcome.count).min(MAX_MASTERS);
+    TOP + HEIGHT * rows::count_of(outcome.count).min(LEVELS) + LOSER * lost
 }
 
 // The drawing of a load that was not refused.

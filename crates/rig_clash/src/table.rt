@@ -1,13 +1,12 @@
 // The table: a row for each load.
 use crate::columns::{cut, fit};
+use crate::list::Style;
 use crate::load::Load;
 use crate::outcome::Outcome;
-use crate::phrase::{either, put, put_numbers};
+use crate::phrase::{put, put_numbers};
 use crate::refusals::Stage;
-use crate::rows::{before, less, shifted};
 use crate::{list, refusals};
 use rig_lines::console::{PAGE, begin};
-use rig_lines::lists::line_of;
 use text::{put_byte, put_bytes};
 use verdict::Verdict;
 
@@ -23,20 +22,17 @@ const VERDICT: usize = 36;
 // A load's name and title, after the mark of a load to see.
 fn put_load(page: &mut [u8; PAGE], at: usize, kept: &[u8], marked: bool) -> usize {
     let start = begin(page, at);
-    let title = put(
-        page,
-        start,
-        kept,
-        line_of(b"  *_[\n! *_[", marked as usize),
-        &[NAME],
-    );
+    let words = if marked { b"! *_[" } else { b"  *_[" };
+    let title = put(page, start, kept, words, &[NAME]);
     let fitted = fit(page, start, title, LOAD);
     put_byte(page, fitted, b' ')
 }
 
 // The column of two numbers of one or two digits, which stand at the right.
 fn ratio_column(count: usize, length: usize) -> usize {
-    shifted(either(count > 9, 1, 2), either(length > 9, 0, 1))
+    let before = if count > 9 { 1 } else { 2 };
+    let after = if length > 9 { 0 } else { 1 };
+    before + after
 }
 
 // Who is still in, and how much of the message was carried.
@@ -47,11 +43,14 @@ fn put_winner(
     load: Load,
     outcome: Outcome,
 ) -> usize {
-    let verdict = outcome.verdict;
-    match verdict {
+    match outcome.verdict {
         Verdict::Refused(_) | Verdict::Undecided => put_bytes(page, at, b"-             - "),
         _ => {
-            let style = either(load.named, list::TIGHT_NAMES, list::TIGHT_NUMBERS);
+            let style = if load.named {
+                Style::TightNames
+            } else {
+                Style::TightNumbers
+            };
             let who = list::put_all(page, at, kept, style, outcome.others(load));
             let fitted = fit(page, at, who, WINNER);
             let column = ratio_column(outcome.count, outcome.length);
@@ -61,12 +60,24 @@ fn put_winner(
     }
 }
 
-// The words about a load that was not refused; unsent: a part of a message was not sent.
-fn form_of(verdict: Verdict, acked: bool, unsent: bool) -> usize {
+// The words about a load that was not refused and went as expected; unsent: a part of a message was not sent.
+fn words_of(verdict: Verdict, acked: bool, unsent: bool) -> &'static [u8] {
     match verdict {
-        Verdict::Sent(_) => acked as usize,
-        Verdict::Cut(_) => either(unsent, 3, 2),
-        _ => 4,
+        Verdict::Sent(_) if acked => b"sent",
+        Verdict::Sent(_) => b"sent, no ack line",
+        Verdict::Cut(_) if unsent => b"???CUT at byte # (%), # not sent",
+        Verdict::Cut(_) => b"???CUT at byte # (%), the last",
+        _ => b"???UNDECIDED at byte #: ",
+    }
+}
+
+// Where a message was sent and another was expected, there is no more to say.
+fn unexpected(verdict: Verdict, unsent: bool) -> &'static [u8] {
+    match verdict {
+        Verdict::Sent(_) => b"EXPECTED $ #/#",
+        Verdict::Cut(_) if unsent => b"EXPECTED $ #/#, CUT at byte # (%), # not sent",
+        Verdict::Cut(_) => b"EXPECTED $ #/#, CUT at byte # (%), the last",
+        _ => b"EXPECTED $ #/#, UNDECIDED at byte #: ",
     }
 }
 
@@ -76,24 +87,20 @@ fn numbers_of(load: Load, outcome: Outcome) -> [u64; 6] {
         load.winner as u64,
         load.carried,
         load.length,
-        before(outcome.count) as u64,
+        outcome.count.saturating_sub(1) as u64,
         outcome.last as u64,
-        less(outcome.length, outcome.count) as u64,
+        outcome.length.saturating_sub(outcome.count) as u64,
     ]
 }
 
-// Where a message was sent and another was expected, there is no more to say.
 fn put_said(page: &mut [u8; PAGE], at: usize, kept: &[u8], load: Load, outcome: Outcome) -> usize {
-    let verdict = outcome.verdict;
     let unsent = outcome.length > outcome.count;
-    let form = form_of(verdict, load.ack_line > 0, unsent);
-    let words = b"sent, no ack line\nsent\n???CUT at byte # (%), the last\n\
-        ???CUT at byte # (%), # not sent\n???UNDECIDED at byte #: \nEXPECTED $ #/#\nEXPECTED $ #/#\n\
-        EXPECTED $ #/#, CUT at byte # (%), the last\nEXPECTED $ #/#, CUT at byte # (%), # not sent\n\
-        EXPECTED $ #/#, UNDECIDED at byte #: ";
-    let said = line_of(words, shifted(form, either(outcome.expected, 0, 5)));
-    let numbers = numbers_of(load, outcome);
-    put(page, at, kept, said, &numbers)
+    let words = if outcome.expected {
+        words_of(outcome.verdict, load.ack_line.is_some(), unsent)
+    } else {
+        unexpected(outcome.verdict, unsent)
+    };
+    put(page, at, kept, words, &numbers_of(load, outcome))
 }
 
 fn put_verdict(
@@ -103,14 +110,17 @@ fn put_verdict(
     load: Load,
     outcome: Outcome,
 ) -> usize {
-    let verdict = outcome.verdict;
-    if let Verdict::Refused(number) = verdict {
+    if let Verdict::Refused(number) = outcome.verdict {
         let word = put_numbers(page, at, b"REFUSED #: ", &[number as u64]);
         return refusals::put_words(page, word, kept, load, number, outcome.place, Stage::Table);
     }
     let said = put_said(page, at, kept, load, outcome);
     if outcome.is_undecided() {
-        let style = either(load.named, list::NAMES, list::NUMBERS);
+        let style = if load.named {
+            Style::Names
+        } else {
+            Style::Numbers
+        };
         return list::put_all(page, said, kept, style, outcome.others(load));
     }
     said

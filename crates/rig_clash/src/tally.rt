@@ -3,13 +3,8 @@ use crate::kept::ROOM;
 use crate::phrase::{begin_numbers, put_front, put_numbers};
 use crate::seen;
 use rig_lines::console::PAGE;
-use rig_lines::lists::line_of;
-use rig_lines::numbers::{least_number, more};
 use text::{put_byte, put_bytes};
 use verdict::Verdict;
-
-// How many items the last line may have.
-const ITEMS: usize = 9;
 
 #[derive(Clone, Copy)]
 pub(crate) struct Tally {
@@ -51,25 +46,23 @@ pub(crate) fn none() -> Tally {
 
 impl Tally {
     pub(crate) fn with_load(mut self) -> Tally {
-        self.loads = more(self.loads);
+        self.loads = self.loads.saturating_add(1);
         self
     }
 
     // A load that is only read.
     pub(crate) fn without_load(mut self) -> Tally {
-        if self.loads > 0 {
-            self.loads -= 1;
-        }
+        self.loads = self.loads.saturating_sub(1);
         self
     }
 
     pub(crate) fn with_fault(mut self) -> Tally {
-        self.faults = more(self.faults);
+        self.faults = self.faults.saturating_add(1);
         self
     }
 
     pub(crate) fn with_broken(mut self) -> Tally {
-        self.broken = more(self.broken);
+        self.broken = self.broken.saturating_add(1);
         self
     }
 
@@ -77,7 +70,7 @@ impl Tally {
         if self.refused == 0 {
             self.number = number;
         }
-        self.refused = more(self.refused);
+        self.refused = self.refused.saturating_add(1);
         self
     }
 
@@ -93,11 +86,11 @@ impl Tally {
             Verdict::Refused(number) => self.with_refusal(number),
             Verdict::Sent(_) => self.with_sent(expected),
             Verdict::Undecided => {
-                self.undecided = more(self.undecided);
+                self.undecided = self.undecided.saturating_add(1);
                 self
             }
             Verdict::Cut(_) => {
-                self.cut = more(self.cut);
+                self.cut = self.cut.saturating_add(1);
                 self
             }
         }
@@ -117,7 +110,7 @@ impl Tally {
     // A load to see: its name is kept for the last line but one, as long as there is room.
     pub(crate) fn with_seen(mut self, kept: &mut [u8; ROOM]) -> Tally {
         if (self.others > 0) | !seen::fits(kept) {
-            self.others = more(self.others);
+            self.others = self.others.saturating_add(1);
             return self;
         }
         seen::keep(kept);
@@ -129,22 +122,25 @@ impl Tally {
         (self.cut > 0) | (self.undecided > 0) | (self.unexpected > 0)
     }
 
-    // How it went, from the best to the worst: well, with something to look at, with a refusal or with an error.
-    fn word(self) -> usize {
+    // How it went: with an error, with a refusal, with something to look at, or well.
+    fn words(self) -> &'static [u8] {
         if (self.broken > 0) | (self.faults > 0) {
-            return 3;
+            return b"error ?# load~: ";
         }
         if self.refused > 0 {
-            return 2;
+            return b"refused #: # load~: ";
         }
-        self.needs_look() as usize
+        if self.needs_look() {
+            return b"look ?# load~: ";
+        }
+        b"ok ?# load~: "
     }
 }
 
 // One more, where it counts.
 fn counted(count: u64, counts: bool) -> u64 {
     if counts {
-        return more(count);
+        return count.saturating_add(1);
     }
     count
 }
@@ -154,44 +150,36 @@ fn put_item(page: &mut [u8; PAGE], from: usize, at: usize, count: u64, words: &[
     if count == 0 {
         return at;
     }
-    let next = put_bytes(page, at, line_of(b"\n, ", (at > from) as usize));
+    let comma: &[u8] = if at > from { b", " } else { b"" };
+    let next = put_bytes(page, at, comma);
     put_numbers(page, next, words, &[count])
 }
 
-// The items of the list, each with its words, which stand in a line each.
-fn put_items(page: &mut [u8; PAGE], from: usize, counts: [u64; ITEMS], words: &[u8]) -> usize {
+// What else there was, each with its words.
+fn put_items(page: &mut [u8; PAGE], from: usize, tally: Tally) -> usize {
+    let items: [(u64, &[u8]); 9] = [
+        (tally.sent, b"# sent"),
+        (tally.cut, b"# cut"),
+        (tally.undecided, b"# undecided"),
+        (tally.unexpected, b"# not as expected"),
+        (tally.refused, b"# refused"),
+        (tally.broken, b"# in error"),
+        (tally.unacked, b"# without an ack line"),
+        (tally.corrected, b"# corrected"),
+        (tally.faults, b"# fault~ outside the loads"),
+    ];
     let mut next = from;
-    let mut item: usize = 0;
-    while item < ITEMS {
-        next = put_item(page, from, next, counts[item], line_of(words, item));
-        item += 1;
+    for (count, words) in items {
+        next = put_item(page, from, next, count, words);
     }
     next
 }
 
 // The last line: a word, what was rehearsed, and what else there was.
 pub(crate) fn put_last(page: &mut [u8; PAGE], at: usize, tally: Tally) -> usize {
-    let words = b"ok ?# load~: \nlook ?# load~: \nrefused #: # load~: \nerror ?# load~: ";
     let numbers = [tally.number as u64, tally.loads];
-    let from = begin_numbers(page, at, line_of(words, tally.word()), &numbers);
-    let counts = [
-        tally.sent,
-        tally.cut,
-        tally.undecided,
-        tally.unexpected,
-        tally.refused,
-        tally.broken,
-        tally.unacked,
-        tally.corrected,
-        tally.faults,
-    ];
-    let end = put_items(
-        page,
-        from,
-        counts,
-        b"# sent\n# cut\n# undecided\n# not as expected\n# refused\n# in error\n\
-        # without an ack line\n# corrected\n# fault~ outside the loads",
-    );
+    let from = begin_numbers(page, at, tally.words(), &numbers);
+    let end = put_items(page, from, tally);
     put_byte(page, end, b'\n')
 }
 
@@ -209,11 +197,8 @@ pub(crate) fn put_seen(
     }
     let word = put_front(page, at, kept, b"see", &[]);
     let all = put_bytes(page, word, names);
-    let more = put_numbers(
-        page,
-        all,
-        line_of(b"\n and # more", least_number(tally.others, 1) as usize),
-        &[tally.others],
-    );
-    put_byte(page, more, b'\n')
+    if tally.others == 0 {
+        return put_byte(page, all, b'\n');
+    }
+    put_numbers(page, all, b" and # more\n", &[tally.others])
 }

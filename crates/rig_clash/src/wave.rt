@@ -4,13 +4,11 @@ use crate::kept::{ACKS, ACKS_AT};
 use crate::load::Load;
 use crate::order::byte_at;
 use crate::outcome::Outcome;
-use crate::phrase::{begin_numbers, either, gap_of, put_front, put_in, put_line, put_numbers};
-use crate::rows::shifted;
+use crate::phrase::{begin_numbers, gap_of, put_front, put_in, put_line, put_numbers};
+use crate::rows::Next;
 use crate::{kept, order, rows};
 use rig_lines::console::{PAGE, begin};
-use rig_lines::lists::line_of;
-use rig_lines::numbers::least;
-use text::put_byte;
+use text::{put_byte, put_bytes};
 
 // The columns in front of a row.
 const FRONT: usize = 10;
@@ -24,17 +22,13 @@ fn put_byte_at(
     parts: &[u8],
     i: usize,
 ) -> usize {
-    let words = b"% ACK\n, % ACK\n / % ACK\n% NACK\n, % NACK\n / % NACK";
-    let form = shifted(
-        gap_of(i, byte_at(parts, i)),
-        either(byte_at(acks, i) == 0, 0, 3),
-    );
-    put_numbers(
-        page,
-        at,
-        line_of(words, form),
-        &[byte_at(carried, i) as u64],
-    )
+    let gap = put_bytes(page, at, gap_of(i, byte_at(parts, i), b", "));
+    let words: &[u8] = if byte_at(acks, i) == 0 {
+        b"% ACK"
+    } else {
+        b"% NACK"
+    };
+    put_numbers(page, gap, words, &[byte_at(carried, i) as u64])
 }
 
 fn put_carried(
@@ -46,27 +40,32 @@ fn put_carried(
     count: usize,
 ) -> usize {
     let mut next = at;
-    let mut i: usize = 0;
-    while i < count {
+    for i in 0..count {
         next = put_byte_at(page, next, carried, acks, parts, i);
-        i += 1;
     }
     next
 }
 
+// A line of the bus.
+#[derive(Clone, Copy)]
+pub(crate) enum Wire {
+    Scl,
+    Sda,
+}
+
 // A line of the bus at a recorded level; past them all it is low.
-pub(crate) fn is_high_at(levels: &[u8], at: usize, sda: bool) -> bool {
+pub(crate) fn is_high_at(levels: &[u8], at: usize, wire: Wire) -> bool {
     let level = byte_at(levels, at);
-    if sda {
-        return levels::sda(level);
+    match wire {
+        Wire::Scl => levels::scl(level),
+        Wire::Sda => levels::sda(level),
     }
-    levels::scl(level)
 }
 
 // The character of a sample: a rise, a fall, or the level that stays.
-fn mark_at(levels: &[u8], at: usize, sda: bool) -> u8 {
-    let high = is_high_at(levels, at, sda);
-    let before = is_high_at(levels, rows::before(at), sda);
+fn mark_at(levels: &[u8], at: usize, wire: Wire) -> u8 {
+    let high = is_high_at(levels, at, wire);
+    let before = is_high_at(levels, at.saturating_sub(1), wire);
     if high & !before {
         return b'/';
     }
@@ -83,20 +82,18 @@ fn put_marks(
     levels: &[u8],
     from: usize,
     end: usize,
-    sda: bool,
+    wire: Wire,
 ) -> usize {
     let mut next = at;
-    let mut i = from;
-    while i < end {
-        next = put_byte(page, next, mark_at(levels, i, sda));
-        i += 1;
+    for i in from..end {
+        next = put_byte(page, next, mark_at(levels, i, wire));
     }
     next
 }
 
 // The column of a byte in a row that begins with a byte.
 fn column_of(parts: &[u8], first: usize, byte: usize) -> usize {
-    shifted(rows::column_of(parts, first, byte), FRONT)
+    rows::column_of(parts, first, byte).saturating_add(FRONT)
 }
 
 // A byte above its columns, and what follows it.
@@ -111,20 +108,14 @@ fn put_name(
     count: usize,
 ) -> usize {
     let column = column_of(parts, first, byte);
-    let next = rows::next_of(parts, byte, count);
-    let numbers = [
-        column as u64,
-        byte_at(carried, byte) as u64,
-        shifted(shifted(column, rows::BYTE), next) as u64,
-    ];
-    put_in(
-        page,
-        start,
-        at,
-        b"",
-        line_of(b"_|%\n_|%_Sr\n_|%_P", next),
-        &numbers,
-    )
+    let end = column.saturating_add(rows::BYTE);
+    let (words, after): (&[u8], usize) = match rows::next_of(parts, byte, count) {
+        Next::Byte => (b"_|%", end),
+        Next::Restart => (b"_|%_Sr", end.saturating_add(1)),
+        Next::Stop => (b"_|%_P", end.saturating_add(2)),
+    };
+    let numbers = [column as u64, byte_at(carried, byte) as u64, after as u64];
+    put_in(page, start, at, b"", words, &numbers)
 }
 
 // The bytes of a row above their columns.
@@ -137,13 +128,14 @@ fn put_names(
     count: usize,
 ) -> usize {
     let start = begin(page, at);
-    let words = line_of(b"  byte #_ S\n  byte #", least(first, 1));
+    let words: &[u8] = if first == 0 {
+        b"  byte #_ S"
+    } else {
+        b"  byte #"
+    };
     let mut next = put_numbers(page, start, words, &[first as u64, FRONT as u64]);
-    let end = rows::end_of(first, count);
-    let mut byte = first;
-    while byte < end {
+    for byte in first..rows::end_of(first, count) {
         next = put_name(page, start, next, carried, parts, first, byte, count);
-        byte += 1;
     }
     put_byte(page, next, b'\n')
 }
@@ -157,10 +149,11 @@ fn put_bits_of(
     byte: u8,
     ack: u8,
 ) -> usize {
-    let words = line_of(
-        b"_# # # # # # # # A\n_# # # # # # # # N",
-        (ack > 0) as usize,
-    );
+    let words: &[u8] = if ack == 0 {
+        b"_# # # # # # # # A"
+    } else {
+        b"_# # # # # # # # N"
+    };
     let numbers = [
         column as u64,
         (byte / 128) as u64,
@@ -187,9 +180,7 @@ fn put_bits(
 ) -> usize {
     let start = begin(page, at);
     let mut next = start;
-    let end = rows::end_of(first, count);
-    let mut byte = first;
-    while byte < end {
+    for byte in first..rows::end_of(first, count) {
         let column = column_of(parts, first, byte);
         next = put_bits_of(
             page,
@@ -199,7 +190,6 @@ fn put_bits(
             byte_at(carried, byte),
             byte_at(acks, byte),
         );
-        byte += 1;
     }
     put_byte(page, next, b'\n')
 }
@@ -212,10 +202,10 @@ fn put_signal(
     levels: &[u8],
     from: usize,
     end: usize,
-    sda: bool,
+    wire: Wire,
 ) -> usize {
     let word = begin_numbers(page, at, words, &[FRONT as u64]);
-    let marks = put_marks(page, word, levels, from, end, sda);
+    let marks = put_marks(page, word, levels, from, end, wire);
     put_byte(page, marks, b'\n')
 }
 
@@ -237,7 +227,7 @@ fn put_loser(
         first,
         rows::end_of(first, outcome.count),
     );
-    let column = shifted(rows::lost_column(load, outcome, parts, board, first), FRONT);
+    let column = rows::lost_column(load, outcome, parts, board, first).saturating_add(FRONT);
     put_line(
         page,
         at,
@@ -258,10 +248,8 @@ fn put_losers(
     first: usize,
 ) -> usize {
     let mut next = at;
-    let mut board: usize = 0;
-    while board < load.boards {
+    for board in 0..load.boards {
         next = put_loser(page, next, kept, load, outcome, parts, first, board);
-        board += 1;
     }
     next
 }
@@ -277,8 +265,8 @@ fn put_signals(
 ) -> usize {
     let from = rows::first_level(parts, first);
     let end = rows::end_level(parts, rows::end_of(first, outcome.count), outcome);
-    let scl = put_signal(page, at, b"  scl_", levels, from, end, false);
-    put_signal(page, scl, b"  sda_", levels, from, end, true)
+    let scl = put_signal(page, at, b"  scl_", levels, from, end, Wire::Scl);
+    put_signal(page, scl, b"  sda_", levels, from, end, Wire::Sda)
 }
 
 // All rows, by their first bytes.
@@ -293,16 +281,13 @@ fn put_rows(
     levels: &[u8],
 ) -> usize {
     let acks = kept::part(kept, ACKS_AT, ACKS);
-    let rows = rows::count_of(outcome.count);
     let mut next = at;
-    let mut row: usize = 0;
-    while row < rows {
+    for row in 0..rows::count_of(outcome.count) {
         let first = rows::first_of(row);
         next = put_names(page, next, carried, parts, first, outcome.count);
         next = put_bits(page, next, carried, acks, parts, first, outcome.count);
         next = put_signals(page, next, levels, parts, outcome, first);
         next = put_losers(page, next, kept, load, outcome, parts, first);
-        row += 1;
     }
     next
 }

@@ -1,9 +1,7 @@
 // The bytes, the parts and the acknowledges of a load's lines.
-use crate::forms;
+use crate::forms::Form;
 use arbitration_rules::MAX_LENGTH;
-use check::same;
 use load_text::{Byte, acknowledge_in, byte_in, short_byte_in};
-use rig_lines::numbers::{least, more};
 use text::{after_word, first_word, put_byte};
 
 // What the words of a line are to be: bytes of two digits, of one or two, or acknowledges.
@@ -23,19 +21,12 @@ fn read(kind: Kind, word: &[u8]) -> Byte {
 }
 
 fn is_read(kind: Kind, word: &[u8]) -> bool {
-    if let Byte::Of(_) = read(kind, word) {
-        true
-    } else {
-        false
-    }
+    matches!(read(kind, word), Byte::Of(_))
 }
 
 // A word after `/` is a byte, or is found to be none later.
 fn goes_on(kind: Kind, next: &[u8]) -> bool {
-    if let Kind::Ack = kind {
-        return false;
-    }
-    (next.len() > 0) & !is_slash(next)
+    !matches!(kind, Kind::Ack) & (next.len() > 0) & !is_slash(next)
 }
 
 // The first of some words is of the kind; `/` has bytes on both sides.
@@ -56,18 +47,18 @@ fn value(kind: Kind, word: &[u8]) -> u8 {
 
 // `-` stands for no bytes, or for standard input.
 pub(crate) fn is_dash(word: &[u8]) -> bool {
-    same(word, b"-")
+    matches!(word, b"-")
 }
 
 // `/` stands between two parts.
 pub(crate) fn is_slash(word: &[u8]) -> bool {
-    same(word, b"/")
+    matches!(word, b"/")
 }
 
 // What is said of a word that is not of its kind: of `/` among bytes, where it may not stand.
-pub(crate) fn form_of(other: &[u8], form: usize) -> usize {
+pub(crate) fn form_of(other: &[u8], form: Form) -> Form {
     if is_slash(other) {
-        return forms::SLASH;
+        return Form::Slash;
     }
     form
 }
@@ -79,8 +70,7 @@ pub(crate) fn first_other(kind: Kind, words: &[u8]) -> &[u8] {
         if !suits(kind, rest, rest.len() == words.len()) {
             return first_word(rest);
         }
-        let next = after_word(rest);
-        rest = next;
+        rest = after_word(rest);
     }
     first_word(rest)
 }
@@ -89,7 +79,7 @@ fn counted(count: u64, word: &[u8]) -> u64 {
     if is_slash(word) {
         return count;
     }
-    more(count)
+    count.saturating_add(1)
 }
 
 // How many values they have.
@@ -98,8 +88,7 @@ pub(crate) fn count(words: &[u8]) -> u64 {
     let mut rest = words;
     while first_word(rest).len() > 0 {
         n = counted(n, first_word(rest));
-        let next = after_word(rest);
-        rest = next;
+        rest = after_word(rest);
     }
     n
 }
@@ -117,8 +106,7 @@ pub(crate) fn put_values(room: &mut [u8], kind: Kind, words: &[u8]) {
     let mut rest = words;
     while first_word(rest).len() > 0 {
         next = put_value(room, next, kind, first_word(rest));
-        let after = after_word(rest);
-        rest = after;
+        rest = after_word(rest);
     }
 }
 
@@ -130,19 +118,15 @@ fn begun(slash: bool, start: usize, next: usize) -> usize {
     start
 }
 
-fn longer(length: u8) -> u8 {
-    if length < u8::MAX { length + 1 } else { length }
-}
-
 // One byte more of the part that begins at a place, at the last where it begins past the room; answers where the next
 // byte stands.
 fn put_more(room: &mut [u8; MAX_LENGTH], slash: bool, start: usize, next: usize) -> usize {
     if slash {
         return next;
     }
-    let at = least(start, MAX_LENGTH - 1);
-    room[at] = longer(room[at]);
-    least(next, MAX_LENGTH - 1) + 1
+    let at = start.min(MAX_LENGTH - 1);
+    room[at] = room[at].saturating_add(1);
+    next.min(MAX_LENGTH - 1) + 1
 }
 
 // The length of each of their parts, where it begins.
@@ -154,7 +138,6 @@ pub(crate) fn put_parts(room: &mut [u8; MAX_LENGTH], words: &[u8]) {
         let slash = is_slash(first_word(rest));
         start = begun(slash, start, next);
         next = put_more(room, slash, start, next);
-        let after = after_word(rest);
-        rest = after;
+        rest = after_word(rest);
     }
 }

@@ -1,6 +1,0 @@
--- `rig_clash::corrected::with_boards` is safe and ends.
-use Rattle.std.proofs.Common.{◌-◌}
-use Rattle.rig_clash.proofs.corrected.with_boards.Given as goal
-
-abbrev pub decreases-loop-board : goal.decreases-loop-board
-decreases-loop-board l = l.boards - l.board

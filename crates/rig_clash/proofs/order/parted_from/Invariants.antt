@@ -1,6 +1,0 @@
--- `rig_clash::order::parted_from` is safe and ends.
-use Rattle.std.proofs.Common.{◌-◌}
-use Rattle.rig_clash.proofs.order.parted_from.Given as goal
-
-abbrev pub decreases-loop-board : goal.decreases-loop-board
-decreases-loop-board l = l.load.boards - l.board

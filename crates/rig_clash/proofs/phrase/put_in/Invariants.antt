@@ -1,6 +1,0 @@
--- `rig_clash::phrase::put_in` is safe and ends.
-use Rattle.std.proofs.Common.{length, ◌-◌}
-use Rattle.rig_clash.proofs.phrase.put_in.Given as goal
-
-abbrev pub decreases-loop-i : goal.decreases-loop-i
-decreases-loop-i l = length l.words - l.i

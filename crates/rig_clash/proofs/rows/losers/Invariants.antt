@@ -1,6 +1,0 @@
--- `rig_clash::rows::losers` is safe and ends.
-use Rattle.std.proofs.Common.{◌-◌}
-use Rattle.rig_clash.proofs.rows.losers.Given as goal
-
-abbrev pub decreases-loop-board : goal.decreases-loop-board
-decreases-loop-board l = l.load.boards - l.board

@@ -1,6 +1,0 @@
--- `rig_clash::svg::put_shades` is safe and ends.
-use Rattle.std.proofs.Common.{◌-◌}
-use Rattle.rig_clash.proofs.svg.put_shades.Given as goal
-
-abbrev pub decreases-loop-board : goal.decreases-loop-board
-decreases-loop-board l = l.load.boards - l.board

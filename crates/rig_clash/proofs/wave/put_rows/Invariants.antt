@@ -1,6 +1,0 @@
--- `rig_clash::wave::put_rows` is safe and ends.
-use Rattle.std.proofs.Common.{◌-◌}
-use Rattle.rig_clash.proofs.wave.put_rows.Given as goal
-
-abbrev pub decreases-loop-row : goal.decreases-loop-row
-decreases-loop-row l = l.rows - l.row
