@@ -66,7 +66,7 @@ impl Session {
     // A line was taken, perhaps one that is no text.
     fn with_progress(mut self, progress: Progress) -> Session {
         self.source = progress.source;
-        self.more = progress.more | progress.fault().is_some_and(|fault| fault.is_of_text());
+        self.more = progress.more | progress.fault().is_some_and(|fault| fault.is_of_line());
         self
     }
 

@@ -48,8 +48,8 @@ impl Fault {
         }
     }
 
-    // A line was taken, which is no text that can be read.
-    pub(crate) fn is_of_text(self) -> bool {
+    // A line was there, though it is no text that is taken: a session goes on after it.
+    pub(crate) fn is_of_line(self) -> bool {
         matches!(self, Fault::TooLong | Fault::NoText)
     }
 

@@ -41,17 +41,17 @@ fn put_refused(page: &mut [u8; PAGE], text: &[u8], number: u8, place: usize) -> 
     }
 }
 
-// What to do about a refusal. That of 6 is of too many samples.
+// What to do about a refusal; of 6, too many samples, the same as of 26.
 fn advice(number: u8) -> &'static [u8] {
     match number {
-        6 | 26 => b"dump a shorter time",
         20 => b"capture from where both lines have a level",
         21 => b"packets may have crossed: export the capture again",
         22 => b"dump only the two wires",
         23 => b"the file may be cut: copy it again",
         24 => b"declare SCL, then SDA, each as wire 1, and dump only these two",
         25 => b"choose a coarser timescale",
-        _ => b"export a Value Change Dump of SCL and SDA alone",
+        27 => b"export a Value Change Dump of SCL and SDA alone",
+        _ => b"dump a shorter time",
     }
 }
 
