@@ -1,58 +1,119 @@
 // The words of the command line: a command by its name, and what follows it.
-use crate::lines::say;
-use check::same;
+use crate::lines::{end, put};
 use phases::Mode;
 use rig_lines::arguments::{Found, count, find, word};
 use rig_lines::console::PAGE;
-use rig_lines::lists::{line_of, place_of};
 use rig_lines::numbers::{is_number, value};
 use rig_lines::options::is_option;
 use std::rt::Env;
+use text::put_bytes;
 
-// The commands by their place in the list of names.
-pub(crate) const DECODE: usize = 0;
+#[derive(Clone, Copy)]
+pub(crate) enum Task {
+    Decode,
+    Dump,
+    Encode,
+    Session,
+    Sort,
+}
 
-pub(crate) const DUMP: usize = 1;
+impl Task {
+    fn name(self) -> &'static [u8] {
+        match self {
+            Task::Decode => b"decode",
+            Task::Dump => b"dump",
+            Task::Encode => b"encode",
+            Task::Session => b"session",
+            Task::Sort => b"sort",
+        }
+    }
 
-pub(crate) const ENCODE: usize = 2;
+    // It goes without a file.
+    fn reads_input(self) -> bool {
+        matches!(self, Task::Encode | Task::Session)
+    }
+}
 
-pub(crate) const SESSION: usize = 3;
+// What is wrong with the words.
+#[derive(Clone, Copy)]
+enum Trouble {
+    TooLong,
+    NoNumber,
+    WordForNumber,
+    NoFile,
+    InputTwice,
+    TwoModes,
+    ModeAndThin,
+    NoCommand,
+    UnknownCommand,
+    SecondFile(Task),
+    UnknownOption(Task),
+}
 
-const SORT: usize = 4;
+const NO_COMMAND: &[u8] =
+    b"error expected a command: clash, decode, draw, dump, encode, match, night, session or sort";
 
-// What is wrong with the words: the places of the lines below.
-pub(crate) const NOTHING: usize = 0;
+const UNKNOWN: &[u8] =
+    b"error unknown command $: expected clash, decode, draw, dump, encode, match, night, session or sort";
 
-const TOO_LONG: usize = 1;
+impl Trouble {
+    // What is said of it, before a command's name; `$` stands for the word that it is about.
+    fn words(self) -> &'static [u8] {
+        match self {
+            Trouble::TooLong => b"error an argument is longer than 4096 bytes",
+            Trouble::NoNumber => b"error expected a number after --room",
+            Trouble::WordForNumber => b"error expected a number after --room, not $",
+            Trouble::NoFile => b"error expected a file, or - for standard input",
+            Trouble::InputTwice => b"error - stands twice: standard input is read once",
+            Trouble::TwoModes => b"error --standard does not go with --fast",
+            Trouble::ModeAndThin => b"error --thin goes with neither --standard nor --fast",
+            Trouble::NoCommand => NO_COMMAND,
+            Trouble::UnknownCommand => UNKNOWN,
+            Trouble::SecondFile(_) => b"error a second file $: ",
+            Trouble::UnknownOption(_) => b"error unknown option $ for ",
+        }
+    }
 
-const NO_NUMBER: usize = 2;
+    // It is about an argument.
+    fn about(self, argument: usize) -> Complaint {
+        Complaint {
+            trouble: self,
+            argument,
+        }
+    }
+}
 
-const WORD_FOR_NUMBER: usize = 3;
+// What is wrong, and with which argument.
+#[derive(Clone, Copy)]
+pub(crate) struct Complaint {
+    trouble: Trouble,
+    argument: usize,
+}
 
-const NO_FILE: usize = 4;
-
-const INPUT_TWICE: usize = 5;
-
-const TWO_MODES: usize = 6;
-
-const MODE_AND_THIN: usize = 7;
-
-const NO_COMMAND: usize = 8;
-
-const UNKNOWN_COMMAND: usize = 9;
-
-const SECOND_FILE: usize = 10;
-
-const UNKNOWN_OPTION: usize = 11;
+impl Complaint {
+    pub(crate) fn put<E: Env>(self, env: &E, page: &mut [u8; PAGE]) -> usize {
+        let mut space = io::buffer();
+        let n = word(env, self.argument, &mut space);
+        let front = put(page, 0, self.trouble.words(), &[], &space[..n]);
+        match self.trouble {
+            Trouble::SecondFile(task) => {
+                let named = put_bytes(page, front, task.name());
+                end(page, named, b" reads one")
+            }
+            Trouble::UnknownOption(task) => end(page, front, task.name()),
+            _ => end(page, front, b""),
+        }
+    }
+}
 
 #[derive(Clone, Copy)]
 pub(crate) struct Arguments {
-    pub(crate) task: usize,
-    // which argument names the file; 0: none does
-    pub(crate) file: usize,
+    pub(crate) task: Task,
+    // which argument names the file
+    pub(crate) file: Option<usize>,
     // the phases of a trace are judged as of Standard-mode, or of Fast-mode
-    pub(crate) standard: bool,
-    pub(crate) fast: bool,
+    standard: bool,
+    fast: bool,
     // samples that change no level are dropped
     pub(crate) thin: bool,
     // room to lend to the library; a command lends no more than it has
@@ -61,63 +122,43 @@ pub(crate) struct Arguments {
     input: bool,
     // the next word is the number of --room
     wants_room: bool,
-    // what is wrong, and with which argument
-    pub(crate) trouble: usize,
-    about: usize,
-}
-
-// How many of the options a command takes, in the order of their list.
-fn options(task: usize) -> usize {
-    match task {
-        DECODE => 4,
-        ENCODE => 1,
-        _ => 0,
-    }
 }
 
 impl Arguments {
-    fn none(task: usize) -> Arguments {
+    fn none(task: Task) -> Arguments {
         Arguments {
             task,
-            file: 0,
+            file: None,
             standard: false,
             fast: false,
             thin: false,
             room: usize::MAX,
             input: false,
             wants_room: false,
-            trouble: NOTHING,
-            about: 0,
         }
     }
 
-    fn failed(mut self, trouble: usize, argument: usize) -> Arguments {
-        self.trouble = trouble;
-        self.about = argument;
-        self
-    }
-
-    fn with_room(mut self, argument: usize, word: &[u8]) -> Arguments {
+    fn with_room(mut self, argument: usize, word: &[u8]) -> Result<Arguments, Complaint> {
         let number = text::decimal(word);
         if !is_number(number) {
-            return self.failed(WORD_FOR_NUMBER, argument);
+            return Err(Trouble::WordForNumber.about(argument));
         }
         self.room = value(number) as usize;
         self.wants_room = false;
-        self
+        Ok(self)
     }
 
     // Standard input is read once.
-    fn with_file(mut self, argument: usize, input: bool) -> Arguments {
+    fn with_file(mut self, argument: usize, input: bool) -> Result<Arguments, Complaint> {
         if self.input & input {
-            return self.failed(INPUT_TWICE, argument);
+            return Err(Trouble::InputTwice.about(argument));
         }
-        if self.file > 0 {
-            return self.failed(SECOND_FILE, argument);
+        if self.file.is_some() {
+            return Err(Trouble::SecondFile(self.task).about(argument));
         }
-        self.file = argument;
+        self.file = Some(argument);
         self.input = input;
-        self
+        Ok(self)
     }
 
     // The mode in which a trace is read.
@@ -131,108 +172,89 @@ impl Arguments {
         Mode::Unchecked
     }
 
-    fn with_option(mut self, argument: usize, word: &[u8]) -> Arguments {
-        let option = place_of(b"--room\n--standard\n--fast\n--thin\n", word);
-        if option >= options(self.task) {
-            return self.failed(UNKNOWN_OPTION, argument);
+    // The option that names it.
+    pub(crate) fn mode_option(self) -> Option<&'static [u8]> {
+        if self.standard {
+            return Some(b"--standard");
         }
-        self.wants_room = option == 0;
-        self.standard = self.standard | (option == 1);
-        self.fast = self.fast | (option == 2);
-        self.thin = self.thin | (option == 3);
-        self
+        if self.fast {
+            return Some(b"--fast");
+        }
+        None
     }
 
-    fn with_word(self, argument: usize, word: &[u8]) -> Arguments {
+    fn with_option(mut self, argument: usize, word: &[u8]) -> Result<Arguments, Complaint> {
+        match (self.task, word) {
+            (Task::Decode | Task::Encode, b"--room") => self.wants_room = true,
+            (Task::Decode, b"--standard") => self.standard = true,
+            (Task::Decode, b"--fast") => self.fast = true,
+            (Task::Decode, b"--thin") => self.thin = true,
+            _ => return Err(Trouble::UnknownOption(self.task).about(argument)),
+        }
+        Ok(self)
+    }
+
+    fn with_word(self, argument: usize, word: &[u8]) -> Result<Arguments, Complaint> {
         if self.wants_room {
             return self.with_room(argument, word);
         }
         if is_option(word) {
             return self.with_option(argument, word);
         }
-        self.with_file(argument, same(word, b"-"))
+        self.with_file(argument, matches!(word, b"-"))
     }
 
-    fn with_argument<E: Env>(self, env: &E, argument: usize) -> Arguments {
+    fn with_argument<E: Env>(self, env: &E, argument: usize) -> Result<Arguments, Complaint> {
         let mut space = io::buffer();
         match find(env, argument, &mut space) {
             Found::Word(n) => self.with_word(argument, &space[..n]),
-            _ => self.failed(TOO_LONG, argument),
+            _ => Err(Trouble::TooLong.about(argument)),
         }
     }
 
-    // What is found once all words are read. rig encode and rig session go without a file.
-    fn finished(self) -> Arguments {
-        if self.trouble != NOTHING {
-            return self;
-        }
+    // What is found once all words are read.
+    fn finished(self) -> Result<Arguments, Complaint> {
         if self.wants_room {
-            return self.failed(NO_NUMBER, 0);
+            return Err(Trouble::NoNumber.about(0));
         }
-        if (self.file == 0) & (self.task != ENCODE) & (self.task != SESSION) {
-            return self.failed(NO_FILE, 0);
+        if self.file.is_none() & !self.task.reads_input() {
+            return Err(Trouble::NoFile.about(0));
         }
         if self.standard & self.fast {
-            return self.failed(TWO_MODES, 0);
+            return Err(Trouble::TwoModes.about(0));
         }
         if self.thin & (self.standard | self.fast) {
-            return self.failed(MODE_AND_THIN, 0);
+            return Err(Trouble::ModeAndThin.about(0));
         }
-        self
-    }
-
-    pub(crate) fn complain<E: Env>(self, env: &E, page: &mut [u8; PAGE]) -> usize {
-        let mut space = io::buffer();
-        let n = word(env, self.about, &mut space);
-        let words = line_of(
-            b"
-error an argument is longer than 4096 bytes
-error expected a number after --room
-error expected a number after --room, not $
-error expected a file, or - for standard input
-error - stands twice: standard input is read once
-error --standard does not go with --fast
-error --thin goes with neither --standard nor --fast
-error expected a command: clash, decode, draw, dump, encode, match, night, session or sort
-error unknown command $: expected clash, decode, draw, dump, encode, match, night, session or sort
-error a second file $: * reads one
-error unknown option $ for *
-",
-            self.trouble,
-        );
-        say(page, 0, words, &[self.task as u64], &space[..n])
+        Ok(self)
     }
 }
 
 // The command that the first word names.
-fn of_command(word: &[u8]) -> Arguments {
-    let task = place_of(b"decode\ndump\nencode\nsession\nsort\n", word);
-    if task > SORT {
-        return Arguments::none(0).failed(UNKNOWN_COMMAND, 1);
+fn of_command(word: &[u8]) -> Result<Task, Complaint> {
+    match word {
+        b"decode" => Ok(Task::Decode),
+        b"dump" => Ok(Task::Dump),
+        b"encode" => Ok(Task::Encode),
+        b"session" => Ok(Task::Session),
+        b"sort" => Ok(Task::Sort),
+        _ => Err(Trouble::UnknownCommand.about(1)),
     }
-    Arguments::none(task)
 }
 
-fn begun<E: Env>(env: &E) -> Arguments {
-    let none = Arguments::none(0);
+fn chosen<E: Env>(env: &E) -> Result<Task, Complaint> {
     let mut space = io::buffer();
     match find(env, 1, &mut space) {
         Found::Word(n) => of_command(&space[..n]),
-        Found::TooLong => none.failed(TOO_LONG, 1),
-        Found::Missing => none.failed(NO_COMMAND, 0),
+        Found::TooLong => Err(Trouble::TooLong.about(1)),
+        Found::Missing => Err(Trouble::NoCommand.about(0)),
     }
 }
 
-pub(crate) fn parse<E: Env>(env: &E) -> Arguments {
-    let mut given = begun(env);
-    let end = count(env);
-    let mut i: usize = 2;
-    while i < end {
-        if given.trouble != NOTHING {
-            return given;
-        }
-        given = given.with_argument(env, i);
-        i += 1;
+pub(crate) fn parse<E: Env>(env: &E) -> Result<Arguments, Complaint> {
+    let mut given = Arguments::none(chosen(env)?);
+    for i in 2..count(env) {
+        given = given.with_argument(env, i)?;
     }
     given.finished()
 }

@@ -9,7 +9,6 @@ use crate::lines::{end, put_numbers, say_numbers};
 use decode::Decoded;
 use laws::Refusal;
 use rig_lines::console::PAGE;
-use rig_lines::lists::line_of;
 use rig_lines::refusals::{put_refusal, put_sample_refusal, put_stamp_refusal};
 use rig_lines::{parts, store};
 use shown::Shown;
@@ -25,7 +24,7 @@ const CROSSED: u8 = 7;
 
 // The first stamp and the gap, so that rig encode draws the trace again.
 fn show_start(page: &mut [u8; PAGE], at: usize, stamps: &[u32]) -> usize {
-    if stamps.len() == 0 {
+    if stamps.is_empty() {
         return at;
     }
     let gap = trace_gaps::even(stamps);
@@ -36,15 +35,15 @@ fn show_start(page: &mut [u8; PAGE], at: usize, stamps: &[u32]) -> usize {
     say_numbers(page, next, b"gap #", &[gap as u64])
 }
 
-// Which words begin the last line: a frame that is open needs a look.
-fn verdict(shown: Shown, framed: bool) -> usize {
+// The words that begin the last line: a frame that is open needs a look.
+fn verdict(shown: Shown, framed: bool) -> &'static [u8] {
     if framed {
-        return 2;
+        return b"look # event~ in # sample~, frame open, # bit~ pending";
     }
     if (shown.cut_bytes > 0) | (shown.long_gaps > 0) | !shown.bytes {
-        return 1;
+        return b"look # event~ in # sample~, no frame open, # bit~ pending";
     }
-    0
+    b"ok # event~ in # sample~, no frame open, # bit~ pending"
 }
 
 // What there is some of.
@@ -59,21 +58,16 @@ fn put_some(page: &mut [u8; PAGE], at: usize, words: &[u8], number: u64) -> usiz
 fn put_ending(
     page: &mut [u8; PAGE],
     at: usize,
-    verdict: usize,
+    words: &[u8],
     samples: usize,
     ending: Decoded,
 ) -> usize {
-    let words = line_of(
-        b"ok # event~ in # sample~, no frame open, # bit~ pending
-look # event~ in # sample~, no frame open, # bit~ pending
-look # event~ in # sample~, frame open, # bit~ pending
-",
-        verdict,
-    );
     let numbers = [ending.count as u64, samples as u64, ending.pending as u64];
     let pending = put_numbers(page, at, words, &numbers);
-    let value = line_of(b"\n, value %h\n", (ending.pending > 0) as usize);
-    put_numbers(page, pending, value, &[ending.value as u64])
+    if ending.pending == 0 {
+        return pending;
+    }
+    put_numbers(page, pending, b", value %h", &[ending.value as u64])
 }
 
 // The last line: how the trace ends, and what was met that needs a look.
@@ -87,8 +81,10 @@ fn summary(page: &mut [u8; PAGE], shown: Shown, samples: usize, ending: Decoded)
     );
     let cuts = put_some(page, front, b", # cut byte~", shown.cut_bytes);
     let gaps = put_some(page, cuts, b", # long gap~", shown.long_gaps);
-    let bytes = line_of(b", no byte in any frame\n", shown.bytes as usize);
-    end(page, gaps, bytes)
+    if shown.bytes {
+        return end(page, gaps, b"");
+    }
+    end(page, gaps, b", no byte in any frame")
 }
 
 // A refusal, with the line of its sample; a sample of a dump has no line, and is named by its stamp.
@@ -119,8 +115,10 @@ pub(crate) fn refuse(
     if number == CROSSED {
         return crossed::say_why(page, next, stamps, lines, place);
     }
-    let why = line_of(b"\n; line # has no level\n", (number == UNPAIRED) as usize);
-    say_numbers(page, next, why, &[unpaired])
+    if number == UNPAIRED {
+        return say_numbers(page, next, b"; line # has no level", &[unpaired]);
+    }
+    end(page, next, b"")
 }
 
 // What the library says of a trace, of which only the samples that change a level are held to the limit.
@@ -152,7 +150,7 @@ fn show(
     lines: &[u64],
     ending: Decoded,
 ) -> usize {
-    let usual = shown::inside(lines.len() > 0, trace_gaps::usual(stamps, levels));
+    let usual = shown::inside(!lines.is_empty(), trace_gaps::usual(stamps, levels));
     let next = show_start(page, at, stamps);
     let shown = shown::show_all(page, next, stamps, levels, lines, usual);
     summary(page, shown, levels.len(), ending)

@@ -11,14 +11,6 @@ const PIECES: u8 = 32;
 // The text refused for its length alone is given in pieces.
 const SHORT: u8 = 8;
 
-fn moved(from: usize, n: usize) -> usize {
-    if n < usize::MAX - from {
-        from + n
-    } else {
-        from
-    }
-}
-
 // Writes the text from a byte on, as much as is gathered; answers how many bytes those are.
 fn write_piece(stamps: &[u32], levels: &[u8], from: usize) -> usize {
     let mut gathered = [0u8; GATHERED];
@@ -30,10 +22,8 @@ fn write_piece(stamps: &[u32], levels: &[u8], from: usize) -> usize {
 // Writes the text, piece by piece; answers how many bytes it has.
 fn write(stamps: &[u32], levels: &[u8]) -> usize {
     let mut from: usize = 0;
-    let mut left = PIECES;
-    while left > 0 {
-        from = moved(from, write_piece(stamps, levels, from));
-        left -= 1;
+    for _ in 0..PIECES {
+        from = from.saturating_add(write_piece(stamps, levels, from));
     }
     from
 }

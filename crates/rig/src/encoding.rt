@@ -4,7 +4,6 @@ mod statement; // statement.rt: what a line of it says
 
 use crate::hints;
 use crate::lines::say_numbers;
-use crate::trouble::NOTHING;
 use listing::{EVENTS, Listing};
 use rig_lines::console::PAGE;
 use rig_lines::files::Reader;
@@ -21,15 +20,6 @@ fn show_sample(page: &mut [u8; PAGE], at: usize, stamp: u32, level: u8) -> usize
     say_numbers(page, at, b"# #", &[stamp as u64, level as u64])
 }
 
-fn show_at(page: &mut [u8; PAGE], at: usize, stamps: &[u32], levels: &[u8], i: usize) -> usize {
-    if i < stamps.len() {
-        if i < levels.len() {
-            return show_sample(page, at, stamps[i], levels[i]);
-        }
-    }
-    at
-}
-
 // Shows the first samples of a trace, so many, one a line.
 pub(crate) fn show_all(
     page: &mut [u8; PAGE],
@@ -38,10 +28,8 @@ pub(crate) fn show_all(
     count: usize,
 ) -> usize {
     let mut next: usize = 0;
-    let mut i: usize = 0;
-    while i < count {
-        next = show_at(page, next, stamps, levels, i);
-        i += 1;
+    for (stamp, level) in stamps.iter().zip(levels).take(count) {
+        next = show_sample(page, next, *stamp, *level);
     }
     next
 }
@@ -92,10 +80,10 @@ fn answer_read<E: Env>(
     events: &[u16; EVENTS],
     room: usize,
 ) -> usize {
-    if listing.progress.fault != NOTHING {
-        return listing.complain(env, page, line);
+    match listing.progress.wrong {
+        Some(wrong) => listing.complain(env, page, line, wrong),
+        None => answer_part(page, listing, events, room),
     }
-    answer_part(page, listing, events, room)
 }
 
 pub(crate) fn run<E: Env>(

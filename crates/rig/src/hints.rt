@@ -1,63 +1,53 @@
 // What a file is, by its words: a hint where a command is handed another one's file.
 use crate::lines;
 use rig_lines::console::PAGE;
-use rig_lines::lists::{line_of, place_of};
 
-// The places of the hints below.
-pub(crate) const NONE: usize = 0;
+#[derive(Clone, Copy)]
+pub(crate) enum Hint {
+    Events,
+    Dump,
+    Loads,
+    Trace,
+}
 
-const EVENTS: usize = 1;
-
-const DUMP: usize = 2;
-
-const LOADS: usize = 3;
-
-const TRACE: usize = 4;
-
-pub(crate) fn ends_in_colon(word: &[u8]) -> bool {
-    let n = word.len();
-    if n == 0 {
-        return false;
+impl Hint {
+    fn words(self) -> &'static [u8] {
+        match self {
+            Hint::Events => b"; this looks like an event list: did you mean rig encode?",
+            Hint::Dump => b"; this looks like a Value Change Dump: did you mean rig decode?",
+            Hint::Loads => b"; this looks like a file of loads: did you mean rig clash?",
+            Hint::Trace => b"; this looks like a trace: did you mean rig decode?",
+        }
     }
-    word[n - 1] == b':'
 }
 
 // For rig encode, at a line that begins with a word.
-pub(crate) fn loads(word: &[u8]) -> usize {
-    if place_of(b"boards\nload\nboard\nack\n", word) < 4 {
-        return LOADS;
+pub(crate) fn loads(word: &[u8]) -> Option<Hint> {
+    match word {
+        b"boards" | b"load" | b"board" | b"ack" => Some(Hint::Loads),
+        _ => None,
     }
-    NONE
 }
 
 // For a reader of traces, at a line that begins with a word.
-pub(crate) fn other(word: &[u8]) -> usize {
-    if (place_of(b"START\nSTOP\nrepeated\ncut\nstart\ngap\n", word) < 6) | ends_in_colon(word) {
-        return EVENTS;
+pub(crate) fn other(word: &[u8]) -> Option<Hint> {
+    match word {
+        b"START" | b"STOP" | b"repeated" | b"cut" | b"start" | b"gap" => Some(Hint::Events),
+        [.., b':'] => Some(Hint::Events),
+        [b'$', ..] => Some(Hint::Dump),
+        _ => loads(word),
     }
-    if word.len() > 0 {
-        if word[0] == b'$' {
-            return DUMP;
-        }
-    }
-    loads(word)
 }
 
 // For rig encode, at a list that looks like samples.
-pub(crate) fn trace(samples: bool) -> usize {
-    if samples { TRACE } else { NONE }
+pub(crate) fn trace(samples: bool) -> Option<Hint> {
+    samples.then_some(Hint::Trace)
 }
 
-// Ends a line with a hint.
-pub(crate) fn end(page: &mut [u8; PAGE], at: usize, hint: usize) -> usize {
-    let words = line_of(
-        b"
-; this looks like an event list: did you mean rig encode?
-; this looks like a Value Change Dump: did you mean rig decode?
-; this looks like a file of loads: did you mean rig clash?
-; this looks like a trace: did you mean rig decode?
-",
-        hint,
-    );
-    lines::end(page, at, words)
+// Ends a line with a hint, where there is one.
+pub(crate) fn end(page: &mut [u8; PAGE], at: usize, hint: Option<Hint>) -> usize {
+    match hint {
+        Some(hint) => lines::end(page, at, hint.words()),
+        None => lines::end(page, at, b""),
+    }
 }

@@ -1,11 +1,10 @@
 // Lines of output in words with marks.
 use rig_lines::console::{PAGE, begin, put_quoted};
-use rig_lines::lists::line_of;
 use rig_lines::store::line_at;
 use text::{put_byte, put_bytes, put_decimal, put_hex_byte};
 
 // What stands for the next number, in decimal or as two hexadecimal digits; for `s`, unless the number before was 1;
-// for a word that was met, in quotes; and for the command, whose place among them is the first number.
+// and for a word that was met, in quotes.
 const DECIMAL: u8 = b'#';
 
 const HEX: u8 = b'%';
@@ -14,35 +13,12 @@ const PLURAL: u8 = b'~';
 
 const WORD: u8 = b'$';
 
-const COMMAND: u8 = b'*';
-
-// No line has more numbers.
-const MANY: usize = 16;
-
 // The place of the next number after a byte of the words.
 fn after(b: u8, place: usize) -> usize {
-    if place < MANY {
-        if (b == DECIMAL) | (b == HEX) {
-            return place + 1;
-        }
+    match b {
+        DECIMAL | HEX => place.saturating_add(1),
+        _ => place,
     }
-    place
-}
-
-pub(crate) fn before(place: usize) -> usize {
-    if place > 0 { place - 1 } else { 0 }
-}
-
-fn put_plural(page: &mut [u8; PAGE], at: usize, number: u64) -> usize {
-    if number == 1 {
-        return at;
-    }
-    put_byte(page, at, b's')
-}
-
-fn put_command(page: &mut [u8; PAGE], at: usize, task: u64) -> usize {
-    let commands = b"decode\ndump\nencode\nsession\nsort\n";
-    put_bytes(page, at, line_of(commands, task as usize))
 }
 
 fn put_mark(
@@ -56,9 +32,9 @@ fn put_mark(
     match b {
         DECIMAL => put_decimal(page, at, line_at(numbers, place)),
         HEX => put_hex_byte(page, at, (line_at(numbers, place) % 256) as u8),
-        PLURAL => put_plural(page, at, line_at(numbers, before(place))),
+        PLURAL if line_at(numbers, place.saturating_sub(1)) == 1 => at,
+        PLURAL => put_byte(page, at, b's'),
         WORD => put_quoted(page, at, word),
-        COMMAND => put_command(page, at, line_at(numbers, 0)),
         _ => put_byte(page, at, b),
     }
 }
@@ -73,12 +49,9 @@ pub(crate) fn put(
 ) -> usize {
     let mut next = begin(page, at);
     let mut place: usize = 0;
-    let mut i = 0;
-    while i < words.len() {
-        let b = words[i];
-        next = put_mark(page, next, b, numbers, place, word);
-        place = after(b, place);
-        i += 1;
+    for b in words {
+        next = put_mark(page, next, *b, numbers, place, word);
+        place = after(*b, place);
     }
     next
 }
@@ -123,9 +96,5 @@ pub(crate) fn end(page: &mut [u8; PAGE], at: usize, words: &[u8]) -> usize {
 
 // So many bytes at the end of a line.
 pub(crate) fn suffix(line: &[u8], left: usize) -> &[u8] {
-    if left < line.len() {
-        let from = line.len() - left;
-        return &line[from..];
-    }
-    line
+    &line[line.len().saturating_sub(left)..]
 }

@@ -14,7 +14,7 @@ mod sorting; // sorting.rt: a capture in the order of its stamps
 mod traced; // traced.rt: a trace read from its lines
 mod trouble; // trouble.rt: what was not understood or could not be read
 
-use arguments::{Arguments, ENCODE, NOTHING, SESSION};
+use arguments::{Arguments, Task};
 use rig_lines::arguments::word;
 use rig_lines::console::PAGE;
 use rig_lines::files::{Opened, Reader};
@@ -31,25 +31,26 @@ fn run<E: Env>(
     given: Arguments,
     source: Source,
 ) -> usize {
-    let task = given.task;
-    match task {
-        ENCODE => encoding::run(env, reader, page, source, given.room),
-        SESSION => session::run(env, reader, page, source),
+    match given.task {
+        Task::Encode => encoding::run(env, reader, page, source, given.room),
+        Task::Session => session::run(env, reader, page, source),
         _ => traced::run(env, reader, page, given, source),
     }
 }
 
 // The reader that is lent is standard input.
 fn begin<R: Env + Files<File = File>>(rt: &R, reader: &mut Reader, page: &mut [u8; PAGE]) -> usize {
-    let given = arguments::parse(rt);
-    if given.trouble != NOTHING {
-        return given.complain(rt, page);
-    }
+    let given = match arguments::parse(rt) {
+        Ok(given) => given,
+        Err(complaint) => return complaint.put(rt, page),
+    };
+    // argument 0 is standard input
+    let file = given.file.unwrap_or(0);
     let mut name = io::buffer();
-    let n = word(rt, given.file, &mut name);
-    match files::open(rt, reader, given.file, &name[..n]) {
+    let n = word(rt, file, &mut name);
+    match files::open(rt, reader, file, &name[..n]) {
         Opened::Source(source) => run(rt, reader, page, given, source),
-        Opened::Failed(errno) => trouble::file(rt, page, b"error cannot open ", given.file, errno),
+        Opened::Failed(errno) => trouble::file(rt, page, b"error cannot open ", file, errno),
     }
 }
 

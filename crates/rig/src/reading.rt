@@ -1,6 +1,8 @@
 // A file read line by line: how far it is, and what is wrong with the line read last.
+use crate::hints::Hint;
 use crate::lines::suffix;
 use crate::trouble;
+use crate::trouble::{Fault, Wrong};
 use rig_lines::console::PAGE;
 use rig_lines::input;
 use rig_lines::input::{Line, ROOM, Source, Taken};
@@ -11,11 +13,10 @@ use text::first_word;
 pub(crate) struct Progress {
     pub(crate) source: Source,
     pub(crate) more: bool,
-    // one of trouble.rt's places
-    pub(crate) fault: usize,
-    // how many bytes of the line are text, and where the wrong word stands, in bytes before their end
+    // what is wrong with the line, after which there is no more
+    pub(crate) wrong: Option<Wrong>,
+    // how many bytes of the line are text
     pub(crate) length: usize,
-    left: usize,
 }
 
 impl Progress {
@@ -23,16 +24,20 @@ impl Progress {
         Progress {
             source,
             more: true,
-            fault: trouble::NOTHING,
+            wrong: None,
             length: 0,
-            left: 0,
         }
     }
 
-    pub(crate) fn ended(mut self, fault: usize, left: usize) -> Progress {
+    // There is no more, and nothing is wrong.
+    pub(crate) fn ended(mut self) -> Progress {
         self.more = false;
-        self.fault = fault;
-        self.left = left;
+        self
+    }
+
+    pub(crate) fn failed(mut self, wrong: Wrong) -> Progress {
+        self.more = false;
+        self.wrong = Some(wrong);
         self
     }
 
@@ -41,30 +46,33 @@ impl Progress {
         self
     }
 
+    pub(crate) fn fault(self) -> Option<Fault> {
+        self.wrong.map(|wrong| wrong.fault)
+    }
+
     // Says what is wrong, with a hint.
     pub(crate) fn complain<E: Env>(
         self,
         env: &E,
         page: &mut [u8; PAGE],
         line: &[u8; ROOM],
-        hint: usize,
+        wrong: Wrong,
+        hint: Option<Hint>,
     ) -> usize {
         let words = input::content(line, self.length);
-        let word = first_word(suffix(words, self.left));
-        trouble::fault(env, page, self.source, self.fault, word, hint)
+        let word = first_word(suffix(words, wrong.left));
+        trouble::put_fault(env, page, self.source, wrong.fault, word, hint)
     }
 }
 
 // How far a file is after a line was taken.
 pub(crate) fn after(taken: Taken) -> Progress {
-    let found = taken.line;
-    let source = taken.source;
-    let begun = Progress::new(source);
-    match found {
+    let begun = Progress::new(taken.source);
+    match taken.line {
         Line::Text(n) => begun.with_text(n),
-        Line::TooLong => begun.ended(trouble::TOO_LONG, 0),
-        Line::NoText => begun.ended(trouble::NO_TEXT, 0),
-        Line::End => begun.ended(trouble::NOTHING, 0),
-        Line::Failed => begun.ended(trouble::FAILED, 0),
+        Line::TooLong => begun.failed(Fault::TooLong.at(0)),
+        Line::NoText => begun.failed(Fault::NoText.at(0)),
+        Line::End => begun.ended(),
+        Line::Failed => begun.failed(Fault::Failed.at(0)),
     }
 }

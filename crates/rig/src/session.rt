@@ -5,12 +5,12 @@ mod reply; // reply.rt: what a command is answered
 use crate::lines::say_numbers;
 use crate::reading::{Progress, after};
 use crate::trouble;
-use reply::Reply;
+use crate::trouble::Fault;
+use reply::{Answer, Reply};
 use rig_lines::console::{PAGE, flush};
 use rig_lines::files::Reader;
 use rig_lines::input;
 use rig_lines::input::{ROOM, Source};
-use rig_lines::lists::line_of;
 use rig_lines::numbers::more;
 use std::rt::Env;
 use text::first_word;
@@ -65,31 +65,27 @@ impl Session {
 
     // A line was taken, perhaps one that is no text.
     fn with_progress(mut self, progress: Progress) -> Session {
-        let source = progress.source;
-        let fault = progress.fault;
-        self.source = source;
-        self.more = progress.more | (fault == trouble::TOO_LONG) | (fault == trouble::NO_TEXT);
+        self.source = progress.source;
+        self.more = progress.more | progress.fault().is_some_and(|fault| fault.is_of_line());
         self
     }
 
     // What a reply leaves behind.
     fn after(mut self, reply: Reply) -> Session {
-        let device = reply.device;
-        self.device = device;
-        if reply.to_command() {
-            self.commands = more(self.commands);
+        self.device = reply.device;
+        if matches!(reply.answer, Answer::Nothing) {
+            return self;
         }
-        if reply.is_error() {
-            return self.with_fault();
+        self.commands = more(self.commands);
+        match reply.answer {
+            Answer::Error(_) => self.with_fault(),
+            Answer::Refused(number) => self.with_refusal(number),
+            _ => self,
         }
-        if reply.refusal > 0 {
-            return self.with_refusal(reply.refusal);
-        }
-        self
     }
 
     // Replies to a line at once.
-    fn replied(self, page: &mut [u8; PAGE], fault: usize, words: &[u8]) -> Session {
+    fn replied(self, page: &mut [u8; PAGE], fault: Option<Fault>, words: &[u8]) -> Session {
         if !self.more {
             return self;
         }
@@ -99,43 +95,27 @@ impl Session {
         self.after(reply)
     }
 
-    // What the last line counts: commands that were not understood, else those that were refused, else all.
-    fn counts(self) -> [u64; 4] {
-        if self.faults > 0 {
-            return [self.faults, self.commands, self.first_fault, 0];
-        }
-        if self.refusals > 0 {
-            let number = self.number as u64;
-            return [number, self.refusals, self.commands, self.first_refusal];
-        }
-        [self.commands, 0, 0, 0]
-    }
-
-    // The place of its words.
-    fn ending(self) -> usize {
-        if self.faults > 0 {
-            return 0;
-        }
-        if self.refusals > 0 { 1 } else { 2 }
-    }
-
-    // The last line.
+    // The last line counts commands that were not understood, else those that were refused, else all.
     fn summary<E: Env>(self, env: &E, page: &mut [u8; PAGE]) -> usize {
         if self.source.errno != 0 {
-            let source = self.source;
-            return trouble::file(
-                env,
+            return trouble::unread(env, page, self.source);
+        }
+        if self.faults > 0 {
+            let words = b"error # of # commands not understood, the first on line #";
+            return say_numbers(
                 page,
-                b"error cannot read ",
-                source.argument,
-                source.errno,
+                0,
+                words,
+                &[self.faults, self.commands, self.first_fault],
             );
         }
-        let words = b"error # of # commands not understood, the first on line #
-refused #: # of # commands refused, the first on line #
-ok # command~";
-        let counts = self.counts();
-        say_numbers(page, 0, line_of(words, self.ending()), &counts)
+        if self.refusals > 0 {
+            let words = b"refused #: # of # commands refused, the first on line #";
+            let number = self.number as u64;
+            let counts = [number, self.refusals, self.commands, self.first_refusal];
+            return say_numbers(page, 0, words, &counts);
+        }
+        say_numbers(page, 0, b"ok # command~", &[self.commands])
     }
 }
 
@@ -151,7 +131,11 @@ fn with_next(
     let taken = input::next_line(reader, piece, line, from);
     let progress = after(taken);
     let next = session.with_progress(progress);
-    next.replied(page, progress.fault, input::content(line, progress.length))
+    next.replied(
+        page,
+        progress.fault(),
+        input::content(line, progress.length),
+    )
 }
 
 fn run_all(
@@ -162,9 +146,7 @@ fn run_all(
     source: Source,
 ) -> Session {
     let mut session = Session::new(source);
-    let mut turns = u64::MAX;
-    while turns > 0 {
-        turns -= 1;
+    for _ in 0..u64::MAX {
         if !session.more {
             return session;
         }

@@ -1,11 +1,9 @@
 // rig sort: the samples of a capture in the order of their stamps, one a line.
-use crate::decoding::crossed::{falls, first_from};
+use crate::decoding::crossed::{falls, stamp_at};
 use crate::decoding::refuse;
 use crate::encoding::show_all;
 use crate::lines::{end, say_numbers};
 use rig_lines::console::PAGE;
-use rig_lines::lists::line_of;
-use rig_lines::numbers::more;
 use rig_lines::store::line_at;
 use trace::MAX_SAMPLES;
 
@@ -14,35 +12,29 @@ const TAKEN: u8 = 7;
 
 // How many samples have a stamp that is not above that of the one before them.
 fn out_of_order(stamps: &[u32]) -> u64 {
-    let mut count: u64 = 0;
-    let mut i: usize = 0;
-    while i < stamps.len() {
-        if falls(stamps, i) {
-            count = more(count);
-        }
-        i += 1;
-    }
-    count
+    (0..stamps.len()).filter(|i| falls(stamps, *i)).count() as u64
 }
 
 // Two samples have one stamp.
 fn taken(page: &mut [u8; PAGE], stamps: &[u32], lines: &[u64], place: usize) -> usize {
-    let earlier = first_from(stamps, place, false);
-    let numbers = [place as u64, line_at(lines, place), line_at(lines, earlier)];
+    let stamp = stamp_at(stamps, place);
+    let earlier = stamps.iter().position(|other| *other == stamp);
+    let first = earlier.map_or(0, |i| line_at(lines, i));
+    let numbers = [place as u64, line_at(lines, place), first];
     let words = b"refused 7 sample # (line #): its stamp is that of line #";
     say_numbers(page, 0, words, &numbers)
 }
 
 // The last line: none, all in order, or some not.
 fn sorted(page: &mut [u8; PAGE], at: usize, count: usize, crossed: u64) -> usize {
-    let words = line_of(
-        b"ok # sample~, all in order\nok # sample~, # out of order\n",
-        (crossed > 0) as usize,
-    );
     if count == 0 {
         return end(page, at, b"look 0 samples");
     }
-    say_numbers(page, at, words, &[count as u64, crossed])
+    let count = count as u64;
+    if crossed == 0 {
+        return say_numbers(page, at, b"ok # sample~, all in order", &[count]);
+    }
+    say_numbers(page, at, b"ok # sample~, # out of order", &[count, crossed])
 }
 
 // Hands a capture to the library, and shows it in order.

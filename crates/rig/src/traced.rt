@@ -1,9 +1,8 @@
 // rig decode, rig dump and rig sort: what is done with the samples of a trace.
-use crate::arguments::{Arguments, DECODE, DUMP};
+use crate::arguments::{Arguments, Task};
 use crate::decoding::captured::TEXT;
 use crate::decoding::samples::{CAPTURE, Reading};
 use crate::decoding::{captured, samples};
-use crate::trouble::NOTHING;
 use crate::{decoding, dumping, sorting};
 use rig_lines::console::PAGE;
 use rig_lines::files::Reader;
@@ -24,9 +23,8 @@ fn answer(
     let level_count = parts::bytes(reading.levels, levels);
     let read_stamps = &stamps[..stamp_count];
     let read_levels = &levels[..level_count];
-    let task = given.task;
-    match task {
-        DECODE => decoding::answer(
+    match given.task {
+        Task::Decode => decoding::answer(
             page,
             0,
             given,
@@ -35,7 +33,7 @@ fn answer(
             read_levels,
             lines,
         ),
-        DUMP => dumping::answer(page, reading.unpaired, read_stamps, read_levels, lines),
+        Task::Dump => dumping::answer(page, reading.unpaired, read_stamps, read_levels, lines),
         _ => sorting::answer(page, reading.unpaired, read_stamps, read_levels, lines),
     }
 }
@@ -51,10 +49,10 @@ fn answer_read<E: Env>(
     levels: &[u8; CAPTURE],
     lines: &[u64; CAPTURE],
 ) -> usize {
-    if reading.progress.fault != NOTHING {
-        return reading.complain(env, page, line);
+    match reading.progress.wrong {
+        Some(wrong) => reading.complain(env, page, line, wrong),
+        None => answer(page, given, reading, stamps, levels, lines),
     }
-    answer(page, given, reading, stamps, levels, lines)
 }
 
 // Reads the lines of a trace.
@@ -93,7 +91,7 @@ pub(crate) fn run<E: Env>(
     let mut piece = [0u8; TEXT];
     let ready = input::fill(reader, &mut piece, source);
     let n = parts::bytes(ready.end, &piece);
-    if (given.task == DECODE) & captured::begins(&piece[..n]) {
+    if matches!(given.task, Task::Decode) & captured::begins(&piece[..n]) {
         return captured::run(env, page, given, ready, &piece[..n]);
     }
     run_lines(env, reader, page, given, ready, &mut piece)

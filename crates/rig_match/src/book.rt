@@ -1,7 +1,6 @@
 // The rehearsal as it is kept: the rows of its loads and boards as frame_match has them, their events and their names
 // each one after another.
 use frame_match::FIELDS;
-use rig_lines::parts;
 
 // How much is kept; one more of each shows that there is more.
 pub(crate) const ROWS: usize = 16384;
@@ -16,15 +15,19 @@ pub(crate) const EVENT_ROOM: usize = EVENTS + 1;
 
 pub(crate) const NAME_ROOM: usize = NAMES + 1;
 
-// The row after another.
-pub(crate) fn after(row: usize) -> usize {
-    if row > ROWS { row } else { row + 1 }
+// What the frames are held against beside the book, whose rows change from frame to frame: how many of them there are,
+// their events and names, and the events of the capture with their stamps.
+#[derive(Clone, Copy)]
+pub(crate) struct Lists<'a> {
+    pub(crate) rows: usize,
+    pub(crate) events: &'a [u16],
+    pub(crate) names: &'a [u8],
+    pub(crate) seen: &'a [u16],
+    pub(crate) stamps: &'a [u64],
 }
 
 // The bytes of names from a place on up to another, as far as there are.
 pub(crate) fn text(names: &[u8], from: usize, to: usize) -> &[u8] {
-    let end = parts::bytes(to, names);
-    let part = &names[..end];
-    let start = parts::bytes(from, part);
-    &part[start..]
+    let part = &names[..to.min(names.len())];
+    &part[from.min(part.len())..]
 }

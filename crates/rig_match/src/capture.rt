@@ -1,7 +1,7 @@
 // The lines of the capture, as rig decode prints them.
-use crate::reading::{CROWDED, Reading, STRANGE};
+use crate::reading::{Reading, Wrong};
 use crate::words::{before_colon, front};
-use rig_lines::numbers::{least_number, value};
+use rig_lines::numbers::value;
 use rig_lines::store;
 use text::{after_word, first_word};
 use trace::{MAX_SAMPLES, MAX_STAMP};
@@ -51,7 +51,7 @@ fn event_in(words: &[u8]) -> u16 {
 
 // A stamp, above all others where its event is doubtful.
 fn marked(stamp: u64, doubtful: bool) -> u64 {
-    let least = least_number(stamp, MAX_STAMP);
+    let least = stamp.min(MAX_STAMP);
     if doubtful {
         return least + DOUBTFUL;
     }
@@ -70,10 +70,10 @@ fn with_event(
     let stamp = stamp_in(first_word(line));
     let event = event_in(certain(words));
     if (stamp > MAX_STAMP) | (event == NO_EVENT) {
-        return reading.failed(STRANGE);
+        return reading.failed(Wrong::Strange);
     }
     if reading.seen >= EVENTS {
-        return reading.failed(CROWDED);
+        return reading.failed(Wrong::Crowded);
     }
     let doubtful = certain(words).len() < words.len();
     store::line(stamps, reading.seen, marked(stamp, doubtful));

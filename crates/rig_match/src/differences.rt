@@ -1,5 +1,4 @@
 // Where a frame differs from what was rehearsed, and whose bytes it has.
-use crate::book::after;
 use crate::reported::Said;
 use crate::shown::NO_EVENT;
 use event_match::{Difference, Part};
@@ -12,7 +11,7 @@ fn event_at(events: &[u16], index: usize) -> u16 {
 
 // The place of a bit on the bus, where the most significant is sent first.
 fn place_of(bit: u8) -> u64 {
-    if bit < 8 { 7 - bit as u64 } else { 0 }
+    7u64.saturating_sub(bit as u64)
 }
 
 fn is_acknowledge(part: Part) -> bool {
@@ -31,40 +30,42 @@ fn goes_on(message: &[u16], seen: &[u16], index: usize) -> bool {
     }
 }
 
-// The first board whose bytes these are, of those in rows; 0, which is no board's row, where none has them.
-fn owner(
-    book: &[u32],
-    events: &[u16],
-    from: usize,
-    end: usize,
-    seen: &[u16],
-    index: usize,
-) -> usize {
+// The first board whose bytes these are, of those in rows, as the phrases name it: by its row; 0 where none has them.
+fn owner(book: &[u32], events: &[u16], from: usize, end: usize, seen: &[u16], index: usize) -> u64 {
     let has = |row: &usize| {
         let message = span(events, get(book, *row, FROM), get(book, *row, TO));
         goes_on(message, seen, index)
     };
-    (from..end).find(has).unwrap_or(0)
+    (from..end).find(has).map_or(0, |row| row as u64)
 }
 
 // How a frame differs from that of a load, whose boards end at a row.
 pub(crate) fn said(book: &[u32], events: &[u16], frame: &[u16], load: usize, end: usize) -> Said {
     let rehearsed = span(events, get(book, load, FROM), get(book, load, TO));
-    let first = after(load);
+    let first = load.saturating_add(1);
     match event_match::compare(rehearsed, frame) {
         Difference::Equal => {
             let who = owner(book, events, first, end, frame, frame.len());
-            Said::new(7, [load as u64, who as u64, 0, 0, 0, 0])
+            Said::new(b"$[; those are $'s bytes]", [load as u64, who, 0, 0, 0, 0])
         }
         Difference::At { index, byte, part } => {
-            let who = owner(book, events, first, end, frame, index) as u64;
+            let who = owner(book, events, first, end, frame, index);
             let one = event_at(rehearsed, index) as u64;
             let other = event_at(frame, index) as u64;
             let at = byte as u64;
             match part {
-                Part::Bit(bit) => Said::new(4, [load as u64, at, place_of(bit), one, other, who]),
-                Part::Acknowledge => Said::new(5, [load as u64, at, one, one, other, who]),
-                Part::Other => Said::new(6, [load as u64, at, one, other, who, 0]),
+                Part::Bit(bit) => Said::new(
+                    b"$ differs at byte # bit #: rehearsed %, bus %[; those are $'s bytes]",
+                    [load as u64, at, place_of(bit), one, other, who],
+                ),
+                Part::Acknowledge => Said::new(
+                    b"$ differs at byte # (%): rehearsed !, bus ![; those are $'s bytes]",
+                    [load as u64, at, one, one, other, who],
+                ),
+                Part::Other => Said::new(
+                    b"$ differs at byte #: rehearsed @, bus @[; those are $'s bytes]",
+                    [load as u64, at, one, other, who, 0],
+                ),
             }
         }
     }

@@ -1,10 +1,10 @@
 // What was not on the bus, and the last line.
+use crate::book::Lists;
 use crate::matching::Matching;
 use crate::phrase;
-use crate::reading::{REFUSED, Reading};
+use crate::reading::{Reading, Verdict};
 use frame_match::{SINCE, STATE, WAITS, get, is_load, is_rehearsed};
 use rig_lines::console::PAGE;
-use rig_lines::lists::line_of;
 use rig_lines::numbers::more;
 use text::put_byte;
 
@@ -21,28 +21,47 @@ struct Missing {
     in_error: u64,
 }
 
-// What is missing of a row: nothing, the frame of a load, its rehearsal as it is in error or refused, or a message.
-fn lack_of(book: &[u32], row: usize) -> usize {
+// What is missing of a row: the frame of a load, its rehearsal as it is in error or refused, or a message.
+#[derive(Clone, Copy)]
+enum Lack {
+    Frame,
+    InError,
+    Refused,
+    Message,
+}
+
+fn lack_of(book: &[u32], row: usize) -> Option<Lack> {
     let state = get(book, row, STATE);
     if !is_load(book, row) {
-        return if state == WAITS { 4 } else { 0 };
+        return (state == WAITS).then_some(Lack::Message);
     }
     match state {
-        frame_match::MET => 0,
-        frame_match::IN_ERROR => 2,
-        frame_match::REFUSED => 3,
-        _ => is_rehearsed(book, row) as usize,
+        frame_match::MET => None,
+        frame_match::IN_ERROR => Some(Lack::InError),
+        frame_match::REFUSED => Some(Lack::Refused),
+        _ => is_rehearsed(book, row).then_some(Lack::Frame),
+    }
+}
+
+impl Lack {
+    fn words(self) -> &'static [u8] {
+        match self {
+            Lack::Frame => b"not on the bus: $",
+            Lack::InError => b"no rehearsal: $, in error",
+            Lack::Refused => b"no rehearsal: $, refused",
+            Lack::Message => b"not on the bus: $, message of $, waiting since frame #",
+        }
     }
 }
 
 impl Missing {
     // With one lack more.
-    fn counted(mut self, lack: usize) -> Missing {
+    fn counted(mut self, lack: Lack) -> Missing {
         match lack {
-            1 => self.loads = more(self.loads),
-            2 => self.in_error = more(self.in_error),
-            3 => self.refused = more(self.refused),
-            _ => self.messages = more(self.messages),
+            Lack::Frame => self.loads = more(self.loads),
+            Lack::InError => self.in_error = more(self.in_error),
+            Lack::Refused => self.refused = more(self.refused),
+            Lack::Message => self.messages = more(self.messages),
         }
         self
     }
@@ -51,9 +70,7 @@ impl Missing {
 fn with_row(
     page: &mut [u8; PAGE],
     book: &[u32],
-    events: &[u16],
-    names: &[u8],
-    seen: &[u16],
+    lists: Lists,
     row: usize,
     so_far: Missing,
 ) -> Missing {
@@ -61,35 +78,21 @@ fn with_row(
     if is_load(book, row) {
         missing.load = row;
     }
-    let lack = lack_of(book, row);
-    if lack == 0 {
+    let Some(lack) = lack_of(book, row) else {
         return missing;
-    }
-    let words = b"
-not on the bus: $
-no rehearsal: $, in error
-no rehearsal: $, refused
-not on the bus: $, message of $, waiting since frame #";
+    };
     let numbers = [
         missing.load as u64,
         row as u64,
         get(book, row, SINCE) as u64,
     ];
-    let form = line_of(words, lack);
-    let line = phrase::put(page, missing.at, book, events, names, seen, form, &numbers);
+    let words = lack.words();
+    let line = phrase::put(page, missing.at, book, lists, words, &numbers);
     missing.at = put_byte(page, line, b'\n');
     missing.counted(lack)
 }
 
-fn put_missing(
-    page: &mut [u8; PAGE],
-    at: usize,
-    book: &[u32],
-    rows: usize,
-    events: &[u16],
-    names: &[u8],
-    seen: &[u16],
-) -> Missing {
+fn put_missing(page: &mut [u8; PAGE], at: usize, book: &[u32], lists: Lists) -> Missing {
     let mut missing = Missing {
         at,
         load: 0,
@@ -98,19 +101,29 @@ fn put_missing(
         refused: 0,
         in_error: 0,
     };
-    for row in 0..rows {
-        missing = with_row(page, book, events, names, seen, row, missing);
+    for row in 0..lists.rows {
+        missing = with_row(page, book, lists, row, missing);
     }
     missing
 }
 
-// The place of the first word: that of the rehearsal where it was not read, else whether all is as it was rehearsed.
-fn verdict_of(verdict: usize, done: Matching, absent: u64, gaps: u64) -> usize {
-    if verdict >= REFUSED {
-        return verdict;
+// The first word: that of the rehearsal where it was not read, else whether all is as it was rehearsed.
+fn first_word(reading: Reading, done: Matching, absent: u64) -> &'static [u8] {
+    let clean = (done.different == 0) & (done.other == 0) & (absent == 0) & (reading.gaps == 0);
+    match reading.verdict {
+        Some(Verdict::Refused(_)) => b"refused #: ",
+        Some(Verdict::Error) => b"error ",
+        _ if (done.frames > 0) & clean => b"ok ",
+        _ => b"look ",
     }
-    let clean = (done.different == 0) & (done.other == 0) & (absent == 0) & (gaps == 0);
-    !((done.frames > 0) & clean) as usize
+}
+
+// The number of the refusal of the rehearsal.
+fn refusal_of(reading: Reading) -> u64 {
+    match reading.verdict {
+        Some(Verdict::Refused(number)) => number,
+        _ => 0,
+    }
 }
 
 // How many frames there were, and what they were found to be.
@@ -118,9 +131,7 @@ fn put_frames(
     page: &mut [u8; PAGE],
     at: usize,
     book: &[u32],
-    events: &[u16],
-    names: &[u8],
-    seen: &[u16],
+    lists: Lists,
     done: Matching,
 ) -> usize {
     let counts = [
@@ -132,28 +143,25 @@ fn put_frames(
         done.other,
     ];
     let words = b"# frame~[_: ][&# as rehearsed][&# waited][&# different][&# not rehearsed]";
-    phrase::put(page, at, book, events, names, seen, words, &counts)
+    phrase::put(page, at, book, lists, words, &counts)
 }
 
 // What was not on the bus, and the last line.
 pub(crate) fn put(
     page: &mut [u8; PAGE],
     book: &[u32],
-    events: &[u16],
-    names: &[u8],
-    seen: &[u16],
+    lists: Lists,
     reading: Reading,
     done: Matching,
 ) -> usize {
-    let missing = put_missing(page, done.at, book, reading.rows, events, names, seen);
+    let missing = put_missing(page, done.at, book, lists);
     let absent = missing.loads | missing.messages;
     let both = (missing.loads > 0) & (missing.messages > 0);
     let others = reading.gaps | missing.refused | missing.in_error | reading.faults;
-    let verdict = verdict_of(reading.verdict, done, absent, reading.gaps);
-    let word = line_of(b"ok \nlook \nrefused #: \nerror ", verdict);
-    let start = [reading.number];
-    let begun = phrase::put(page, missing.at, book, events, names, seen, word, &start);
-    let frames = put_frames(page, begun, book, events, names, seen, done);
+    let word = first_word(reading, done, absent);
+    let start = [refusal_of(reading)];
+    let begun = phrase::put(page, missing.at, book, lists, word, &start);
+    let frames = put_frames(page, begun, book, lists, done);
     let doubts = [
         absent | others,
         missing.loads,
@@ -167,5 +175,5 @@ pub(crate) fn put(
     ];
     let last = b"[_; ][# load~][_ and ][# message~][_ not on the bus]\
 [&# long gap~][&# load~ refused][&# load~ in error][&# fault~ in the loads]\n";
-    phrase::put(page, frames, book, events, names, seen, last, &doubts)
+    phrase::put(page, frames, book, lists, last, &doubts)
 }

@@ -14,6 +14,7 @@ mod reported; // reported.rt: the line of a frame
 mod shown; // shown.rt: what the marks of a phrase stand for
 mod words; // words.rt: messages and frames in words
 
+use frame_match::span;
 use rig_lines::arguments::{Found, find};
 use rig_lines::console::{PAGE, flush, put_quoted};
 use rig_lines::input::ROOM;
@@ -41,10 +42,17 @@ fn run(stdin: &mut Stdin, page: &mut [u8; PAGE]) -> usize {
         &mut seen,
         &mut stamps,
     );
-    if reading.wrong > 0 {
+    if reading.wrong.is_some() {
         return reading.at;
     }
-    matching::run(page, &mut book, &events, &names, &seen, &stamps, reading)
+    let lists = book::Lists {
+        rows: reading.rows,
+        events: &events,
+        names: &names,
+        seen: span(&seen, 0, reading.seen),
+        stamps: &stamps,
+    };
+    matching::run(page, &mut book, lists, reading)
 }
 
 // Whatever the input is, no word stands after the command.

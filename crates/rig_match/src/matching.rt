@@ -1,6 +1,5 @@
 // Each frame of the capture held against the loads, in their order.
-use crate::book::{EVENT_ROOM, NAME_ROOM, ROW_ROOM};
-use crate::capture::EVENTS;
+use crate::book::{Lists, ROW_ROOM};
 use crate::reading::Reading;
 use crate::{ending, reported};
 use frame_match::{
@@ -41,14 +40,16 @@ impl Matching {
 fn with_frame(
     page: &mut [u8; PAGE],
     book: &mut [u32; ROW_ROOM],
-    rows: usize,
-    events: &[u16],
-    names: &[u8],
-    seen: &[u16],
-    stamps: &[u64],
+    lists: Lists,
     from: usize,
     so_far: Matching,
 ) -> Matching {
+    let Lists {
+        rows,
+        events,
+        seen,
+        ..
+    } = lists;
     let found = find(book, rows, events, seen, from, so_far.next);
     let load = load_about(book, rows, found, so_far.next);
     let mut matching = so_far.counted(found);
@@ -58,11 +59,7 @@ fn with_frame(
         page,
         matching.at,
         book,
-        rows,
-        events,
-        names,
-        seen,
-        stamps,
+        lists,
         from,
         end,
         number,
@@ -80,15 +77,12 @@ fn match_all(
     page: &mut [u8; PAGE],
     at: usize,
     book: &mut [u32; ROW_ROOM],
-    rows: usize,
-    events: &[u16],
-    names: &[u8],
-    seen: &[u16],
-    stamps: &[u64],
+    lists: Lists,
 ) -> Matching {
+    let seen = lists.seen;
     let mut so_far = Matching {
         at,
-        next: next_load(book, rows, 0),
+        next: next_load(book, lists.rows, 0),
         frames: 0,
         rehearsed: 0,
         waited: 0,
@@ -100,7 +94,7 @@ fn match_all(
         if from >= seen.len() {
             return so_far;
         }
-        so_far = with_frame(page, book, rows, events, names, seen, stamps, from, so_far);
+        so_far = with_frame(page, book, lists, from, so_far);
         from = end_of(seen, from);
     }
     so_far
@@ -110,22 +104,9 @@ fn match_all(
 pub(crate) fn run(
     page: &mut [u8; PAGE],
     book: &mut [u32; ROW_ROOM],
-    events: &[u16; EVENT_ROOM],
-    names: &[u8; NAME_ROOM],
-    seen: &[u16; EVENTS],
-    stamps: &[u64; EVENTS],
+    lists: Lists,
     reading: Reading,
 ) -> usize {
-    let list = span(seen, 0, reading.seen);
-    let done = match_all(
-        page,
-        reading.at,
-        book,
-        reading.rows,
-        events,
-        names,
-        list,
-        stamps,
-    );
-    ending::put(page, book, events, names, list, reading, done)
+    let done = match_all(page, reading.at, book, lists);
+    ending::put(page, book, lists, reading, done)
 }

@@ -1,7 +1,7 @@
 // Words with marks, which stand for numbers, names, events, and lists of boards or bytes.
+use crate::book::Lists;
 use crate::shown;
 use rig_lines::console::{PAGE, begin};
-use rig_lines::lists::line_of;
 use rig_lines::store::line_at;
 use text::{put_byte, put_bytes, put_decimal, put_hex_byte};
 
@@ -38,22 +38,11 @@ const OPEN: u8 = b'[';
 
 const CLOSE: u8 = b']';
 
-// No form takes more numbers.
-const MANY: usize = 16;
-
-pub(crate) fn before(place: usize) -> usize {
-    if place > 0 { place - 1 } else { 0 }
-}
-
-fn next(place: usize) -> usize {
-    if place < MANY { place + 1 } else { place }
-}
-
 // The place after the numbers that a byte of the words takes.
 fn after(b: u8, place: usize) -> usize {
     match b {
-        DECIMAL | HEX | NAME | EVENT | ACKNOWLEDGE | NOTHING => next(place),
-        FRAME | WINNERS | UNDECIDED | WAITING => next(next(place)),
+        DECIMAL | HEX | NAME | EVENT | ACKNOWLEDGE | NOTHING => place.saturating_add(1),
+        FRAME | WINNERS | UNDECIDED | WAITING => place.saturating_add(2),
         _ => place,
     }
 }
@@ -67,19 +56,15 @@ fn stands(before: bool, b: u8, number: u64) -> bool {
     }
 }
 
-// The place of the ending of a thing of which there are so many.
-fn plural(number: u64) -> usize {
-    (number != 1) as usize
-}
-
 // What stands for one number, and what takes none.
 fn put_number(page: &mut [u8; PAGE], at: usize, b: u8, number: u64, last: u64) -> usize {
     match b {
         DECIMAL => put_decimal(page, at, number),
         HEX => put_hex_byte(page, at, (number % 256) as u8),
         EVENT => shown::put_event(page, at, number),
-        ACKNOWLEDGE => put_bytes(page, at, line_of(b"ACK\nNACK", shown::acknowledge(number))),
-        PLURAL => put_bytes(page, at, line_of(b"\ns", plural(last))),
+        ACKNOWLEDGE => put_bytes(page, at, shown::acknowledge(number)),
+        PLURAL if last == 1 => at,
+        PLURAL => put_byte(page, at, b's'),
         COMMA => shown::put_comma(page, at),
         NOTHING | OPEN | CLOSE => at,
         _ => put_byte(page, at, b),
@@ -90,23 +75,25 @@ fn put_mark(
     page: &mut [u8; PAGE],
     at: usize,
     book: &[u32],
-    events: &[u16],
-    names: &[u8],
-    seen: &[u16],
+    lists: Lists,
     b: u8,
     numbers: &[u64],
     place: usize,
 ) -> usize {
     let number = line_at(numbers, place);
     let row = number as usize;
-    let end = line_at(numbers, next(place)) as usize;
+    let end = line_at(numbers, place.saturating_add(1)) as usize;
     match b {
-        NAME => shown::put_name(page, at, book, names, row),
-        FRAME => shown::put_frame(page, at, seen, row, end),
-        WINNERS | UNDECIDED | WAITING => {
-            shown::put_boards(page, at, book, events, names, b, row, end)
-        }
-        _ => put_number(page, at, b, number, line_at(numbers, before(place))),
+        NAME => shown::put_name(page, at, book, lists.names, row),
+        FRAME => shown::put_frame(page, at, lists.seen, row, end),
+        WINNERS | UNDECIDED | WAITING => { shown::put_boards(page, at, book, lists, b, row, end) }
+        _ => put_number(
+            page,
+            at,
+            b,
+            number,
+            line_at(numbers, place.saturating_sub(1)),
+        ),
     }
 }
 
@@ -115,9 +102,7 @@ pub(crate) fn put(
     page: &mut [u8; PAGE],
     at: usize,
     book: &[u32],
-    events: &[u16],
-    names: &[u8],
-    seen: &[u16],
+    lists: Lists,
     words: &[u8],
     numbers: &[u64],
 ) -> usize {
@@ -127,7 +112,7 @@ pub(crate) fn put(
     for b in words {
         standing = stands(standing, *b, line_at(numbers, place));
         if standing {
-            end = put_mark(page, end, book, events, names, seen, *b, numbers, place);
+            end = put_mark(page, end, book, lists, *b, numbers, place);
         }
         place = after(*b, place);
     }

@@ -6,34 +6,50 @@ use rig_lines::console::{PAGE, begin, put_form, put_quoted};
 use rig_lines::files::put_reason;
 use rig_lines::input;
 use rig_lines::input::{Line, ROOM, Source, Taken};
-use rig_lines::lists::line_of;
 use rig_lines::numbers::more;
 use std::io::Stdin;
 use text::{first_word, put_byte, put_bytes};
 
 const STDIN: i32 = 0;
 
-// How the rehearsal ended: `ok` or `look`, refused by a number, in error; from OPEN on not yet.
-pub(crate) const REFUSED: usize = 2;
-
-pub(crate) const OPEN: usize = 4;
+// How the rehearsal ended: as its last line says.
+#[derive(Clone, Copy)]
+pub(crate) enum Verdict {
+    Ok,
+    Look,
+    // by a number
+    Refused(u64),
+    Error,
+}
 
 // What is wrong with the input.
-const OPEN_REHEARSAL: usize = 1;
+#[derive(Clone, Copy)]
+pub(crate) enum Wrong {
+    OpenRehearsal,
+    OpenCapture,
+    Full,
+    TooLong,
+    NoText,
+    Crowded,
+    Strange,
+    Unreadable,
+}
 
-const OPEN_CAPTURE: usize = 2;
-
-const FULL: usize = 3;
-
-const TOO_LONG: usize = 4;
-
-const NO_TEXT: usize = 5;
-
-pub(crate) const CROWDED: usize = 6;
-
-pub(crate) const STRANGE: usize = 7;
-
-const UNREADABLE: usize = 8;
+impl Wrong {
+    // The words of the last line; `#` stands for the line that was read last.
+    fn words(self) -> &'static [u8] {
+        match self {
+            Wrong::OpenRehearsal => b"error the rehearsal has no last line",
+            Wrong::OpenCapture => b"error the capture has no last line",
+            Wrong::Full => b"error the rehearsal is too long to be kept: name a load",
+            Wrong::TooLong => b"error line #: longer than 4096 bytes",
+            Wrong::NoText => b"error line #: a byte that is no text",
+            Wrong::Crowded => b"error line #: more than 4096 events",
+            Wrong::Strange => b"error line #: expected what rig decode prints, not ",
+            Wrong::Unreadable => b"error cannot read standard input: ",
+        }
+    }
+}
 
 // How far the input is read, and how much of it is kept.
 #[derive(Clone, Copy)]
@@ -52,13 +68,11 @@ pub(crate) struct Reading {
     // events and long gaps of the capture
     pub(crate) seen: usize,
     pub(crate) gaps: u64,
-    // how the rehearsal ended, the number of its refusal, and how many faults it has
-    pub(crate) verdict: usize,
-    pub(crate) number: u64,
+    // how the rehearsal ended, once it has, and how many faults it has
+    pub(crate) verdict: Option<Verdict>,
     pub(crate) faults: u64,
     pub(crate) more: bool,
-    // 0 where nothing is
-    pub(crate) wrong: usize,
+    pub(crate) wrong: Option<Wrong>,
 }
 
 impl Reading {
@@ -73,47 +87,40 @@ impl Reading {
             load: 0,
             seen: 0,
             gaps: 0,
-            verdict: OPEN,
-            number: 0,
+            verdict: None,
             faults: 0,
             more: true,
-            wrong: 0,
+            wrong: None,
         }
     }
 
-    pub(crate) fn failed(mut self, wrong: usize) -> Reading {
+    pub(crate) fn failed(mut self, wrong: Wrong) -> Reading {
         self.more = false;
-        self.wrong = wrong;
+        self.wrong = Some(wrong);
         self
     }
 
     // Follows what taking a line found: its length, or what is wrong with it.
     fn after(mut self, taken: Taken) -> Reading {
-        let found = taken.line;
-        let source = taken.source;
-        self.source = source;
+        self.source = taken.source;
         self.length = 0;
-        match found {
+        match taken.line {
             Line::Text(n) => {
                 self.length = n;
                 self
             }
-            Line::TooLong => self.failed(TOO_LONG),
-            Line::NoText => self.failed(NO_TEXT),
-            Line::Failed => self.failed(UNREADABLE),
-            Line::End => {
-                if self.verdict < OPEN {
-                    return self.failed(OPEN_CAPTURE);
-                }
-                self.failed(OPEN_REHEARSAL)
-            }
+            Line::TooLong => self.failed(Wrong::TooLong),
+            Line::NoText => self.failed(Wrong::NoText),
+            Line::Failed => self.failed(Wrong::Unreadable),
+            Line::End if self.verdict.is_some() => self.failed(Wrong::OpenCapture),
+            Line::End => self.failed(Wrong::OpenRehearsal),
         }
     }
 
     // More is to be kept than there is room for.
     fn checked(self) -> Reading {
         if (self.rows > book::ROWS) | (self.events > book::EVENTS) | (self.names > book::NAMES) {
-            return self.failed(FULL);
+            return self.failed(Wrong::Full);
         }
         self
     }
@@ -121,7 +128,7 @@ impl Reading {
     // A line is passed on, and the page goes on after it.
     fn passed(mut self, at: usize) -> Reading {
         self.at = at;
-        if self.verdict < OPEN {
+        if self.verdict.is_some() {
             self.gaps = more(self.gaps);
         } else {
             self.faults = more(self.faults);
@@ -131,11 +138,12 @@ impl Reading {
 }
 
 // A line that is passed on: a fault of the rehearsal, or a long gap of the capture.
-fn is_passed(verdict: usize, line: &[u8]) -> bool {
-    if verdict < OPEN {
-        return matches!(first_word(line), b"note:");
+fn is_passed(verdict: Option<Verdict>, line: &[u8]) -> bool {
+    match first_word(line) {
+        b"note:" => verdict.is_some(),
+        b"!" => verdict.is_none() & !rehearsal::is_inner(line),
+        _ => false,
     }
-    matches!(first_word(line), b"!") & !rehearsal::is_inner(line)
 }
 
 // Follows the line taken last.
@@ -155,7 +163,7 @@ fn with_line(
         let end = put_bytes(page, start, book::text(line, 0, reading.length));
         return reading.passed(put_byte(page, end, b'\n'));
     }
-    if reading.verdict < OPEN {
+    if reading.verdict.is_some() {
         return capture::with_line(reading, words, seen, stamps);
     }
     let next = rehearsal::with_line(reading, book, events, names, words);
@@ -164,10 +172,11 @@ fn with_line(
 
 // The word that was met, or why the input cannot be read.
 fn put_detail(page: &mut [u8; PAGE], at: usize, line: &[u8], reading: Reading) -> usize {
-    let wrong = reading.wrong;
-    match wrong {
-        STRANGE => put_quoted(page, at, first_word(input::content(line, reading.length))),
-        UNREADABLE => put_reason(page, at, reading.source.errno),
+    match reading.wrong {
+        Some(Wrong::Strange) => {
+            put_quoted(page, at, first_word(input::content(line, reading.length)))
+        }
+        Some(Wrong::Unreadable) => put_reason(page, at, reading.source.errno),
         _ => at,
     }
 }
@@ -175,22 +184,11 @@ fn put_detail(page: &mut [u8; PAGE], at: usize, line: &[u8], reading: Reading) -
 // Says what is wrong, if anything is.
 fn ended(page: &mut [u8; PAGE], line: &[u8], so_far: Reading) -> Reading {
     let mut reading = so_far;
-    if reading.wrong == 0 {
+    let Some(wrong) = reading.wrong else {
         return reading;
-    }
-    let words = line_of(
-        b"
-error the rehearsal has no last line
-error the capture has no last line
-error the rehearsal is too long to be kept: name a load
-error line #: longer than 4096 bytes
-error line #: a byte that is no text
-error line #: more than 4096 events
-error line #: expected what rig decode prints, not \nerror cannot read standard input: ",
-        reading.wrong,
-    );
+    };
     let start = begin(page, reading.at);
-    let front = put_form(page, start, words, &[reading.source.line]);
+    let front = put_form(page, start, wrong.words(), &[reading.source.line]);
     let end = put_detail(page, front, line, reading);
     reading.at = put_byte(page, end, b'\n');
     reading

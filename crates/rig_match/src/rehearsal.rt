@@ -1,12 +1,11 @@
 // The lines of the rehearsal, as rig clash --wave prints them.
 use crate::book::{EVENT_ROOM, NAME_ROOM, ROW_ROOM};
-use crate::reading::Reading;
-use crate::{book, words};
+use crate::reading::{Reading, Verdict};
+use crate::words;
 use frame_match::{
     CUT, FROM, IN, KIND, LOAD, LOST, NAME, NAME_END, NUMBER, STATE, TO, WON, get, set,
 };
-use rig_lines::lists::place_of;
-use rig_lines::numbers::{is_number, least_number, value};
+use rig_lines::numbers::{is_number, value};
 use text::{after_word, first_word, put_bytes};
 
 // No larger number of a board is kept.
@@ -36,7 +35,7 @@ fn with_row(
     set(book, row, NAME, reading.names);
     set(book, row, NAME_END, name_end);
     set(book, row, NUMBER, number);
-    reading.rows = book::after(row);
+    reading.rows = row.saturating_add(1);
     reading.events = end;
     reading.names = name_end;
     reading
@@ -50,16 +49,12 @@ fn message_in(words: &[u8]) -> &[u8] {
     after_word(words)
 }
 
-// The kind of a board by the place of its first word; one that WON may be cut.
-fn kind_of(place: usize, message: &[u8]) -> usize {
-    match place {
-        0 => {
-            if matches!(first_word(words::after_message(message)), b"CUT") {
-                return CUT;
-            }
-            WON
-        }
-        1 => IN,
+// The kind of a board by its first word; one that WON may be cut.
+fn kind_of(word: &[u8], message: &[u8]) -> usize {
+    match (word, first_word(words::after_message(message))) {
+        (b"WON", b"CUT") => CUT,
+        (b"WON", _) => WON,
+        (b"in", _) => IN,
         _ => LOST,
     }
 }
@@ -70,7 +65,7 @@ fn with_board(
     book: &mut [u32; ROW_ROOM],
     events: &mut [u16; EVENT_ROOM],
     names: &mut [u8; NAME_ROOM],
-    place: usize,
+    word: &[u8],
     rest: &[u8],
 ) -> Reading {
     let number = text::decimal(first_word(rest));
@@ -81,8 +76,8 @@ fn with_board(
     let message = message_in(words);
     let name = first_word(words::front(words, message.len()));
     let end = words::put_events(events, reading.events, message, false);
-    let n = least_number(value(number), LARGEST) as usize;
-    with_row(reading, book, names, kind_of(place, message), n, name, end)
+    let n = value(number).min(LARGEST) as usize;
+    with_row(reading, book, names, kind_of(word, message), n, name, end)
 }
 
 // `carried`: the frame of the load.
@@ -116,13 +111,13 @@ fn with_inner(
     names: &mut [u8; NAME_ROOM],
     line: &[u8],
 ) -> Reading {
-    let place = place_of(b"WON\nin\nlost\ncarried\nERROR:\nrefused", first_word(line));
+    let word = first_word(line);
     let rest = after_word(line);
-    match place {
-        0 | 1 | 2 => with_board(reading, book, events, names, place, rest),
-        3 => with_frame(reading, book, events, rest),
-        4 => without_frame(reading, book, frame_match::IN_ERROR),
-        5 => without_frame(reading, book, frame_match::REFUSED),
+    match word {
+        b"WON" | b"in" | b"lost" => with_board(reading, book, events, names, word, rest),
+        b"carried" => with_frame(reading, book, events, rest),
+        b"ERROR:" => without_frame(reading, book, frame_match::IN_ERROR),
+        b"refused" => without_frame(reading, book, frame_match::REFUSED),
         _ => reading,
     }
 }
@@ -134,6 +129,17 @@ fn number_in(word: &[u8]) -> u64 {
         return value(number);
     }
     0
+}
+
+// What the last line of the rehearsal says, by its first two words.
+fn verdict_of(word: &[u8], second: &[u8]) -> Option<Verdict> {
+    match word {
+        b"ok" => Some(Verdict::Ok),
+        b"look" => Some(Verdict::Look),
+        b"refused" => Some(Verdict::Refused(number_in(second))),
+        b"error" => Some(Verdict::Error),
+        _ => None,
+    }
 }
 
 // A line of a load, where there is one, or `load NAME TITLE`, or another, which may be the last.
@@ -156,7 +162,6 @@ pub(crate) fn with_line(
         reading.load = reading.rows;
         return with_row(reading, book, names, LOAD, 0, word, reading.events);
     }
-    reading.verdict = place_of(b"ok\nlook\nrefused\nerror", first_word(line));
-    reading.number = number_in(word);
+    reading.verdict = verdict_of(first_word(line), word);
     reading
 }

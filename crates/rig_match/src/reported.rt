@@ -1,23 +1,21 @@
 // The line of a frame.
-use crate::book::after;
+use crate::book::Lists;
 use crate::capture::DOUBTFUL;
-use crate::phrase::before;
 use crate::{differences, phrase};
 use frame_match::{CUT, Found, IN, KIND, SINCE, WON, boards_end, get, load_about, sender, span};
 use rig_lines::console::PAGE;
-use rig_lines::lists::line_of;
 use rig_lines::store::line_at;
 use trace::START;
 
-// What is said of a frame: the place of the words, and the numbers in them.
+// What is said of a frame: words with marks, and the numbers that these stand for.
 #[derive(Clone, Copy)]
 pub(crate) struct Said {
-    words: usize,
+    words: &'static [u8],
     numbers: [u64; 6],
 }
 
 impl Said {
-    pub(crate) fn new(words: usize, numbers: [u64; 6]) -> Said {
+    pub(crate) fn new(words: &'static [u8], numbers: [u64; 6]) -> Said {
         Said { words, numbers }
     }
 }
@@ -32,51 +30,50 @@ fn bytes_in(frame: &[u16]) -> u64 {
     frame.iter().filter(|event| **event < START).count() as u64
 }
 
-// The rehearsed frame of a load, whose boards stand in rows: won, cut and won, or undecided.
-fn rehearsed(book: &[u32], frame: &[u16], load: usize, from: usize, end: usize) -> Said {
+// The rehearsed frame of a load, whose boards end at a row: won, cut and won, or undecided.
+fn rehearsed(book: &[u32], frame: &[u16], load: usize, end: usize) -> Said {
+    let from = load.saturating_add(1);
     let numbers = [load as u64, bytes_in(frame), from as u64, end as u64, 0, 0];
     if (from..end).any(|row| get(book, row, KIND) == IN) {
-        return Said::new(3, numbers);
+        return Said::new(b"$ as rehearsed, # byte~, undecided between ?", numbers);
     }
     let mut kinds = (from..end).map(|row| get(book, row, KIND));
     match kinds.find(|kind| matches!(*kind, CUT | WON)) {
-        Some(CUT) => Said::new(2, numbers),
-        _ => Said::new(1, numbers),
+        Some(CUT) => Said::new(b"$ as rehearsed, # byte~, cut, won by +", numbers),
+        _ => Said::new(b"$ as rehearsed, # byte~, won by +", numbers),
     }
 }
 
 // A frame that is not rehearsed, and whose message it is, where it is a board's.
-fn other(book: &[u32], rows: usize, events: &[u16], seen: &[u16], from: usize, end: usize) -> Said {
-    let row = sender(book, events, span(seen, from, end), 0, rows);
+fn other(book: &[u32], lists: Lists, from: usize, end: usize) -> Said {
+    let rows = lists.rows;
+    let row = sender(book, lists.events, span(lists.seen, from, end), 0, rows);
+    let words = b"not rehearsed: =[; the message of $ in $]";
     if row >= rows {
-        return Said::new(8, [from as u64, end as u64, 0, 0, 0, 0]);
+        return Said::new(words, [from as u64, end as u64, 0, 0, 0, 0]);
     }
     let load = load_about(book, rows, Found::Waiting(row), rows);
-    Said::new(8, [from as u64, end as u64, row as u64, load as u64, 0, 0])
+    Said::new(
+        words,
+        [from as u64, end as u64, row as u64, load as u64, 0, 0],
+    )
 }
 
 // What a frame was found to be, and which load it is about.
-fn judged(
-    book: &[u32],
-    rows: usize,
-    events: &[u16],
-    seen: &[u16],
-    from: usize,
-    to: usize,
-    load: usize,
-    found: Found,
-) -> Said {
-    if load >= rows {
-        return other(book, rows, events, seen, from, to);
+fn judged(book: &[u32], lists: Lists, from: usize, to: usize, load: usize, found: Found) -> Said {
+    if load >= lists.rows {
+        return other(book, lists, from, to);
     }
-    let end = boards_end(book, rows, load);
+    let frame = span(lists.seen, from, to);
+    let end = boards_end(book, lists.rows, load);
     match found {
         Found::Waiting(row) => {
             let since = get(book, row, SINCE) as u64;
-            Said::new(0, [load as u64, row as u64, end as u64, since, 0, 0])
+            let numbers = [load as u64, row as u64, end as u64, since, 0, 0];
+            Said::new(b"$, message of *, waiting since frame #", numbers)
         }
-        Found::Rehearsed(_) => rehearsed(book, span(seen, from, to), load, after(load), end),
-        _ => differences::said(book, events, span(seen, from, to), load, end),
+        Found::Rehearsed(_) => rehearsed(book, frame, load, end),
+        _ => differences::said(book, lists.events, frame, load, end),
     }
 }
 
@@ -85,11 +82,7 @@ pub(crate) fn put(
     page: &mut [u8; PAGE],
     at: usize,
     book: &[u32],
-    rows: usize,
-    events: &[u16],
-    names: &[u8],
-    seen: &[u16],
-    stamps: &[u64],
+    lists: Lists,
     from: usize,
     end: usize,
     number: u64,
@@ -98,25 +91,14 @@ pub(crate) fn put(
 ) -> usize {
     let front = [
         number,
-        line_at(stamps, from) % DOUBTFUL,
-        line_at(stamps, before(end)) % DOUBTFUL,
+        line_at(lists.stamps, from) % DOUBTFUL,
+        line_at(lists.stamps, end.saturating_sub(1)) % DOUBTFUL,
     ];
     let words = b"frame #, # to #: ";
-    let next = phrase::put(page, at, book, events, names, seen, words, &front);
-    let said = judged(book, rows, events, seen, from, end, load, found);
-    let numbers = said.numbers;
-    let words = b"$, message of *, waiting since frame #
-$ as rehearsed, # byte~, won by +
-$ as rehearsed, # byte~, cut, won by +
-$ as rehearsed, # byte~, undecided between ?
-$ differs at byte # bit #: rehearsed %, bus %[; those are $'s bytes]
-$ differs at byte # (%): rehearsed !, bus ![; those are $'s bytes]
-$ differs at byte #: rehearsed @, bus @[; those are $'s bytes]
-$[; those are $'s bytes]
-not rehearsed: =[; the message of $ in $]";
-    let form = line_of(words, said.words);
-    let last = phrase::put(page, next, book, events, names, seen, form, &numbers);
-    let doubt = [is_doubtful(stamps, from, end) as u64];
+    let next = phrase::put(page, at, book, lists, words, &front);
+    let said = judged(book, lists, from, end, load, found);
+    let last = phrase::put(page, next, book, lists, said.words, &said.numbers);
+    let doubt = [is_doubtful(lists.stamps, from, end) as u64];
     let rest = b"[; doubtful]\n";
-    phrase::put(page, last, book, events, names, seen, rest, &doubt)
+    phrase::put(page, last, book, lists, rest, &doubt)
 }

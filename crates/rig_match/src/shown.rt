@@ -1,5 +1,5 @@
 // What the marks of a phrase stand for: names, events, the boards of a load, the bytes of a frame.
-use crate::book::text;
+use crate::book::{Lists, text};
 use crate::phrase::{UNDECIDED, WINNERS};
 use frame_match::{
     CUT, FROM, IN, KIND, NAME, NAME_END, NUMBER, STATE, TO, WAITS, WON, get, is_load, is_of, span,
@@ -37,25 +37,19 @@ pub(crate) fn put_event(page: &mut [u8; PAGE], at: usize, event: u64) -> usize {
     put_bytes(page, at, line_of(words, event as usize - START as usize))
 }
 
-// The place of an acknowledge in a list: 1 is none.
-pub(crate) fn acknowledge(event: u64) -> usize {
-    (event >= NACK as u64) as usize
+pub(crate) fn acknowledge(event: u64) -> &'static [u8] {
+    if event < NACK as u64 { b"ACK" } else { b"NACK" }
 }
 
-// The last byte before a position.
-fn byte_before(page: &[u8], at: usize) -> u8 {
-    if at > 0 {
-        let last = at - 1;
-        if last < page.len() {
-            return page[last];
-        }
-    }
-    0
+// A blank is the last byte before a position.
+fn after_blank(page: &[u8], at: usize) -> bool {
+    let last = at.checked_sub(1).and_then(|place| page.get(place));
+    matches!(last, Some(b' '))
 }
 
 // A comma and a blank, unless a blank stands before.
 pub(crate) fn put_comma(page: &mut [u8; PAGE], at: usize) -> usize {
-    if byte_before(page, at) == b' ' {
+    if after_blank(page, at) {
         return at;
     }
     put_bytes(page, at, b", ")
@@ -90,16 +84,15 @@ pub(crate) fn put_boards(
     page: &mut [u8; PAGE],
     begun: usize,
     book: &[u32],
-    events: &[u16],
-    names: &[u8],
+    lists: Lists,
     mark: u8,
     from: usize,
     end: usize,
 ) -> usize {
     let mut at = begun;
     for row in from..end {
-        if is_among(book, events, mark, from, row) {
-            at = put_next_name(page, at, book, names, row);
+        if is_among(book, lists.events, mark, from, row) {
+            at = put_next_name(page, at, book, lists.names, row);
         }
     }
     at
@@ -109,26 +102,29 @@ fn is_shown(event: u16) -> bool {
     (event < START) | (event == PARTIAL)
 }
 
-// The place of what stands before the next byte: nothing before the first, then a comma, or a restart.
-fn between(before: usize, event: u16) -> usize {
+// What stands before the next byte: nothing before the first, then a comma, or a restart.
+fn between(before: &'static [u8], event: u16) -> &'static [u8] {
     if is_shown(event) {
-        return 1;
+        return b", ";
     }
-    if (event == REPEATED_START) & (before > 0) {
-        return 2;
+    if (event == REPEATED_START) & !before.is_empty() {
+        return b" / ";
     }
     before
 }
 
 // A byte with its acknowledge, or a cut byte, after what stands before it.
-fn put_byte(page: &mut [u8; PAGE], at: usize, event: u16, before: usize) -> usize {
+fn put_byte(page: &mut [u8; PAGE], at: usize, event: u16, before: &[u8]) -> usize {
     if !is_shown(event) {
         return at;
     }
     let from = begin(page, at);
-    let next = put_bytes(page, from, line_of(b"\n, \n / ", before));
-    let words = line_of(b"% ACK\n% NACK\ncut byte", event as usize / NACK as usize);
-    put_form(page, next, words, &[event as u64])
+    let next = put_bytes(page, from, before);
+    if event == PARTIAL {
+        return put_bytes(page, next, b"cut byte");
+    }
+    let byte = put_form(page, next, b"% ", &[event as u64]);
+    put_bytes(page, byte, acknowledge(event as u64))
 }
 
 // The bytes of a frame, or that it has none.
@@ -141,12 +137,12 @@ pub(crate) fn put_frame(
 ) -> usize {
     let frame = span(seen, from, end);
     let mut at = begun;
-    let mut before: usize = 0;
+    let mut before: &'static [u8] = b"";
     for event in frame {
         at = put_byte(page, at, *event, before);
         before = between(before, *event);
     }
-    if before == 0 {
+    if before.is_empty() {
         return put_bytes(page, at, b"no byte");
     }
     at

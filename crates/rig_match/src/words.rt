@@ -1,5 +1,4 @@
 // Messages and frames in words, as events.
-use crate::book;
 use crate::book::EVENT_ROOM;
 use rig_lines::numbers::{hex_byte, value};
 use rig_lines::store;
@@ -11,7 +10,7 @@ pub(crate) fn front(words: &[u8], rest: usize) -> &[u8] {
     if rest > words.len() {
         return words;
     }
-    book::text(words, 0, words.len() - rest)
+    &words[..words.len() - rest]
 }
 
 // A word without a colon at its end.

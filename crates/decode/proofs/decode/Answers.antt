@@ -1,5 +1,5 @@
 -- `decode` tests in 01's order, and then writes.
-use Rattle.std.proofs.Common.{sym, ◌∙◌, true, false, length, refl}
+use Rattle.std.proofs.Common.{sym, ◌∙◌, length, refl}
 use Rattle.std.proofs.lemmas.Result.{err_from_is_err_and}
 use Rattle.decode.proofs.Reply.{in_order}
 use Rattle.decode.proofs.decode.Goals as goal

@@ -7,7 +7,7 @@ use dump_reader::LONGEST_TEXT;
 use rig_lines::console::PAGE;
 use rig_lines::input::Source;
 use rig_lines::lists::line_of;
-use rig_lines::numbers::{least, least_number, more};
+use rig_lines::numbers::more;
 use rig_lines::parts;
 use rig_lines::refusals::{put_byte_refusal, put_refusal};
 use std::rt::Env;
@@ -21,35 +21,17 @@ pub(crate) const TEXT: usize = LONGEST_TEXT + 1;
 const MODES_UNIT: u64 = 100000000;
 
 fn is_blank(b: u8) -> bool {
-    (b == 0x20) | (b == 0x09) | (b == 0x0a) | (b == 0x0d)
+    matches!(b, b' ' | b'\t' | b'\n' | b'\r')
 }
 
 // Whether a text begins as a dump does: with `$`, blanks aside.
 pub(crate) fn begins(text: &[u8]) -> bool {
-    let mut i: usize = 0;
-    while i < text.len() {
-        if !is_blank(text[i]) {
-            return text[i] == b'$';
-        }
-        i += 1;
-    }
-    false
+    matches!(text.iter().find(|b| !is_blank(**b)), Some(b'$'))
 }
 
 // The line of a byte.
 fn line_of_byte(text: &[u8], place: usize) -> u64 {
-    let mut line: u64 = 1;
-    let mut i: usize = 0;
-    while i < text.len() {
-        if i >= place {
-            return line;
-        }
-        if text[i] == b'\n' {
-            line = more(line);
-        }
-        i += 1;
-    }
-    line
+    more(text.iter().take(place).filter(|b| **b == b'\n').count() as u64)
 }
 
 fn put_refused(page: &mut [u8; PAGE], text: &[u8], number: u8, place: usize) -> usize {
@@ -59,78 +41,70 @@ fn put_refused(page: &mut [u8; PAGE], text: &[u8], number: u8, place: usize) -> 
     }
 }
 
-// Where a refusal's hint stands: 6 has that of 26.
-fn hint_place(number: u8) -> usize {
-    if number < 20 {
-        return 6;
+// What to do about a refusal; of 6, too many samples, the same as of 26.
+fn advice(number: u8) -> &'static [u8] {
+    match number {
+        20 => b"capture from where both lines have a level",
+        21 => b"packets may have crossed: export the capture again",
+        22 => b"dump only the two wires",
+        23 => b"the file may be cut: copy it again",
+        24 => b"declare SCL, then SDA, each as wire 1, and dump only these two",
+        25 => b"choose a coarser timescale",
+        27 => b"export a Value Change Dump of SCL and SDA alone",
+        _ => b"dump a shorter time",
     }
-    (number - 20) as usize
 }
 
 // A dump that is not read: at which word, where there is one, and what to do about it.
 fn refuse(page: &mut [u8; PAGE], text: &[u8], number: u8, place: usize) -> usize {
     let from = parts::bytes(place, text);
     let word = first_word(first_line(&text[from..]));
-    let met = (word.len() > 0) & (number != 6) & (number != 26);
+    let met = !word.is_empty() & (number != 6) & (number != 26);
     let next = put_refused(page, text, number, place);
-    let named = put(
-        page,
-        next,
-        line_of(b"; \n: $; \n", met as usize),
-        &[0],
-        word,
-    );
-    let hint = line_of(
-        b"capture from where both lines have a level
-packets may have crossed: export the capture again
-dump only the two wires
-the file may be cut: copy it again
-declare SCL, then SDA, each as wire 1, and dump only these two
-choose a coarser timescale
-dump a shorter time
-export a Value Change Dump of SCL and SDA alone
-",
-        hint_place(number),
-    );
-    end(page, named, hint)
+    let named = if met {
+        put(page, next, b": $", &[], word)
+    } else {
+        next
+    };
+    let advised = put_bytes(page, named, b"; ");
+    end(page, advised, advice(number))
 }
 
-// Ends a line with a timescale as it is said, 1, 10 or 100 of a unit; 0 is none.
+// Ends a line with a timescale as it is said, 1, 10 or 100 of a unit.
 fn say_unit(page: &mut [u8; PAGE], at: usize, timescale: u64) -> usize {
     let mut left = timescale;
-    let mut unit = least_number(timescale, 1) as usize;
+    let mut unit: usize = 0;
     while left >= 1000 {
-        left = left / 1000;
-        unit = least(unit + 1, 6);
+        left /= 1000;
+        unit = (unit + 1).min(5);
     }
-    let words = line_of(b"\n# fs\n# ps\n# ns\n# us\n# ms\n# s\n", unit);
+    let words = line_of(b"# fs\n# ps\n# ns\n# us\n# ms\n# s\n", unit);
     say_numbers(page, at, words, &[left])
 }
 
 // What the stamps count.
 fn show_unit(page: &mut [u8; PAGE], timescale: u64) -> usize {
-    let words = line_of(
-        b"# a Value Change Dump with no timescale\n# a Value Change Dump whose stamps count \n",
-        (timescale > 0) as usize,
-    );
-    let next = put_bytes(page, 0, words);
+    if timescale == 0 {
+        return end(page, 0, b"# a Value Change Dump with no timescale");
+    }
+    let next = put_bytes(page, 0, b"# a Value Change Dump whose stamps count ");
     say_unit(page, next, timescale)
 }
 
 // A dump whose stamps count something else than a mode needs.
-fn unfit(page: &mut [u8; PAGE], fast: bool, timescale: u64) -> usize {
-    let option = line_of(
-        b"error --standard needs\nerror --fast needs\n",
-        fast as usize,
+fn unfit(page: &mut [u8; PAGE], option: &[u8], timescale: u64) -> usize {
+    let error = put_bytes(page, 0, b"error ");
+    let mode = put_bytes(page, error, option);
+    let needs = put_bytes(
+        page,
+        mode,
+        b" needs stamps that count 100 ns, and this dump ",
     );
-    let error = put_bytes(page, 0, option);
-    let words = line_of(
-        b" stamps that count 100 ns, and this dump has no timescale
- stamps that count 100 ns, and this dump counts \n",
-        (timescale > 0) as usize,
-    );
-    let needs = put_bytes(page, error, words);
-    say_unit(page, needs, timescale)
+    if timescale == 0 {
+        return end(page, needs, b"has no timescale");
+    }
+    let counts = put_bytes(page, needs, b"counts ");
+    say_unit(page, counts, timescale)
 }
 
 // Shows the trace of a dump, of which no sample is dropped.
@@ -166,23 +140,15 @@ pub(crate) fn run<E: Env>(
     text: &[u8],
 ) -> usize {
     if source.errno != 0 {
-        return trouble::file(
-            env,
-            page,
-            b"error cannot read ",
-            source.argument,
-            source.errno,
-        );
+        return trouble::unread(env, page, source);
     }
     let mut stamps = [0u32; MAX_SAMPLES];
     let mut levels = [0u8; MAX_SAMPLES];
     match dump_reader::read(text, &mut stamps, &mut levels) {
         Err(refusal) => refuse(page, text, refusal.number, refusal.place),
-        Ok(read) => {
-            if (given.standard | given.fast) & (read.timescale != MODES_UNIT) {
-                return unfit(page, given.fast, read.timescale);
-            }
-            show(page, given, read.timescale, read.count, &stamps, &levels)
-        }
+        Ok(read) => match given.mode_option() {
+            Some(option) if read.timescale != MODES_UNIT => unfit(page, option, read.timescale),
+            _ => show(page, given, read.timescale, read.count, &stamps, &levels),
+        },
     }
 }

@@ -1,51 +1,34 @@
 // A stamp that does not rise: packets of samples that look exchanged on the way.
-use crate::lines::{before, end, put_numbers, say_numbers};
+use crate::lines::{end, put_numbers, say_numbers};
 use rig_lines::console::PAGE;
-use rig_lines::lists::line_of;
 use rig_lines::store::line_at;
-
-// Whether a stamp is another, or, where those above count too, above it.
-fn meets(stamp: u32, other: u32, above: bool) -> bool {
-    (stamp == other) | (above & (stamp > other))
-}
-
-// The first sample whose stamp is that of a sample, or, where those above count too, above it.
-pub(crate) fn first_from(stamps: &[u32], place: usize, above: bool) -> usize {
-    let stamp = stamp_at(stamps, place);
-    let mut i: usize = 0;
-    while i < stamps.len() {
-        if meets(stamp_at(stamps, i), stamp, above) {
-            return i;
-        }
-        i += 1;
-    }
-    i
-}
+use text::{put_bytes, put_decimal};
 
 pub(crate) fn stamp_at(stamps: &[u32], place: usize) -> u32 {
-    if place < stamps.len() {
-        stamps[place]
-    } else {
-        0
-    }
+    stamps.get(place).copied().unwrap_or(0)
 }
 
 // The stamp of a sample is not above that of the one before it.
 pub(crate) fn falls(stamps: &[u32], place: usize) -> bool {
-    (place > 0) & (stamp_at(stamps, place) <= stamp_at(stamps, before(place)))
+    (place > 0) & (stamp_at(stamps, place) <= stamp_at(stamps, place.saturating_sub(1)))
 }
 
 // The last sample from one on up to which all rise and are below a stamp.
 fn last_below(stamps: &[u32], from: usize, limit: u32) -> usize {
-    let mut last = from;
-    while last < stamps.len() {
-        let next = last + 1;
-        if (next >= stamps.len()) | (stamp_at(stamps, next) >= limit) | falls(stamps, next) {
-            return last;
-        }
-        last = next;
+    (from..stamps.len())
+        .skip(1)
+        .take_while(|next| (stamp_at(stamps, *next) < limit) & !falls(stamps, *next))
+        .last()
+        .unwrap_or(from)
+}
+
+// The lines of the samples from one up to another.
+fn put_range(page: &mut [u8; PAGE], at: usize, lines: &[u64], from: usize, to: usize) -> usize {
+    let first = put_decimal(page, at, line_at(lines, from));
+    if from == to {
+        return first;
     }
-    last
+    put_numbers(page, first, b" to #", &[line_at(lines, to)])
 }
 
 // Which lines look exchanged: those from a sample that comes too early up to a place, and those from there to another.
@@ -57,15 +40,10 @@ fn say_exchanged(
     place: usize,
     last: usize,
 ) -> usize {
-    let words = line_of(
-        b"; lines #\n; lines # to #\n",
-        (first != before(place)) as usize,
-    );
-    let numbers = [line_at(lines, first), line_at(lines, before(place))];
-    let front = put_numbers(page, at, words, &numbers);
-    let also = line_of(b" and #\n and # to #\n", (place != last) as usize);
-    let others = [line_at(lines, place), line_at(lines, last)];
-    let back = put_numbers(page, front, also, &others);
+    let lines_from = put_bytes(page, at, b"; lines ");
+    let front = put_range(page, lines_from, lines, first, place.saturating_sub(1));
+    let also = put_bytes(page, front, b" and ");
+    let back = put_range(page, also, lines, place, last);
     end(
         page,
         back,
@@ -81,9 +59,11 @@ pub(crate) fn say_why(
     lines: &[u64],
     place: usize,
 ) -> usize {
-    let first = first_from(stamps, place, true);
+    let stamp = stamp_at(stamps, place);
+    let met = stamps.iter().position(|other| *other >= stamp);
+    let first = met.unwrap_or(stamps.len());
     let limit = stamp_at(stamps, first);
-    if limit == stamp_at(stamps, place) {
+    if limit == stamp {
         let numbers = [line_at(lines, first)];
         return say_numbers(page, at, b"; its stamp is that of line #", &numbers);
     }

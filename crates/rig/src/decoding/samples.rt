@@ -1,8 +1,8 @@
 // A trace, one sample a line: stamp and level in decimal.
 use super::captured::TEXT;
+use crate::hints;
 use crate::reading::{Progress, after};
-use crate::{hints, trouble};
-use check::same;
+use crate::trouble::{Fault, Wrong};
 use rig_lines::console::PAGE;
 use rig_lines::files::Reader;
 use rig_lines::input::{ROOM, Source};
@@ -34,46 +34,45 @@ pub(crate) struct Reading {
     pub(crate) unpaired: u64,
 }
 
-// What a line says. Of one that is wrong: how, and where the word stands, in bytes before its end.
+// What a line says.
 #[derive(Clone, Copy)]
 enum Sample {
     Nothing,
     Both(u32, u8),
     Stamp(u32),
-    Wrong(usize, usize),
 }
 
 // What a line says that has a stamp first.
-fn parse_rest(line: &[u8], stamp: u64, rest: &[u8]) -> Sample {
+fn parse_rest(line: &[u8], stamp: u64, rest: &[u8]) -> Result<Sample, Wrong> {
     let second = first_word(rest);
     let number = text::decimal(second);
     let level = value(number);
-    if first_word(after_word(rest)).len() > 0 {
-        return Sample::Wrong(trouble::NO_SAMPLE, after_word(rest).len());
+    if !first_word(after_word(rest)).is_empty() {
+        return Err(Fault::NoSample.at(after_word(rest).len()));
     }
-    if !is_number(number) & (second.len() > 0) {
-        return Sample::Wrong(trouble::NO_SAMPLE, rest.len());
+    if !is_number(number) & !second.is_empty() {
+        return Err(Fault::NoSample.at(rest.len()));
     }
     if stamp > MAX_STAMP {
-        return Sample::Wrong(trouble::LARGE_STAMP, line.len());
+        return Err(Fault::LargeStamp.at(line.len()));
     }
-    if second.len() == 0 {
-        return Sample::Stamp(stamp as u32);
+    if second.is_empty() {
+        return Ok(Sample::Stamp(stamp as u32));
     }
     if level > LARGEST_LEVEL {
-        return Sample::Wrong(trouble::LARGE_LEVEL, rest.len());
+        return Err(Fault::LargeLevel.at(rest.len()));
     }
-    Sample::Both(stamp as u32, level as u8)
+    Ok(Sample::Both(stamp as u32, level as u8))
 }
 
-fn parse(line: &[u8]) -> Sample {
+fn parse(line: &[u8]) -> Result<Sample, Wrong> {
     let word = first_word(line);
-    if (word.len() == 0) | same(word, b"ok") | same(word, b"look") {
-        return Sample::Nothing;
+    if matches!(word, b"" | b"ok" | b"look") {
+        return Ok(Sample::Nothing);
     }
     let stamp = text::decimal(word);
     if !is_number(stamp) {
-        return Sample::Wrong(trouble::NO_SAMPLE, line.len());
+        return Err(Fault::NoSample.at(line.len()));
     }
     parse_rest(line, value(stamp), after_word(line))
 }
@@ -96,9 +95,8 @@ impl Reading {
         }
     }
 
-    fn ended(mut self, fault: usize, left: usize) -> Reading {
-        let progress = self.progress;
-        self.progress = progress.ended(fault, left);
+    fn failed(mut self, wrong: Wrong) -> Reading {
+        self.progress = self.progress.failed(wrong);
         self
     }
 
@@ -106,10 +104,10 @@ impl Reading {
         self.stamp = stamp;
         self.stamps = counted(self.stamps);
         if self.stamps == CAPTURE {
-            return self.ended(trouble::MANY_SAMPLES, 0);
+            return self.failed(Fault::ManySamples.at(0));
         }
         if self.stamps == self.limit {
-            return self.ended(trouble::NOTHING, 0);
+            self.progress = self.progress.ended();
         }
         self
     }
@@ -134,10 +132,10 @@ impl Reading {
             return self;
         }
         match parse(input::content(line, progress.length)) {
-            Sample::Nothing => self,
-            Sample::Both(stamp, level) => self.with_stamp(stamp).with_level(level),
-            Sample::Stamp(stamp) => self.with_stamp(stamp).unpaired(),
-            Sample::Wrong(fault, left) => self.ended(fault, left),
+            Ok(Sample::Nothing) => self,
+            Ok(Sample::Both(stamp, level)) => self.with_stamp(stamp).with_level(level),
+            Ok(Sample::Stamp(stamp)) => self.with_stamp(stamp).unpaired(),
+            Err(wrong) => self.failed(wrong),
         }
     }
 
@@ -147,13 +145,14 @@ impl Reading {
         env: &E,
         page: &mut [u8; PAGE],
         line: &[u8; ROOM],
+        wrong: Wrong,
     ) -> usize {
         let progress = self.progress;
-        let mut hint = hints::NONE;
-        if progress.fault == trouble::NO_SAMPLE {
-            hint = hints::other(first_word(input::content(line, progress.length)));
-        }
-        progress.complain(env, page, line, hint)
+        let hint = match wrong.fault {
+            Fault::NoSample => hints::other(first_word(input::content(line, progress.length))),
+            _ => None,
+        };
+        progress.complain(env, page, line, wrong, hint)
     }
 }
 
@@ -187,9 +186,7 @@ pub(crate) fn read_all(
     lines: &mut [u64; CAPTURE],
 ) -> Reading {
     let mut reading = begun;
-    let mut turns = u64::MAX;
-    while turns > 0 {
-        turns -= 1;
+    for _ in 0..u64::MAX {
         if !reading.progress.more {
             return reading;
         }

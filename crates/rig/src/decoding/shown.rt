@@ -2,7 +2,6 @@
 use crate::lines::{end, put_numbers, say_numbers};
 use decode::{Decoder, Listed};
 use rig_lines::console::PAGE;
-use rig_lines::lists::line_of;
 use rig_lines::numbers::more;
 use rig_lines::store;
 use trace::{PARTIAL, REPEATED_START, START, STOP};
@@ -62,7 +61,11 @@ impl Shown {
         let doubts = self.doubtful & !is_condition(event);
         let stamped = put_numbers(page, self.at, b"#: ", &[stamp as u64]);
         let words = trace_text::show(page, stamped, event, self.addressed);
-        let next = end(page, words, line_of(b"\n doubtful\n", doubts as usize));
+        let next = if doubts {
+            end(page, words, b" doubtful")
+        } else {
+            end(page, words, b"")
+        };
         self.after(event, next)
     }
 
@@ -117,19 +120,11 @@ pub(crate) fn show_all(
     let mut decoder = Decoder::idle();
     let mut shown = Shown::new(at);
     let mut last: u32 = 0;
-    let mut i: usize = 0;
-    while i < stamps.len() {
-        if i >= levels.len() {
-            return shown;
-        }
-        let stamp = stamps[i];
-        let level = levels[i];
+    for (i, (&stamp, &level)) in stamps.iter().zip(levels).enumerate() {
         let line = store::line_at(lines, i);
-        i += 1;
         shown = shown.with_gap(page, last, stamp, line, inside(decoder.framed, usual));
         let step = decoder.step(level);
-        let listed = step.listed;
-        shown = shown.with_listed(page, listed, stamp);
+        shown = shown.with_listed(page, step.listed, stamp);
         decoder = step.decoder;
         last = stamp;
     }

@@ -1,13 +1,15 @@
 // An event list read from its lines.
 use super::statement;
 use super::statement::Statement;
+use crate::hints;
+use crate::hints::Hint;
 use crate::lines::suffix;
 use crate::reading::{Progress, after};
-use crate::{hints, trouble};
+use crate::trouble::{Fault, Wrong};
 use rig_lines::console::PAGE;
 use rig_lines::files::Reader;
 use rig_lines::input::{ROOM, Source};
-use rig_lines::numbers::{is_number, least_number, value};
+use rig_lines::numbers::{is_number, value};
 use rig_lines::{input, store};
 use std::rt::Env;
 use text::{after_word, first_word};
@@ -49,9 +51,8 @@ impl Listing {
         self.numbers & !self.other
     }
 
-    fn ended(mut self, fault: usize, left: usize) -> Listing {
-        let progress = self.progress;
-        self.progress = progress.ended(fault, left);
+    fn failed(mut self, wrong: Wrong) -> Listing {
+        self.progress = self.progress.failed(wrong);
         self
     }
 
@@ -77,30 +78,27 @@ impl Listing {
             self.count = store::event(events, self.count, event);
             return self;
         }
-        self.ended(trouble::MANY_EVENTS, 0)
+        self.failed(Fault::ManyEvents.at(0))
     }
 
     // The first of some words as an event's number.
     fn with_number(self, events: &mut [u16; EVENTS], words: &[u8]) -> Listing {
         let number = text::decimal(first_word(words));
         if is_number(number) {
-            return self.with_event(events, least_number(value(number), LARGEST_EVENT) as u16);
+            return self.with_event(events, value(number).min(LARGEST_EVENT) as u16);
         }
-        self.ended(trouble::NO_EVENT, words.len())
+        self.failed(Fault::NoEvent.at(words.len()))
     }
 
     fn with_numbers(self, events: &mut [u16; EVENTS], words: &[u8]) -> Listing {
         let mut listing = self;
         let mut rest = words;
-        let mut left = words.len();
-        while left > 0 {
-            left -= 1;
+        for _ in 0..words.len() {
             if !listing.progress.more | (first_word(rest).len() == 0) {
                 return listing;
             }
             listing = listing.with_number(events, rest);
-            let next = after_word(rest);
-            rest = next;
+            rest = after_word(rest);
         }
         listing
     }
@@ -108,15 +106,15 @@ impl Listing {
     // What a line says.
     fn with_line(self, events: &mut [u16; EVENTS], line: &[u8]) -> Listing {
         match statement::parse(line) {
-            Statement::Nothing => self,
-            Statement::Start(start) => self.with_start(start),
-            Statement::Gap(gap) => self.with_gap(gap),
-            Statement::Event(event) => self.with_kind(false, false).with_event(events, event),
-            Statement::Numbers(left, sample) => {
+            Ok(Statement::Nothing) => self,
+            Ok(Statement::Start(start)) => self.with_start(start),
+            Ok(Statement::Gap(gap)) => self.with_gap(gap),
+            Ok(Statement::Event(event)) => self.with_kind(false, false).with_event(events, event),
+            Ok(Statement::Numbers(left, sample)) => {
                 self.with_kind(true, sample)
                     .with_numbers(events, suffix(line, left))
             }
-            Statement::Wrong(fault, left) => self.ended(fault, left),
+            Err(wrong) => self.failed(wrong),
         }
     }
 
@@ -130,12 +128,11 @@ impl Listing {
     }
 
     // A hint where the line, or the list, looks like another file's.
-    fn hint(self, words: &[u8]) -> usize {
-        let fault = self.progress.fault;
+    fn hint(self, fault: Fault, words: &[u8]) -> Option<Hint> {
         match fault {
-            trouble::NO_EVENT => hints::loads(first_word(words)),
-            trouble::MANY_EVENTS => hints::trace(self.like_trace()),
-            _ => hints::NONE,
+            Fault::NoEvent => hints::loads(first_word(words)),
+            Fault::ManyEvents => hints::trace(self.like_trace()),
+            _ => None,
         }
     }
 
@@ -144,10 +141,11 @@ impl Listing {
         env: &E,
         page: &mut [u8; PAGE],
         line: &[u8; ROOM],
+        wrong: Wrong,
     ) -> usize {
-        let progress = self.progress;
-        let words = input::content(line, progress.length);
-        progress.complain(env, page, line, self.hint(words))
+        let words = input::content(line, self.progress.length);
+        let hint = self.hint(wrong.fault, words);
+        self.progress.complain(env, page, line, wrong, hint)
     }
 }
 
@@ -173,9 +171,7 @@ pub(crate) fn read_all(
     events: &mut [u16; EVENTS],
 ) -> Listing {
     let mut listing = begun;
-    let mut turns = u64::MAX;
-    while turns > 0 {
-        turns -= 1;
+    for _ in 0..u64::MAX {
         if !listing.progress.more {
             return listing;
         }

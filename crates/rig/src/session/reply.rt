@@ -1,212 +1,178 @@
 // What a command of a session is answered.
 use super::command;
 use super::command::Command;
-use crate::lines::{put, say_numbers};
-use crate::trouble;
+use crate::lines::{end, say, say_numbers};
+use crate::trouble::Fault;
 use rig_lines::console::PAGE;
-use rig_lines::lists::line_of;
 use rig_lines::refusals::put_refusal;
-use text::put_byte;
+use text::{put_byte, put_bytes};
 use usi::{Read, Step, Usi, Written};
 use usi_spi::Driven;
 use usi_text::put_module;
 
-// The places of the words with which a reply begins, after those of the commands' forms, which are errors.
-pub(crate) const UNKNOWN: usize = 9;
+const HELP: &[u8] =
+    b"ok power [LL HH], read AAA, write AAA VV, readw AAA, writew AAA VVVV, sample L, tick, lines, help";
 
-const TOO_LONG: usize = 10;
-
-const NO_TEXT: usize = 11;
-
-pub(crate) const NOTHING: usize = 12;
-
-pub(crate) const HELP: usize = 13;
-
-const MODULE: usize = 14;
-
-const BYTE: usize = 15;
-
-const WORD: usize = 16;
-
-const SCL: usize = 17;
-
-const SCLK: usize = 19;
-
-// The places of the words with which it ends.
-const NO_TAIL: usize = 0;
-
-const LOW_BYTE: usize = 1;
-
-const CLEARED: usize = 2;
-
-const SDA: usize = 3;
-
-const SDO: usize = 5;
+#[derive(Clone, Copy)]
+pub(crate) enum Answer {
+    // the line has no command
+    Nothing,
+    // the command is not understood; `$` stands for its name
+    Error(&'static [u8]),
+    Refused(u8),
+    Help,
+    // how the module stands, and after a write the flags that it cleared
+    Module,
+    Cleared(u8),
+    // what was read
+    Byte(u16),
+    Word(u16),
+    // the lines, in words
+    Lines(&'static [u8], &'static [u8]),
+}
 
 #[derive(Clone, Copy)]
 pub(crate) struct Reply {
     // the module after the command
     pub(crate) device: Usi,
-    words: usize,
-    tail: usize,
-    // what was read, or the flags that a write cleared
-    number: u16,
-    // a refusal's number, else 0
-    pub(crate) refusal: u8,
+    pub(crate) answer: Answer,
 }
 
-fn said(device: Usi, words: usize, tail: usize, number: u16) -> Reply {
-    Reply {
-        device,
-        words,
-        tail,
-        number,
-        refusal: 0,
-    }
+fn said(device: Usi, answer: Answer) -> Reply {
+    Reply { device, answer }
 }
 
-fn refused(device: Usi, refusal: u8) -> Reply {
-    Reply {
-        device,
-        words: MODULE,
-        tail: NO_TAIL,
-        number: 0,
-        refusal,
-    }
-}
-
-fn read(device: Usi, read: Read, words: usize) -> Reply {
+// What was read, or the number of the refusal.
+fn value(read: Read) -> Result<u16, u8> {
     match read {
-        Read::Value(value) => said(device, words, LOW_BYTE, value),
-        Read::Refused(number) => refused(device, number),
+        Read::Value(value) => Ok(value),
+        Read::Refused(number) => Err(number),
     }
 }
 
-fn written(written: Written) -> Reply {
-    let device = written.usi;
+fn written(written: Written) -> Result<Reply, u8> {
     if written.refusal != 0 {
-        return refused(device, written.refusal);
+        return Err(written.refusal);
     }
-    said(device, MODULE, CLEARED, written.cleared as u16)
+    Ok(said(written.usi, Answer::Cleared(written.cleared)))
 }
 
-fn stepped(step: Step) -> Reply {
+fn stepped(step: Step) -> Result<Reply, u8> {
     match step {
-        Step::Next(device) => said(device, MODULE, NO_TAIL, 0),
-        Step::Refused(number, device) => refused(device, number),
+        Step::Next(device) => Ok(said(device, Answer::Module)),
+        Step::Refused(number, _) => Err(number),
     }
 }
 
-// A level by its place: released, low or high.
-fn level(line: Driven) -> u8 {
+fn sclk(line: Driven) -> &'static [u8] {
     match line {
-        Driven::Released => 0,
-        Driven::Low => 1,
-        Driven::High => 2,
+        Driven::Released => b"ok sclk=released",
+        Driven::Low => b"ok sclk=low",
+        Driven::High => b"ok sclk=high",
     }
 }
 
-// The same of a line that is pulled low or not.
-fn pull(low: bool) -> u8 {
-    if low { 1 } else { 0 }
+fn sdo(line: Driven) -> &'static [u8] {
+    match line {
+        Driven::Released => b" sdo=released",
+        Driven::Low => b" sdo=low",
+        Driven::High => b" sdo=high",
+    }
+}
+
+fn scl(low: bool) -> &'static [u8] {
+    if low {
+        b"ok scl=low"
+    } else {
+        b"ok scl=released"
+    }
+}
+
+fn sda(low: bool) -> &'static [u8] {
+    if low { b" sda=low" } else { b" sda=released" }
 }
 
 // The lines, by the set-up.
-fn lines(device: Usi) -> Reply {
+fn lines(device: Usi) -> Answer {
     if device.fits_spi() {
         let lines = device.spi_lines();
-        let sclk = lines.sclk;
-        let sdo = lines.sdo;
-        return said(
-            device,
-            SCLK + level(sclk) as usize,
-            SDO + level(sdo) as usize,
-            0,
-        );
+        return Answer::Lines(sclk(lines.sclk), sdo(lines.sdo));
     }
-    let scl = pull(device.pulls_scl());
-    let sda = pull(device.pulls_sda());
-    said(device, SCL + scl as usize, SDA + sda as usize, 0)
+    Answer::Lines(scl(device.pulls_scl()), sda(device.pulls_sda()))
 }
 
-fn to_command(device: Usi, command: Command) -> Reply {
+// The reply to a command, or the number by which it is refused.
+fn to_command(device: Usi, command: Command) -> Result<Reply, u8> {
     match command {
-        Command::Words(words) => said(device, words, NO_TAIL, 0),
-        Command::Power(low, high) => said(Usi::power_up(low, high), MODULE, NO_TAIL, 0),
-        Command::Read(address) => read(device, device.read(address), BYTE),
-        Command::ReadWord(address) => read(device, device.read_word(address), WORD),
+        Command::Nothing => Ok(said(device, Answer::Nothing)),
+        Command::Help => Ok(said(device, Answer::Help)),
+        Command::Power(low, high) => Ok(said(Usi::power_up(low, high), Answer::Module)),
+        Command::Read(address) => Ok(said(device, Answer::Byte(value(device.read(address))?))),
+        Command::ReadWord(address) => {
+            Ok(said(device, Answer::Word(value(device.read_word(address))?)))
+        }
         Command::Write(address, value) => written(device.write(address, value)),
         Command::WriteWord(address, value) => written(device.write_word(address, value)),
         Command::Sample(level) => stepped(device.sample(level)),
         Command::Tick => stepped(device.tick()),
-        Command::Lines => lines(device),
+        Command::Lines => Ok(said(device, lines(device))),
+    }
+}
+
+// A refusal leaves the module as it was.
+fn to_words(device: Usi, words: &[u8]) -> Reply {
+    match command::parse(words) {
+        Err(form) => said(device, Answer::Error(form)),
+        Ok(command) => match to_command(device, command) {
+            Ok(reply) => reply,
+            Err(number) => said(device, Answer::Refused(number)),
+        },
     }
 }
 
 // The reply to a line, by its fault and its words.
-pub(crate) fn to(device: Usi, fault: usize, words: &[u8]) -> Reply {
+pub(crate) fn to(device: Usi, fault: Option<Fault>, words: &[u8]) -> Reply {
     match fault {
-        trouble::TOO_LONG => said(device, TOO_LONG, NO_TAIL, 0),
-        trouble::NO_TEXT => said(device, NO_TEXT, NO_TAIL, 0),
-        _ => to_command(device, command::parse(words)),
+        Some(Fault::TooLong) => said(device, Answer::Error(b"error longer than 4096 bytes")),
+        Some(Fault::NoText) => said(device, Answer::Error(b"error a byte that is no text")),
+        _ => to_words(device, words),
     }
 }
 
 impl Reply {
-    // Whether it is one to a command.
-    pub(crate) fn to_command(self) -> bool {
-        self.words != NOTHING
-    }
-
-    // Whether the command was not understood.
-    pub(crate) fn is_error(self) -> bool {
-        self.words < NOTHING
-    }
-
-    fn put_device(self, page: &mut [u8; PAGE], at: usize) -> usize {
-        if self.words == MODULE {
-            return put_module(page, at, self.device);
-        }
-        at
-    }
-
-    // The words with which it begins; a command that is unknown begins with a word.
-    fn put_front(self, page: &mut [u8; PAGE], word: &[u8]) -> usize {
-        let words = line_of(
-            b"error expected power or power LL HH
-error expected read AAA
-error expected write AAA VV
-error expected readw AAA
-error expected writew AAA VVVV
-error expected sample L
-error expected tick
-error expected lines
-error expected help
-error unknown command $; try help
-error longer than 4096 bytes
-error a byte that is no text
-ok
-ok power [LL HH], read AAA, write AAA VV, readw AAA, writew AAA VVVV, sample L, tick, lines, help
-ok \nok \nok %\nok scl=released\nok scl=low
-ok sclk=released
-ok sclk=low
-ok sclk=high
-",
-            self.words,
-        );
-        put(page, 0, words, &[(self.number / 256) as u64], word)
+    // The line of the module, and what stands at its end.
+    fn put_device(self, page: &mut [u8; PAGE]) -> usize {
+        let front = put_bytes(page, 0, b"ok ");
+        put_module(page, front, self.device)
     }
 
     // Puts its line.
     pub(crate) fn put(self, page: &mut [u8; PAGE], word: &[u8]) -> usize {
-        if self.refusal > 0 {
-            let next = put_refusal(page, 0, self.refusal);
-            return put_byte(page, next, b'\n');
+        match self.answer {
+            Answer::Nothing => end(page, 0, b"ok"),
+            Answer::Error(words) => say(page, 0, words, &[], word),
+            Answer::Refused(number) => {
+                let next = put_refusal(page, 0, number);
+                put_byte(page, next, b'\n')
+            }
+            Answer::Help => end(page, 0, HELP),
+            Answer::Module => {
+                let next = self.put_device(page);
+                put_byte(page, next, b'\n')
+            }
+            Answer::Cleared(flags) => {
+                let next = self.put_device(page);
+                say_numbers(page, next, b" cleared=%", &[flags as u64])
+            }
+            Answer::Byte(byte) => say_numbers(page, 0, b"ok %", &[byte as u64]),
+            Answer::Word(word) => {
+                let numbers = [(word / 256) as u64, word as u64];
+                say_numbers(page, 0, b"ok %%", &numbers)
+            }
+            Answer::Lines(clock, data) => {
+                let next = put_bytes(page, 0, clock);
+                end(page, next, data)
+            }
         }
-        let front = self.put_front(page, word);
-        let next = self.put_device(page, front);
-        let tail =
-            b"\n%\n cleared=%\n sda=released\n sda=low\n sdo=released\n sdo=low\n sdo=high\n";
-        say_numbers(page, next, line_of(tail, self.tail), &[self.number as u64])
     }
 }
