@@ -7,7 +7,7 @@ use types.Run.{OneOf, miss}
 use denote.Enum.Declared.{tag_of}
 use Rattle.dump_reader.specs.declared.reader.Part.{Part}
 use Rattle.dump_reader.specs.declared.reader.Part.TheVariants as next
-use Rattle.dump_reader.specs.DumpRead.{may_end, refusal_of}
+use Rattle.dump_reader.specs.DumpRead.{may_end, is_refused}
 use Rattle.dump_reader.specs.contracts.reader.Part as parts
 
 -- all parts but those between commands
@@ -33,25 +33,22 @@ may-not-end next.Section keys = refl
 may-not-end next.Comment keys = refl
 may-not-end (next.Refused number) keys = refl
 
--- all parts but a refusal
-abbrev unrefused : List ℕ
-unrefused = 0 ∷ 1 ∷ 2 ∷ 3 ∷ 4 ∷ 5 ∷ 6 ∷ 7 ∷ 8 ∷ 9 ∷ 10 ∷ 11 ∷ 12 ∷ 13 ∷ 14 ∷ 15 ∷ []
-
-pub none-refused : (part : Part) → OneOf unrefused (tag_of parts.the_type part) → 0 ≡ refusal_of part
-none-refused next.Definitions keys = refl
-none-refused next.Note keys = refl
-none-refused next.Number keys = refl
-none-refused (next.Unit power) keys = refl
-none-refused next.Close keys = refl
-none-refused next.ScopeType keys = refl
-none-refused next.ScopeName keys = refl
-none-refused next.WireType keys = refl
-none-refused next.WireSize keys = refl
-none-refused next.Identifier keys = refl
-none-refused next.Name keys = refl
-none-refused next.Names keys = refl
-none-refused next.Opening keys = refl
-none-refused next.Values keys = refl
-none-refused next.Section keys = refl
-none-refused next.Comment keys = refl
-none-refused (next.Refused number) keys = absurd (miss unrefused 16 tt keys)
+-- a part that is no refusal
+pub none-refused : (part : Part) → ((number : ℕ) → part ≡ next.Refused number → ⊥) → is_refused part ≡ false
+none-refused next.Definitions never = refl
+none-refused next.Note never = refl
+none-refused next.Number never = refl
+none-refused (next.Unit power) never = refl
+none-refused next.Close never = refl
+none-refused next.ScopeType never = refl
+none-refused next.ScopeName never = refl
+none-refused next.WireType never = refl
+none-refused next.WireSize never = refl
+none-refused next.Identifier never = refl
+none-refused next.Name never = refl
+none-refused next.Names never = refl
+none-refused next.Opening never = refl
+none-refused next.Values never = refl
+none-refused next.Section never = refl
+none-refused next.Comment never = refl
+none-refused (next.Refused number) never = absurd (never number refl)

@@ -239,7 +239,8 @@ module _
         ) in
         let rest : Passed (others text room room-too) =
         (le-ltb max_samples (length (read.stamps_in text)) (rw count few), (short, tt)) in
-        ok_passed (read_checks text room room-too) (held text)
-        (le-ltb longest_text (length text) fits,
-        passed-both (text_checks text (read.final text)) (others text room room-too) unrefused rest)
+        ok_passed (read_checks text room room-too) (held text) (
+          le-ltb longest_text (length text) fits,
+          passed-both (text_checks text (read.final text)) (others text room room-too) unrefused rest,
+        )
         ∙ ap₂ (λ (n t : ℕ). Ok (samples_in_unit n t)) count read-timescale

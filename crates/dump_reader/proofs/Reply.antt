@@ -34,10 +34,11 @@ module _ (text : List ℕ) (stamps-room levels-room : ℕ) where
   unfolding dump_read
   long-refused long = rw (lt-ltb longest_text (length text) long) refl
 
-  -- 6 and 8 come after the text's
-  pub in_order : length text ≤ longest_text → dump_read text stamps-room levels-room
-      ≡ result_and (answer (text_checks text (final text)) (tt {0})) (answer others (held text))
+  -- 6 and 8 come after what the reader after all words is refused for
+  pub in_order : length text ≤ longest_text → (reader : Reader) → reader ≡ final text
+      → dump_read text stamps-room levels-room
+      ≡ result_and (answer (text_checks text reader) (tt {0})) (answer others (held text))
   unfolding dump_read
-  in_order fits =
-      rw (le-ltb longest_text (length text) fits)
+  in_order fits reader last =
+      rw (le-ltb longest_text (length text) fits, last)
       (answer-in_order (text_checks text (final text)) others (tt {0}) (held text))

@@ -3,7 +3,7 @@
 
 ghost use Rattle.std.specs.Prelude.{◌≡◌, length};
 ghost use Rattle.laws.specs.Refusals.{answer};
-ghost use Rattle.dump_reader.specs.DumpRead.{closed, may_end, refusal_of, text_checks};
+ghost use Rattle.dump_reader.specs.DumpRead.{closed, may_end, text_checks};
 ghost use Rattle.dump_reader.specs.DumpRead.{dump_read, stamps_after, levels_after};
 
 use laws::{Refusal, refused};
@@ -38,16 +38,6 @@ fn may_end(part: Part) -> bool
     }
 }
 
-// The number of the word that was refused, 0 where none was.
-fn refusal_of(part: Part) -> u8
-    ensures { result ≡ refusal_of part }
-{
-    match part {
-        Part::Refused(number) => number,
-        _ => 0,
-    }
-}
-
 // Whether the last line is closed.
 fn is_closed(text: &[u8]) -> bool
     ensures { result ≡ closed text.now }
@@ -63,8 +53,7 @@ fn check(text: &[u8], reader: Reader) -> Result<(), Refusal>
     ensures { result ≡ answer (text_checks text.now reader) tt }
 {
     let part = reader.part;
-    let number = refusal_of(part);
-    if number != 0 {
+    if let Part::Refused(number) = part {
         return refused(number, reader.place);
     }
     if !(is_closed(text) & may_end(part)) {

@@ -2,15 +2,15 @@
 use mathlib.Core.Path.{refl}
 use borrow.Author.Tests.{eq-eqb, ne_eqb}
 use Rattle.std.proofs.Common.{ap, not}
+use Rattle.dump_reader.proofs.Parts.{none-refused}
 use Rattle.dump_reader.proofs.check.Goals as goal
 
-pub returns-then-number-ne0 : goal.returns-then-number-ne0
-returns-then-number-ne0 c = rw (← c.refusal_of-number.ensures, ne_eqb _ _ c.if-number-ne0.true) c.refused.ensures
+pub returns-in-Refused : goal.returns-in-Refused
+returns-in-Refused c = rw c.in-Refused.is c.refused.ensures
 
 pub returns-then-not-is_closed-may_end : goal.returns-then-not-is_closed-may_end
 returns-then-not-is_closed-may_end c = rw (
-  ← c.refusal_of-number.ensures,
-  eq-eqb _ _ c.if-number-ne0.false,
+  none-refused _ c.in_default.not-Refused,
   ← c.is_closed.ensures,
   ← c.may_end.ensures,
   (ap not c.if-not-is_closed-may_end.true),
@@ -18,8 +18,7 @@ returns-then-not-is_closed-may_end c = rw (
 
 pub returns-then-reader-ne-MAX_LEVEL : goal.returns-then-reader-ne-MAX_LEVEL
 returns-then-reader-ne-MAX_LEVEL c = rw (
-  ← c.refusal_of-number.ensures,
-  eq-eqb _ _ c.if-number-ne0.false,
+  none-refused _ c.in_default.not-Refused,
   ← c.is_closed.ensures,
   ← c.may_end.ensures,
   (ap not c.if-not-is_closed-may_end.false),
@@ -28,8 +27,7 @@ returns-then-reader-ne-MAX_LEVEL c = rw (
 
 pub returns : goal.returns
 returns c = rw (
-  ← c.refusal_of-number.ensures,
-  eq-eqb _ _ c.if-number-ne0.false,
+  none-refused _ c.in_default.not-Refused,
   ← c.is_closed.ensures,
   ← c.may_end.ensures,
   (ap not c.if-not-is_closed-may_end.false),
