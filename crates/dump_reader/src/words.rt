@@ -1,5 +1,5 @@
 // Words of a text, parted by 09h, 0Ah, 0Dh and 20h, each with its place.
-ghost use Rattle.std.specs.Prelude.{◌≡◌, min, ◌≤◌, length, drop};
+ghost use Rattle.std.specs.Prelude.{◌≡◌, ◌≤◌, length, drop};
 ghost use Rattle.laws.specs.Same.{same};
 ghost use Rattle.text.specs.Words.{run_length};
 ghost use Rattle.dump_reader.specs.Words.{parting, belongs, bytes_of, word_from, first_byte, begins};
@@ -43,28 +43,14 @@ pub(crate) fn run_length(s: &[u8], run: Run) -> usize
     ensures value { result ≡ run_length (belongs run) s.now }
     ensures upper_bound { result ≤ length s.now }
 {
-    let mut i = 0;
-    while i < s.len() {
-        if !is_in(run, s[i]) {
-            return i;
-        }
-        i += 1;
-    }
-    i
-}
-
-fn least(a: usize, b: usize) -> usize
-    ensures { result ≡ min a b }
-{
-    if a < b { a } else { b }
+    s.iter().take_while(|b| is_in(run, **b)).count()
 }
 
 // The text from a place on.
 pub(crate) fn tail(text: &[u8], from: usize) -> &[u8]
     ensures { result.now ≡ drop from text.now }
 {
-    let start = least(from, text.len());
-    &text[start..]
+    &text[from.min(text.len())..]
 }
 
 // The first word from a place on; it ends with the text where it is cut or where there is none.
@@ -82,37 +68,22 @@ pub(crate) fn next_word(text: &[u8], from: usize) -> Word
 pub(crate) fn bytes_of(text: &[u8], word: Word) -> &[u8]
     ensures { result.now ≡ bytes_of text.now word }
 {
-    let bytes = tail(text, word.start);
-    let start = least(word.start, word.end);
-    let end = least(word.end - start, bytes.len());
-    &bytes[..end]
+    let end = word.end.min(text.len());
+    &text[word.start.min(end)..end]
 }
 
 // Whether two words are the same bytes.
 pub(crate) fn is_same(a: &[u8], b: &[u8]) -> bool
     ensures { result ≡ same a.now b.now }
 {
-    if a.len() != b.len() {
-        return false;
-    }
-    let mut i = 0;
-    while i < a.len() {
-        if a[i] != b[i] {
-            return false;
-        }
-        i += 1;
-    }
-    true
+    a == b
 }
 
 // The first byte of a word, 0 where it has none.
 pub(crate) fn first_byte(word: &[u8]) -> u8
     ensures { result ≡ first_byte word.now }
 {
-    if word.len() == 0 {
-        return 0;
-    }
-    word[0]
+    word.first().copied().unwrap_or(0)
 }
 
 // Whether a word begins with `$`.

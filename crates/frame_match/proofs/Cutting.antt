@@ -6,22 +6,23 @@ use mathlib.Core.Path.{◌≡◌, refl, sym, ap, ◌∙◌}
 use mathlib.Core.Bool.{Bool, true, false, cond}
 use mathlib.Core.List.{List, [], ◌∷◌}
 use lib.Dec.{ltb}
-use lib.ListN.{length, get_or, take, drop, drop_of_length-le, length-drop}
+use lib.ListN.{length, get_or, take, drop, drop_of_length-le}
 use lib.Seq.{drop-cons, drop-drop, length-take-le, take-add, drop_at, take_all}
 use borrow.Author.Tests.{ltb-true, ltb-false, eq-eqb, ne_eqb}
+use Rattle.std.proofs.lemmas.List.{drop-take}
 use Rattle.laws.proofs.Lists.{take-least, drop-least}
 use Rattle.laws.specs.Search.{first}
 use Rattle.laws.proofs.Search.{first-within}
 use Rattle.frame_match.specs.Frames.{is_start, joined, cut, frame_of, later_than, frame_at}
 
 -- a part of a list from a place on up to another, each no further than the list
-pub part-is : (from to start end : ℕ) (events : List ℕ) → end ≡ min to (length events)
-    → start ≡ min from (length (take end events))
-    → take (length (take end events) - start) (drop start (take end events)) ≡ drop from (take to events)
+pub part-is : (from to start end : ℕ) (events : List ℕ) → end ≡ min to (length events) → start ≡ min from end
+    → take (end - start) (drop start events) ≡ drop from (take to events)
 part-is from to start end events is-end is-start =
-    take_all (length (take end events) - start) (drop start (take end events))
-    (omega (arith, length-drop start (take end events)))
-    ∙ ap (λ (n : ℕ). drop n (take end events)) is-start
+    let all : start + (end - start) ≡ end = omega arith in
+    let long : length (take end events) ≡ end = length-take-le end events (omega arith) in
+    sym (rw all at (drop-take start (end - start) events))
+    ∙ ap (λ (n : ℕ). drop n (take end events)) (is-start ∙ ap (min from) (sym long))
     ∙ drop-least from (take end events)
     ∙ ap (λ (n : ℕ). drop from (take n events)) is-end
     ∙ ap (drop from) (take-least to events)

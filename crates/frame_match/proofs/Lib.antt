@@ -1,7 +1,7 @@
 -- The laws that the functions' proofs cite, and what they say of every book and capture.
+pub mod Comparing
 pub mod Searching
 pub mod Cutting
-pub mod Matching
 pub mod Coming
 pub mod Choosing
 pub mod Boards

@@ -1,12 +1,10 @@
 // The rehearsal as it is kept: a row of eight numbers for each load, and one for each of its boards after it; the
 // events of all rows in one list.
 ghost use Rattle.std.specs.Prelude.{◌+◌, ◌*◌, ◌≡◌, ltb, length};
-ghost use Rattle.laws.specs.Same.{same};
 ghost use Rattle.frame_match.specs.Book.{number_at, kept, put, is_load, is_rehearsed, waits, is_a, is_of, is_sought};
 
 use super::{FIELDS, FROM, KIND, LOAD, MET, STATE, TO, WAITS};
 use crate::frames::span;
-use event_match::Difference;
 
 // No number that is kept is above it.
 const LARGEST: usize = 4294967295;
@@ -24,18 +22,12 @@ fn is_kept(book: &[u32], row: usize, field: usize) -> bool
     row * FIELDS + field < book.len()
 }
 
-fn wide(number: u32) -> usize
-    ensures { result ≡ number }
-{
-    number as usize
-}
-
 // A number of a row; 0 where the book has none.
 pub fn get(book: &[u32], row: usize, field: usize) -> usize
     ensures { result ≡ number_at book.now row field }
 {
     if is_kept(book, row, field) {
-        return wide(book[row * FIELDS + field]);
+        return book[row * FIELDS + field] as usize;
     }
     0
 }
@@ -101,24 +93,11 @@ pub(crate) fn is_a(book: &[u32], row: usize, sought: Sought) -> bool
     }
 }
 
-// Two lists of events are the same.
-fn is_same(events: &[u16], others: &[u16]) -> bool
-    ensures { result ≡ same events.now others.now }
-{
-    match event_match::compare(events, others) {
-        Difference::Equal => true,
-        _ => false,
-    }
-}
-
 // The frame is that of a row: the message of a board, or the frame that was rehearsed.
 pub fn is_of(book: &[u32], events: &[u16], row: usize, frame: &[u16]) -> bool
     ensures { result ≡ is_of book.now events.now frame.now row }
 {
-    is_same(
-        span(events, get(book, row, FROM), get(book, row, TO)),
-        frame,
-    )
+    span(events, get(book, row, FROM), get(book, row, TO)) == frame
 }
 
 // The same of a row that is looked for.

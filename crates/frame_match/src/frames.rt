@@ -1,39 +1,29 @@
 // The frames of a capture: its events cut before each START.
-ghost use Rattle.std.specs.Prelude.{◌+◌, min, ◌≡◌, length, take, drop};
+ghost use Rattle.std.specs.Prelude.{◌+◌, ◌≡◌, length, take, drop};
 ghost use Rattle.laws.specs.Search.{first};
 ghost use Rattle.frame_match.specs.Frames.{is_start, frame_at};
 
 use trace::START;
 
-// A number, but no more than a limit.
-fn least(number: usize, limit: usize) -> usize
-    ensures { result ≡ min number limit }
-{
-    if number < limit { number } else { limit }
-}
-
 // The events from a place on up to another, as far as there are.
 pub fn span(events: &[u16], from: usize, to: usize) -> &[u16]
     ensures { result.now ≡ drop from (take to events.now) }
 {
-    let end = least(to, events.len());
-    let part = &events[..end];
-    let start = least(from, part.len());
-    &part[start..]
+    let end = to.min(events.len());
+    let start = from.min(end);
+    &events[start..end]
 }
 
 // The first START from a place on, or where the events end.
 pub fn start_from(seen: &[u16], from: usize) -> usize
     ensures { result ≡ from + first is_start (drop from seen.now) }
 {
-    let mut i = from;
-    while i < seen.len() {
+    for i in from..seen.len() {
         if seen[i] == START {
             return i;
         }
-        i += 1;
     }
-    i
+    from.max(seen.len())
 }
 
 // Where the frame ends that begins at a place.

@@ -1,22 +1,29 @@
 // Rows of the book looked for, in their order.
-ghost use Rattle.std.specs.Prelude.{◌≡◌};
+ghost use Rattle.std.specs.Prelude.{ℕ, Bool, ◌≡◌};
 ghost use Rattle.frame_match.specs.Book.{is_a, is_sought, is_rehearsed, is_message};
 ghost use Rattle.frame_match.specs.Rows.{between, count, first_row, load_of, boards_end};
 
 use crate::book::{Sought, is_a, is_load, is_rehearsed, is_sought};
 
+// The first row from one on that passes a test; the end where none does.
+fn first_passing<F: Fn(usize) -> bool>(from: usize, end: usize, passes: F) -> usize
+    requires { F.IsAlwaysCallable passes }
+    ensures { (test : ℕ → Bool) → ((row : ℕ) (passed : Bool) → F.post passes row passed → passed ≡ test row)
+        → result ≡ first_row test from end }
+{
+    for row in from..end {
+        if passes(row) {
+            return row;
+        }
+    }
+    from.max(end)
+}
+
 // The first row from one on that is what is looked for; the end where none is.
 pub(crate) fn first_row(book: &[u32], from: usize, end: usize, sought: Sought) -> usize
     ensures { result ≡ first_row (is_a sought book.now) from end }
 {
-    let mut row = from;
-    while row < end {
-        if is_a(book, row, sought) {
-            return row;
-        }
-        row += 1;
-    }
-    row
+    first_passing(from, end, |row| is_a(book, row, sought))
 }
 
 // The same where the frame is that of the row.
@@ -31,14 +38,7 @@ pub(crate) fn first_of(
     ensures { result ≡ first_row (is_sought sought book.now events.now frame.now)
         from end }
 {
-    let mut row = from;
-    while row < end {
-        if is_sought(book, events, frame, row, sought) {
-            return row;
-        }
-        row += 1;
-    }
-    row
+    first_passing(from, end, |row| is_sought(book, events, frame, row, sought))
 }
 
 // The first load from a row on that has a rehearsed frame.
@@ -70,14 +70,12 @@ pub fn boards_end(book: &[u32], rows: usize, load: usize) -> usize
 pub(crate) fn load_of(book: &[u32], row: usize) -> usize
     ensures { result ≡ load_of book.now row }
 {
-    let mut load = row;
-    while load > 0 {
+    for load in (1..=row).rev() {
         if is_load(book, load) {
             return load;
         }
-        load -= 1;
     }
-    load
+    0
 }
 
 // How many loads have a rehearsed frame, of those in rows.
@@ -85,10 +83,8 @@ pub(crate) fn loads_between(book: &[u32], from: usize, end: usize) -> usize
     ensures { result ≡ count (is_rehearsed book.now) (between from end) }
 {
     let mut loads: usize = 0;
-    let mut row = from;
-    while row < end {
+    for row in from..end {
         loads += is_rehearsed(book, row) as usize;
-        row += 1;
     }
     loads
 }

@@ -23,8 +23,7 @@ fn comes_within(
         (take count (cut (drop from seen.now))) }
 {
     let mut at = from;
-    let mut left = count;
-    while left > 0 {
+    for _ in 0..count {
         if at >= seen.len() {
             return false;
         }
@@ -32,7 +31,6 @@ fn comes_within(
             return true;
         }
         at = end_of(seen, at);
-        left -= 1;
     }
     false
 }

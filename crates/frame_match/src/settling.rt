@@ -74,10 +74,8 @@ fn settle_boards(
     ensures { book.new ≡ boards_after events.now frame.now found number
         book.old (between from end) }
 {
-    let mut row = from;
-    while row < end {
+    for row in from..end {
         settle_board(book, events, frame, row, found, number);
-        row += 1;
     }
 }
 

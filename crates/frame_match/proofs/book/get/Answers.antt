@@ -7,15 +7,15 @@ use borrow.Author.Tests.{ltb-true, ltb-false}
 use Rattle.laws.proofs.Branches.{call-yes, call-no}
 use Rattle.frame_match.proofs.book.get.Goals as goal
 
-pub overflow_mul-row : goal.overflow_mul-row
-overflow_mul-row c =
+pub overflow_mul-result : goal.overflow_mul-result
+overflow_mul-result c =
     let args = c.args in
     let less : args.row * 8 + args.field < length args.book.now =
     ltb-true _ _ (call-yes _ _ c.is_kept.ensures c.if-is_kept.true) in
     omega (arith, less)
 
-pub overflow_add-row : goal.overflow_add-row
-overflow_add-row c =
+pub overflow_add-result : goal.overflow_add-result
+overflow_add-result c =
     let args = c.args in
     let less : args.row * 8 + args.field < length args.book.now =
     ltb-true _ _ (call-yes _ _ c.is_kept.ensures c.if-is_kept.true) in

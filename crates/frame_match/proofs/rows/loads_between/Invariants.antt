@@ -1,5 +1,5 @@
 -- The loads passed are counted.
-use Prim.Native.Nat.{◌+◌, ◌-◌, ◌≤◌}
+use Prim.Native.Nat.{◌+◌, ◌≤◌}
 use mathlib.Core.Path.{◌≡◌}
 use Rattle.frame_match.specs.Book.{is_rehearsed}
 use Rattle.frame_match.specs.Rows.{between, count}
@@ -8,6 +8,3 @@ use Rattle.frame_match.proofs.rows.loads_between.Given as goal
 abbrev pub invariant-loop-row : goal.invariant-loop-row
 invariant-loop-row l = (l.from ≤ l.row) × (l.loads + l.from ≤ l.row)
     × (count (is_rehearsed l.book) (between l.from l.end) ≡ l.loads + count (is_rehearsed l.book) (between l.row l.end))
-
-abbrev pub decreases-loop-row : goal.decreases-loop-row
-decreases-loop-row l = l.end - l.row
