@@ -1,9 +1,8 @@
 -- No place and no count of a reply passes 16 bits, so none is cut in the number that stands for it.
-use Prim.Native.Nat.{ℕ, ◌<◌, ◌≤◌, ◌^◌}
+use Prim.Native.Nat.{ℕ, ◌<◌, ◌^◌}
 use native.Mathlib.Omega.{arith}
 use mathlib.Core.Logic.{⊎_elim}
 use mathlib.Core.Path.{◌≡◌, refl, ap}
-use mathlib.Core.Bool.{Bool, true, false, cond, not, ◌&&◌, ◌||◌}
 use mathlib.Core.List.{List, [], ◌∷◌, ◌++◌}
 use lib.Dec.{eqb, ltb}
 use lib.ListN.{length, get_or}
@@ -18,7 +17,7 @@ use Rattle.trace.specs.Limits.{max_samples}
 use Rattle.trace.specs.Trace.{bad_level, not_above, pairs, trace_checks}
 use Rattle.trace.proofs.Pairs.{pair-count}
 use Rattle.decode.specs.declared.Decoded.{Decoded}
-use Rattle.decode.specs.Decode.{events, final}
+use Rattle.decode.specs.Decode.{events}
 use Rattle.decode.specs.DecodeReply.{decode_checks, meant, decoded, decoded_numbers}
 use Rattle.decode.proofs.Bounds.{events-length}
 use Rattle.encode.specs.EncodeReply.{encoded, encoded_numbers}
@@ -28,7 +27,7 @@ use Rattle.dump.specs.Dumped.{dump_checks, dumped, dumped_numbers}
 use Rattle.dump.proofs.Bound.{each-stamp, written-few}
 use Rattle.dump_reader.specs.declared.DumpRead.{DumpRead}
 use Rattle.dump_reader.specs.Reading.{stamps_in}
-use Rattle.dump_reader.specs.DumpRead.{longest_text, read_checks, held, dump_read}
+use Rattle.dump_reader.specs.DumpRead.{read_checks, held, dump_read}
 use Rattle.dump_reader.proofs.Places.{read-place}
 use Rattle.phases.specs.declared.Mode.{Mode}
 use Rattle.phases.specs.DecodedIn.{decoded_in}

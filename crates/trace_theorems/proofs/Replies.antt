@@ -1,13 +1,13 @@
 -- The round trips as statements about whole replies and about the slices that were lent.
 use Prim.Native.Nat.{ℕ, ◌≤◌, ◌<◌}
 use native.Mathlib.Omega.{arith}
-use mathlib.Core.Path.{◌≡◌, refl, sym, ap, ap₂, ◌∙◌}
-use mathlib.Core.Bool.{Bool, true, false, cond, not, ◌||◌}
+use mathlib.Core.Path.{◌≡◌, sym, ap, ap₂, ◌∙◌}
+use mathlib.Core.Bool.{true, false, not, ◌||◌}
 use mathlib.Core.List.{List, [], ◌∷◌}
 use lib.Dec.{eqb, ltb}
 use lib.ListN.{length, take}
 use lib.Seq.{take_at}
-use borrow.Author.Tests.{ne_eqb, le-ltb, eqb-true, eqb-false, ltb-false, not-false}
+use borrow.Author.Tests.{ne_eqb, le-ltb, eqb-false, ltb-false, not-false}
 use Rattle.laws.specs.Buffer.{filled}
 use Rattle.std.specs.Prelude.{Ok}
 use Rattle.laws.specs.Refusals.{Check, check}
@@ -23,7 +23,7 @@ use Rattle.encode.specs.EncodeReply.{encode_checks, encoded, stamps_after, level
 use Rattle.encode.proofs.Stamps.{length-stamps}
 use Rattle.encode.proofs.Samples.{drawing-length}
 use Rattle.decode.specs.declared.Decoded.{Decoded}
-use Rattle.decode.specs.Decode.{events, final}
+use Rattle.decode.specs.Decode.{events}
 use Rattle.decode.specs.DecodeReply.{decode_checks, read_as, meant, decoded, events_after}
 use Rattle.trace_theorems.proofs.Drawings.{drawing-legal, stamps-rise}
 use Rattle.trace_theorems.proofs.ReadBack.{events-back, frame_closed, none-pending, value-zero}

@@ -1,18 +1,16 @@
 -- What thin answers in each case: the capture's refusal, 6, 8, or how many samples are left.
 use Prim.Native.Nat.{ℕ}
-use native.Mathlib.Omega.{arith}
-use mathlib.Core.Path.{◌≡◌, sym, ap, ◌∙◌}
-use mathlib.Core.Bool.{true, false, cond, not, ◌||◌}
+use mathlib.Core.Path.{◌≡◌, ap, ◌∙◌}
+use mathlib.Core.Bool.{false, not}
 use mathlib.Core.List.{List}
-use lib.Dec.{eqb, ltb}
+use lib.Dec.{eqb}
 use lib.ListN.{length}
-use borrow.Author.Tests.{eqb-true, not-false, eq-eqb, ne_eqb}
+use borrow.Author.Tests.{eqb-true, not-false, eq-eqb}
 use Rattle.std.specs.Prelude.{Ok}
 use Rattle.std.specs.Result.{result_and}
 use Rattle.laws.specs.Search.{any}
 use Rattle.laws.specs.Refusals.{answer}
 use Rattle.laws.proofs.Refusals.{Passed, passed_ok, answer-in_order}
-use Rattle.trace.specs.Limits.{max_samples}
 use Rattle.trace.specs.Samples.{samples}
 use Rattle.trace.specs.Trace.{bad_level, Rising}
 use Rattle.trace.proofs.Pairs.{rising, rising-back}

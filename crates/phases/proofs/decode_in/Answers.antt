@@ -1,5 +1,5 @@
 -- `decode_in` tests in the order of the definition, and leaves the rest to `decode`.
-use Rattle.std.proofs.Common.{sym, ◌∙◌, ◌≤◌, ◌<◌, length, refl}
+use Rattle.std.proofs.Common.{sym, ◌∙◌, ◌≤◌, length, refl}
 use Rattle.std.proofs.lemmas.Result.{err_from_is_err_and}
 use borrow.Author.Tests.{lt-ltb}
 use Rattle.trace.proofs.Checked.{checked}

@@ -22,8 +22,13 @@ returns-then-count-gt-MAX_SAMPLES-clause-answer c =
     let counted = c.count-count.ensures a.stamps.now capture.same in
     let count = count-is a.stamps.now a.levels.now c.count-count.result capture counted in
     let many = lt-ltb max_samples c.count-count.result c.if-count-gt-MAX_SAMPLES.true in
-    rw (c.refused.ensures, in_order a.stamps.now a.levels.now (length a.thin_stamps.now) (length a.thin_levels.now), first,
-    ← count, many) refl
+    rw (
+      c.refused.ensures,
+      in_order a.stamps.now a.levels.now (length a.thin_stamps.now) (length a.thin_levels.now),
+      first,
+      ← count,
+      many,
+    ) refl
 
 pub returns-then-thin_stamps-count-clause-answer : goal.returns-then-thin_stamps-count-clause-answer
 returns-then-thin_stamps-count-clause-answer c =
@@ -33,9 +38,14 @@ returns-then-thin_stamps-count-clause-answer c =
     let counted = c.count-count.ensures a.stamps.now capture.same in
     let count = count-is a.stamps.now a.levels.now c.count-count.result capture counted in
     let few = le-ltb max_samples c.count-count.result c.if-count-gt-MAX_SAMPLES.false in
-    rw (c.refused-then-thin_stamps-count.ensures,
-    in_order a.stamps.now a.levels.now (length a.thin_stamps.now) (length a.thin_levels.now), first, ← count, few,
-    c.if-thin_stamps-count.true) refl
+    rw (
+      c.refused-then-thin_stamps-count.ensures,
+      in_order a.stamps.now a.levels.now (length a.thin_stamps.now) (length a.thin_levels.now),
+      first,
+      ← count,
+      few,
+      c.if-thin_stamps-count.true,
+    ) refl
 
 pub write-requires : goal.write-requires
 write-requires c =
@@ -60,8 +70,13 @@ returns c =
     let few = le-ltb max_samples c.count-count.result c.if-count-gt-MAX_SAMPLES.false in
     let wrote = c.write.ensures in
     let left = left_is a.stamps.now a.levels.now capture in record {
-      answer = rw (in_order a.stamps.now a.levels.now (length a.thin_stamps.now) (length a.thin_levels.now), first,
-          ← count, few, c.if-thin_stamps-count.false) refl;
+      answer = rw (
+        in_order a.stamps.now a.levels.now (length a.thin_stamps.now) (length a.thin_levels.now),
+        first,
+        ← count,
+        few,
+        c.if-thin_stamps-count.false,
+      ) refl;
       stamp_buffer = wrote.stamps_stored ∙ rw left;
       level_buffer = wrote.levels_stored ∙ rw left;
     }
