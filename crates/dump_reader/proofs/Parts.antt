@@ -1,13 +1,14 @@
--- The parts of the grammar that a match does not name.
+-- The parts of the grammar that a match does not name, and the number of a refused word.
 use Prim.Native.Nat.{ℕ}
 use mathlib.Core.Path.{◌≡◌, refl}
 use mathlib.Core.Bool.{false}
 use mathlib.Core.List.{List, [], ◌∷◌}
+use Rattle.std.proofs.Common.{None, Some, arith, cond, eqb, true, Bool}
 use types.Run.{OneOf, miss}
 use denote.Enum.Declared.{tag_of}
 use Rattle.dump_reader.specs.declared.reader.Part.{Part}
 use Rattle.dump_reader.specs.declared.reader.Part.TheVariants as next
-use Rattle.dump_reader.specs.DumpRead.{may_end, is_refused}
+use Rattle.dump_reader.specs.DumpRead.{may_end, refusal_of, refused_word}
 use Rattle.dump_reader.specs.contracts.reader.Part as parts
 
 -- all parts but those between commands
@@ -33,22 +34,19 @@ may-not-end next.Section keys = refl
 may-not-end next.Comment keys = refl
 may-not-end (next.Refused number) keys = refl
 
--- a part that is no refusal
-pub none-refused : (part : Part) → ((number : ℕ) → part ≡ next.Refused number → ⊥) → is_refused part ≡ false
-none-refused next.Definitions never = refl
-none-refused next.Note never = refl
-none-refused next.Number never = refl
-none-refused (next.Unit power) never = refl
-none-refused next.Close never = refl
-none-refused next.ScopeType never = refl
-none-refused next.ScopeName never = refl
-none-refused next.WireType never = refl
-none-refused next.WireSize never = refl
-none-refused next.Identifier never = refl
-none-refused next.Name never = refl
-none-refused next.Names never = refl
-none-refused next.Opening never = refl
-none-refused next.Values never = refl
-none-refused next.Section never = refl
-none-refused next.Comment never = refl
-none-refused (next.Refused number) never = absurd (never number refl)
+-- what no word or some word refused says of the number
+pub no-number : (part : Part) → refused_word part ≡ None → eqb (refusal_of part) 0 ≡ true
+no-number part is = go (eqb (refusal_of part) 0) is
+  where
+    go : (none : Bool) → cond none None (Some (refusal_of part)) ≡ None → none ≡ true
+    go true is = refl
+    go false is = let never : ◌≡◌ {A = ℕ} 0 1 = cc in absurd (omega arith)
+
+pub number-is : (part : Part) (number : ℕ) → refused_word part ≡ Some number
+    → (eqb (refusal_of part) 0 ≡ false) × (refusal_of part ≡ number)
+number-is part number is = go (eqb (refusal_of part) 0) is
+  where
+    go : (none : Bool) → cond none None (Some (refusal_of part)) ≡ Some number
+        → (none ≡ false) × (refusal_of part ≡ number)
+    go true is = let never : ◌≡◌ {A = ℕ} 0 1 = cc in absurd (omega arith)
+    go false is = (refl, cc)

@@ -1,6 +1,6 @@
 -- What read answers, refusals in their order, and what the lent slices hold after it.
 use Rattle.std.specs.Prelude.{ℕ, ◌-◌, Bool, true, false, cond, not, ◌&&◌, ◌||◌, List, [], ◌∷◌, ◌++◌, eqb, ltb, length, get_or}
-use Rattle.std.specs.Prelude.{Result, Ok, Err}
+use Rattle.std.specs.Prelude.{Result, Ok, Err, Option, None, Some}
 use Rattle.laws.specs.Buffer.{filled}
 use Rattle.laws.specs.declared.Refusal.{Refusal}
 use Rattle.laws.specs.Refusals.{Check, check, check_at, answer}
@@ -40,26 +40,6 @@ may_end next.Section = false
 may_end next.Comment = false
 may_end (next.Refused number) = false
 
--- whether a word was refused
-abbrev pub is_refused : part.Part → Bool
-is_refused next.Definitions = false
-is_refused next.Note = false
-is_refused next.Number = false
-is_refused (next.Unit power) = false
-is_refused next.Close = false
-is_refused next.ScopeType = false
-is_refused next.ScopeName = false
-is_refused next.WireType = false
-is_refused next.WireSize = false
-is_refused next.Identifier = false
-is_refused next.Name = false
-is_refused next.Names = false
-is_refused next.Opening = false
-is_refused next.Values = false
-is_refused next.Section = false
-is_refused next.Comment = false
-is_refused (next.Refused number) = true
-
 -- the number that a word was refused with, 0 where none was
 abbrev pub refusal_of : part.Part → ℕ
 refusal_of next.Definitions = 0
@@ -80,10 +60,14 @@ refusal_of next.Section = 0
 refusal_of next.Comment = 0
 refusal_of (next.Refused number) = number
 
+-- that number, if a word was refused
+abbrev pub refused_word : part.Part → Option ℕ
+refused_word part = cond (eqb (refusal_of part) 0) None (Some (refusal_of part))
+
 -- the word that is refused; 23: the text ends inside a line, a command or a section; 24: no stamp with both values
 abbrev pub text_checks : List ℕ → Reader → List Check
 text_checks text reader =
-    check_at (refusal_of reader.part) (is_refused reader.part) reader.place
+    check_at (refusal_of reader.part) (not (eqb (refusal_of reader.part) 0)) reader.place
     ∷ check_at 23 (not (closed text && may_end reader.part)) (length text)
     ∷ check_at 24 (not (eqb reader.wave.known max_level)) (length text)
     ∷ []

@@ -3,7 +3,7 @@
 
 ghost use Rattle.std.specs.Prelude.{◌≡◌, length};
 ghost use Rattle.laws.specs.Refusals.{answer};
-ghost use Rattle.dump_reader.specs.DumpRead.{closed, may_end, text_checks};
+ghost use Rattle.dump_reader.specs.DumpRead.{closed, may_end, refused_word, text_checks};
 ghost use Rattle.dump_reader.specs.DumpRead.{dump_read, stamps_after, levels_after};
 
 use laws::{Refusal, refused};
@@ -38,6 +38,17 @@ fn may_end(part: Part) -> bool
     }
 }
 
+// The number that a word was refused with, if one was.
+fn refused_word(part: Part) -> Option<u8>
+    ensures { result ≡ refused_word part }
+{
+    match part {
+        Part::Refused(0) => None,
+        Part::Refused(number) => Some(number),
+        _ => None,
+    }
+}
+
 // Whether the last line is closed.
 fn is_closed(text: &[u8]) -> bool
     ensures { result ≡ closed text.now }
@@ -53,7 +64,7 @@ fn check(text: &[u8], reader: Reader) -> Result<(), Refusal>
     ensures { result ≡ answer (text_checks text.now reader) tt }
 {
     let part = reader.part;
-    if let Part::Refused(number) = part {
+    if let Some(number) = refused_word(part) {
         return refused(number, reader.place);
     }
     if !(is_closed(text) & may_end(part)) {

@@ -75,9 +75,13 @@ module _ (stamps levels : List ℕ) (room : ℕ) where
       go (Ok read) is =
           let found = taken stamps levels room read is in
           (omega (arith, found.counted, events-length levels, found.trace.few), omega arith)
-      go (Err refusal) is =
-          (omega arith, omega (arith,
-          refused_place max_samples (decode_checks stamps levels room) (meant levels) refusal decode-placed is))
+      go (Err refusal) is = (
+        omega arith,
+        omega (
+          arith,
+          refused_place max_samples (decode_checks stamps levels room) (meant levels) refusal decode-placed is,
+        ),
+      )
 
 -- the reply of dump, with stamps of 32 bits
 module _ (stamps levels : List ℕ) (room : ℕ) (known : (i : ℕ) → get_or stamps i 0 < 2 ^ 32) where
@@ -90,9 +94,14 @@ module _ (stamps levels : List ℕ) (room : ℕ) (known : (i : ℕ) → get_or s
           → ((dumped_numbers answer).count < 73856) × ((dumped_numbers answer).place < 65536)
       go (Ok count) is =
           (omega (arith, written-few stamps levels room count is (each-stamp stamps known)), omega arith)
-      go (Err refusal) is =
-          (omega arith, omega (arith, refused_place max_samples (dump_checks stamps levels room)
-          (length (dump_text stamps levels)) refusal (dump-placed stamps levels room) is))
+      go (Err refusal) is = (
+        omega arith,
+        omega (
+          arith,
+          refused_place max_samples (dump_checks stamps levels room)
+              (length (dump_text stamps levels)) refusal (dump-placed stamps levels room) is,
+        ),
+      )
 
 -- the reply of the dump reader: a place in a text of at most 60,000 bytes, or at most 4,096 samples
 module _ (text : List ℕ) (stamp_room level_room : ℕ) where
