@@ -32,8 +32,7 @@ pub fn decode_in(
     ensures buffer { events.new ≡ events_after result levels.now events.old }
 {
     trace::check(stamps, levels)?;
-    let place = phase::first_short(mode, stamps, levels);
-    if place < levels.len() {
+    if let Some(place) = phase::first_short(mode, stamps, levels) {
         return refused(18, place);
     }
     decode::decode(stamps, levels, events)

@@ -1,6 +1,6 @@
 // The phases of SCL: from one sample at which it changes to the next.
 ghost use Rattle.std.specs.Prelude.{◌≡◌, ◌≤◌, length};
-ghost use Rattle.trace.specs.Trace.{Rising};
+ghost use Rattle.trace.specs.Trace.{Rising, place_in};
 ghost use Rattle.phases.specs.Phases as phases;
 
 use super::Mode;
@@ -76,13 +76,13 @@ impl Phase {
     }
 }
 
-// The first sample that ends a whole phase shorter than the mode allows, or how many samples there are.
-pub(crate) fn first_short(mode: Mode, stamps: &[u32], levels: &[u8]) -> usize
+// The first sample that ends a whole phase shorter than the mode allows, if there is one.
+pub(crate) fn first_short(mode: Mode, stamps: &[u32], levels: &[u8]) -> Option<usize>
     requires { (length stamps.now ≡ length levels.now) × Rising stamps.now }
-    ensures { result ≡ phases.first_short mode stamps.now levels.now }
+    ensures { result ≡ place_in levels.now (phases.first_short mode stamps.now levels.now) }
 {
     if levels.len() == 0 {
-        return 0;
+        return None;
     }
     let limits = least(mode);
     let mut phase = Phase::cut_off(levels[0]);
@@ -90,9 +90,9 @@ pub(crate) fn first_short(mode: Mode, stamps: &[u32], levels: &[u8]) -> usize
         let stamp = stamps[i];
         let level = levels[i];
         if phase.ends_short(limits, stamp, level) {
-            return i;
+            return Some(i);
         }
         phase = phase.next(stamp, level);
     }
-    levels.len()
+    None
 }

@@ -3,3 +3,4 @@ pub mod Scanned
 pub mod Checked
 pub mod Samples
 pub mod Ordered
+pub mod Places

@@ -1,5 +1,5 @@
 -- A trace (01: a record) is stamps and levels, one each per sample: what makes it one, and the refusals of any other.
-use Rattle.std.specs.Prelude.{ℕ, suc, ◌<◌, Bool, not, List, [], ◌∷◌, eqb, ltb, length, get_or}
+use Rattle.std.specs.Prelude.{ℕ, suc, ◌<◌, Bool, cond, not, List, [], ◌∷◌, eqb, ltb, length, get_or, Option, Some, None}
 use Rattle.laws.specs.Search.{first, any}
 use Rattle.laws.specs.Refusals.{Check, check, check_at}
 use Rattle.levels.specs.Levels.{max_level}
@@ -21,6 +21,10 @@ not_above pair = not (ltb pair.0 pair.1)
 
 abbrev pub bad_stamp : List ℕ → ℕ
 bad_stamp stamps = suc (first not_above (pairs stamps))
+
+-- where a search of a list ended, if that is one of its places
+abbrev pub place_in : List ℕ → ℕ → Option ℕ
+place_in list place = cond (ltb place (length list)) (Some place) None
 
 -- 5, 6, 4 and 7, in that order
 abbrev pub trace_checks : List ℕ → List ℕ → List Check

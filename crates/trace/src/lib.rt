@@ -39,12 +39,10 @@ pub fn check(stamps: &[u32], levels: &[u8]) -> Result<(), Refusal>
     if levels.len() > MAX_SAMPLES {
         return refused(6, 0);
     }
-    let level = search::bad_level(levels);
-    if level < levels.len() {
+    if let Some(level) = search::bad_level(levels) {
         return refused(4, level);
     }
-    let stamp = search::bad_stamp(stamps);
-    if stamp < stamps.len() {
+    if let Some(stamp) = search::bad_stamp(stamps) {
         return refused(7, stamp);
     }
     Ok(())

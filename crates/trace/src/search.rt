@@ -1,28 +1,24 @@
 // The first bad level and the first bad stamp of a trace.
-ghost use Rattle.std.specs.Prelude.{◌≡◌};
-ghost use Rattle.laws.specs.Search.{first};
-ghost use Rattle.trace.specs.Trace.{bad_level, bad_stamp};
+ghost use Rattle.std.specs.Prelude.{◌≡◌, position};
+ghost use Rattle.trace.specs.Trace.{bad_level, bad_stamp, place_in};
 
-// The place of the first level above 3, or the length.
-pub fn bad_level(levels: &[u8]) -> usize
-    ensures { result ≡ first bad_level levels.now }
+// The place of the first level above 3, if there is one.
+pub fn bad_level(levels: &[u8]) -> Option<usize>
+    ensures { result ≡ position bad_level levels.now }
 {
-    for (i, level) in levels.iter().enumerate() {
-        if *level > levels::MAX_LEVEL {
-            return i;
-        }
-    }
-    levels.len()
+    levels
+        .iter()
+        .position(|level| *level > levels::MAX_LEVEL)
 }
 
-// The place of the first stamp not above the one before, or one past the last pair.
-pub fn bad_stamp(stamps: &[u32]) -> usize
-    ensures { result ≡ bad_stamp stamps.now }
+// The place of the first stamp not above the one before, if there is one.
+pub fn bad_stamp(stamps: &[u32]) -> Option<usize>
+    ensures { result ≡ place_in stamps.now (bad_stamp stamps.now) }
 {
     for i in 1..stamps.len() {
         if stamps[i] <= stamps[i - 1] {
-            return i;
+            return Some(i);
         }
     }
-    stamps.len().max(1)
+    None
 }

@@ -17,12 +17,10 @@ fn check(stamps: &[u32], levels: &[u8]) -> Result<(), Refusal>
     if stamps.len() != levels.len() {
         return refused(5, 0);
     }
-    let level = trace::search::bad_level(levels);
-    if level < levels.len() {
+    if let Some(level) = trace::search::bad_level(levels) {
         return refused(4, level);
     }
-    let stamp = trace::search::bad_stamp(stamps);
-    if stamp < stamps.len() {
+    if let Some(stamp) = trace::search::bad_stamp(stamps) {
         return refused(7, stamp);
     }
     Ok(())

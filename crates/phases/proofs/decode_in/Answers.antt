@@ -1,8 +1,9 @@
 -- `decode_in` tests in the order of the definition, and leaves the rest to `decode`.
-use Rattle.std.proofs.Common.{sym, ◌∙◌, ◌≤◌, length, refl}
+use Rattle.std.proofs.Common.{sym, ◌∙◌, length, refl}
 use Rattle.std.proofs.lemmas.Result.{err_from_is_err_and}
-use borrow.Author.Tests.{lt-ltb}
+use borrow.Author.Tests.{ltb-false}
 use Rattle.trace.proofs.Checked.{checked}
+use Rattle.trace.proofs.Places.{place-some, place-none}
 use Rattle.phases.specs.Phases.{first_short}
 use Rattle.phases.proofs.Reply.{in_order, long-enough}
 use Rattle.phases.proofs.decode_in.Goals as goal
@@ -14,22 +15,24 @@ returns-in_err-check-clause-answer c =
     let first = sym c.check.ensures ∙ c.in_err-check.was in
     rw (p.1, p.2, in_order a.mode a.stamps.now a.levels.now (length a.events.now), first) refl
 
-pub first_short-place-requires : goal.first_short-place-requires
-first_short-place-requires c =
+pub first_short-requires : goal.first_short-requires
+first_short-requires c =
     let trace = checked c.args.stamps.now c.args.levels.now _ _ (sym c.check.ensures ∙ c.in_ok-check.was) in
     (trace.same, trace.rises)
 
-pub returns-then-place-levels-clause-answer : goal.returns-then-place-levels-clause-answer
-returns-then-place-levels-clause-answer c =
+pub returns-in-Some-clause-answer : goal.returns-in-Some-clause-answer
+returns-in-Some-clause-answer c =
     let a = c.args in
+    let levels = a.levels.now in
     let first = sym c.check.ensures ∙ c.in_ok-check.was in
-    let short = lt-ltb _ _ (rw c.first_short-place.ensures at c.if-place-levels.true) in
-    rw (c.refused.ensures, c.first_short-place.ensures, in_order a.mode a.stamps.now a.levels.now (length a.events.now),
-    first, short) refl
+    let place = place-some levels (first_short a.mode a.stamps.now levels) c.in-Some.place
+    (sym c.first_short.ensures ∙ c.in-Some.is) in
+    rw (c.refused.ensures, in_order a.mode a.stamps.now levels (length a.events.now), first, place.0, place.1) refl
 
 pub returns-clause-answer : goal.returns-clause-answer
 returns-clause-answer c =
     let a = c.args in
-    let enough : length a.levels.now ≤ first_short a.mode a.stamps.now a.levels.now =
-    rw c.first_short-place.ensures at c.if-place-levels.false in
-    c.decode.ensures.answer ∙ sym (long-enough a.mode a.stamps.now a.levels.now (length a.events.now) enough)
+    let levels = a.levels.now in
+    let none = place-none levels (first_short a.mode a.stamps.now levels) (sym c.first_short.ensures ∙ c.in_default.is) in
+    c.decode.ensures.answer
+    ∙ sym (long-enough a.mode a.stamps.now levels (length a.events.now) (ltb-false _ _ none))

@@ -1,7 +1,9 @@
 use native.Mathlib.Omega.{arith}
-use mathlib.Core.Path.{◌≡◌, sym, ap, ◌∙◌}
+use mathlib.Core.Path.{sym, ap, ◌∙◌}
 use Prim.Native.Nat.{◌<◌, ◌≤◌}
 use lib.ListN.{length}
+use borrow.Author.Tests.{lt-ltb, le-ltb}
+use Rattle.trace.proofs.Places.{some-place, no_place}
 use Rattle.phases.specs.declared.phase.Limits.{Limits}
 use Rattle.phases.specs.Phases.{least, first_under}
 use Rattle.phases.proofs.Searched.{searched-start, searched-found, searched-more, searched-none, none-empty}
@@ -10,7 +12,8 @@ use Rattle.phases.proofs.phase.first_short.Goals as goal
 pub returns-then-levels-eq0 : goal.returns-then-levels-eq0
 returns-then-levels-eq0 c =
     let args = c.args in
-    none-empty (least args.mode) args.stamps.now args.levels.now c.if-levels-eq0.true
+    no_place args.levels.now _ 0 (none-empty (least args.mode) args.stamps.now args.levels.now c.if-levels-eq0.true)
+    (le-ltb _ _ (omega (arith, c.if-levels-eq0.true)))
 
 pub loop-i-init : goal.loop-i-init
 loop-i-init c =
@@ -30,9 +33,10 @@ returns-then-ends_short c =
     let levels = c.args.levels.now in
     let limits = c.least-limits in
     let more : head.i < length levels = omega arith in
-    searched-found limits.result stamps levels head.phase head.i head.invariant c.requires.0 more
+    some-place levels _ head.i
+    (searched-found limits.result stamps levels head.phase head.i head.invariant c.requires.0 more
     (sym c.ends_short.ensures ∙ c.if-ends_short.true)
-    ∙ ap (λ (l : Limits). first_under l stamps levels) limits.ensures
+    ∙ ap (λ (l : Limits). first_under l stamps levels) limits.ensures) (lt-ltb _ _ more)
 
 pub loop-i-preserved : goal.loop-i-preserved
 loop-i-preserved c =
@@ -52,6 +56,6 @@ returns c =
     let levels = c.args.levels.now in
     let limits = c.least-limits in
     let done : length levels ≤ head.i = omega arith in
-    let all : length levels ≡ head.i = omega (arith, head.invariant.within) in
-    all ∙ searched-none limits.result stamps levels head.phase head.i head.invariant done (omega (arith, c.requires.0))
-    ∙ ap (λ (l : Limits). first_under l stamps levels) limits.ensures
+    no_place levels _ head.i
+    (searched-none limits.result stamps levels head.phase head.i head.invariant done (omega (arith, c.requires.0))
+    ∙ ap (λ (l : Limits). first_under l stamps levels) limits.ensures) (le-ltb _ _ done)

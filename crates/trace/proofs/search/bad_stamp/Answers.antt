@@ -1,7 +1,8 @@
 use native.Mathlib.Omega.{arith}
-use mathlib.Core.Path.{◌≡◌, ◌∙◌}
 use Prim.Native.Nat.{◌<◌, ◌≤◌}
 use lib.ListN.{length}
+use borrow.Author.Tests.{lt-ltb, le-ltb}
+use Rattle.trace.proofs.Places.{some-place, no_place}
 use Rattle.trace.proofs.Scanned.{scanned-start, scanned-more, scanned-bad, scanned-end}
 use Rattle.trace.proofs.search.bad_stamp.Goals as goal
 
@@ -13,7 +14,7 @@ returns-then-stamps-i c =
     let head = c.loop-i in
     let stamps = c.args.stamps.now in
     let more : head.i < length stamps = omega arith in
-    scanned-bad stamps head.i head.invariant more c.if-stamps-i.true
+    some-place stamps _ head.i (scanned-bad stamps head.i head.invariant more c.if-stamps-i.true) (lt-ltb _ _ more)
 
 pub loop-i-preserved : goal.loop-i-preserved
 loop-i-preserved c =
@@ -27,5 +28,4 @@ returns c =
     let head = c.loop-i in
     let stamps = c.args.stamps.now in
     let done : length stamps ≤ head.i = omega arith in
-    let all : c.max.result ≡ head.i = omega (arith, c.max.ensures, head.invariant.some, head.invariant.few) in
-    all ∙ scanned-end stamps head.i head.invariant done
+    no_place stamps _ head.i (scanned-end stamps head.i head.invariant done) (le-ltb _ _ done)
