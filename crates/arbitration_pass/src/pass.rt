@@ -100,6 +100,7 @@ fn kept(usi: Usi, operation: Operation, lost: bool) -> Usi
 }
 
 // What who lost in any byte so far writes.
+// Whether it contends is a case of the rule (`heeded`), not a step that a caller chooses.
 fn heeded(usi: Usi, operation: Operation, contending: bool) -> Usi
     ensures { result ≡ rule.heeded operation contending usi }
 {
@@ -113,6 +114,7 @@ fn heeded(usi: Usi, operation: Operation, contending: bool) -> Usi
 }
 
 // The registers that a master writes, if it lost in this byte, if it lost at all, and if it contends.
+// Whether it contends is a case of the rule (`wrote_as`), not a step that a caller chooses.
 fn wrote_as(usi: Usi, operation: Operation, contending: bool, lost: bool, byte: u8) -> Usi
     ensures { result ≡ rule.wrote_as operation contending lost byte usi }
 {

@@ -85,6 +85,7 @@ pub(crate) fn scan(text: &[u8]) -> Scanned
     let mut reader = Reader::start();
     let mut count: usize = 0;
     let mut word = next_word(text, 0);
+    // no count: the next word is sought where this one ends
     while word.end < text.len() {
         let next = judge(text, reader, word);
         count = counted(count, reader.wave, next.wave.shown);
@@ -105,6 +106,7 @@ pub(crate) fn write(text: &[u8], stamps: &mut [u32], levels: &mut [u8])
     let mut reader = Reader::start();
     let mut count: usize = 0;
     let mut word = next_word(text, 0);
+    // no count: the next word is sought where this one ends
     while word.end < text.len() {
         let next = judge(text, reader, word);
         count = put(stamps, levels, count, reader.wave, next.wave.shown);

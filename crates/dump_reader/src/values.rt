@@ -9,6 +9,7 @@ use text::{Number, decimal};
 use trace::MAX_STAMP;
 
 // A level byte with one line high or low.
+// Which line is a case of the rule (`with_line`): two functions would state it twice.
 fn with_line(level: u8, scl: bool, high: bool) -> u8
     ensures { result ≡ rule.with_line level scl high }
 {
@@ -47,6 +48,7 @@ fn is_missing(wave: Wave) -> bool
 }
 
 // A stamp: above the last one, after a value for each wire, of 32 bits, and in no section.
+// Whether it stands in a section is a case of the rule (`judge`).
 fn judge(reader: Reader, stamp: u64, inside: bool) -> Reader
     ensures { result ≡ rule.judge reader stamp inside }
 {
@@ -115,6 +117,7 @@ fn is_dump(word: &[u8]) -> bool
 }
 
 // A command among the values, or any other word.
+// Whether it stands in a section is a case of the rule (`command`).
 fn command(word: &[u8], inside: bool) -> Part
     ensures { result ≡ rule.command word.now inside }
 {

@@ -1,4 +1,5 @@
-// Corrections over the standing catalogue, for callers in C or Rust: the number, and where the message lies.
+// Corrections over the standing catalogue, for callers in C or Rust: the number, and where the message lies. C has one
+// function to each number, all with the same parameters.
 ghost use Rattle.std.specs.Prelude.{◌≡◌};
 ghost use mir.Val.{bool_byte};
 ghost use Rattle.catalogue.specs.Catalogue.{lent, located, number_of};

@@ -1,4 +1,4 @@
-// The least of several messages for callers in C or Rust.
+// The least of several messages for callers in C or Rust: one function to each number that C gets.
 ghost use Rattle.std.specs.Prelude.{◌≡◌, []};
 ghost use Rattle.arbitration_rules.specs.Reply.{asked};
 ghost use Rattle.arbitration_checks.specs.Order.{least_of};

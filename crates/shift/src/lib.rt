@@ -26,6 +26,7 @@ fn weighted(bit: bool, weight: u16) -> u16
 }
 
 // A bit enters at the low end, and the highest leaves.
+// The width is a case of the rule (`top_of`); a const parameter would branch on it at each caller.
 fn entered_low(register: u16, wide: bool, entering: bool) -> u16
     ensures { result ≡ register % 2 ^ top_of wide * 2 + bool_byte entering }
 {
@@ -36,6 +37,7 @@ fn entered_low(register: u16, wide: bool, entering: bool) -> u16
 }
 
 // A bit enters at the high end, and the lowest leaves.
+// The width is a case of the rule (`top_of`), as above.
 fn entered_high(register: u16, wide: bool, entering: bool) -> u16
     ensures { result ≡ register % 2 ^ suc (top_of wide) / 2 + bool_byte entering * 2 ^ top_of wide }
 {
@@ -46,6 +48,7 @@ fn entered_high(register: u16, wide: bool, entering: bool) -> u16
 }
 
 // The register after one shift, with a bit entering. Of a register of 8 bits the higher byte is not read, and is 0.
+// The direction is a case of the rule (`shifted`).
 pub fn shifted(register: u16, wide: bool, lsb: bool, entering: bool) -> u16
     ensures { result ≡ shifted_rule (top_of wide) lsb entering register }
 {

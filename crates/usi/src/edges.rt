@@ -93,6 +93,7 @@ impl Usi {
     }
 
     // What the lines did since the last sample, by the cases of SCL.
+    // The levels are cases of the rule (`edged`).
     pub(crate) fn edged(self, scl: bool, sda: bool) -> Usi
         ensures { result ≡ edged_rule scl sda self }
     {

@@ -64,6 +64,7 @@ impl Usi {
     }
 
     // A sample and then, where asked, a tick, each with its own tests.
+    // Whether it ticks is a case of the rule (`sample_then`).
     fn two_steps(self, level: u8, ticks: bool) -> Usi
         ensures { result ≡ sample_then level ticks self }
     {

@@ -44,6 +44,7 @@ pub fn trails(usickctl: u8, before: bool, sclk: bool) -> bool
 }
 
 // The edge at which a bit is captured.
+// It and `changes` are two rules of their own, named by specs/Rules; they differ in which edge is which.
 pub fn captures(usictl1: u8, usickctl: u8, before: bool, sclk: bool) -> bool
     ensures { result ≡ captures_rule usictl1 usickctl before sclk }
 {
