@@ -13,7 +13,7 @@ use Rattle.usi_registers.specs.Rules.{cleared}
 use Rattle.usi_spi.specs.Rules.{follows}
 use Rattle.usi.specs.declared.Usi.{Usi}
 use Rattle.usi.specs.declared.Refused.{Refused}
-use Rattle.std.specs.Prelude.{Result, Ok, Err}
+use Rattle.std.specs.Prelude.{Result, Ok, Err, MatchResult}
 use Rattle.usi.specs.Module.{fits, fits_spi, at_rest, with_usictl0, with_usickctl, with_usisrl}
 use Rattle.usi.specs.Spi as spi
 use Rattle.usi.specs.declared.Written.{Written}
@@ -60,7 +60,8 @@ settled-keeps before u =
 abbrev Keeps : Usi → Result Usi Refused → Type 0
 Keeps u step = (module_of step).usictl1 ≡ u.usictl1
 
-either-keeps : (test : Bool) (u : Usi) (one two : Result Usi Refused) → Keeps u one → Keeps u two → Keeps u (cond test one two)
+either-keeps : (test : Bool) (u : Usi) (one two : Result Usi Refused) → Keeps u one → Keeps u two
+    → Keeps u (cond test one two)
 either-keeps true u one two first second = first
 either-keeps false u one two first second = second
 
@@ -106,8 +107,7 @@ cleared-small before after =
     omega (arith, and_le_l (bit_and before USIFLAGS) (255 - after), and_le_r before USIFLAGS)
 
 abbrev pub Small : Result Written Refused → Type 0
-Small (Ok w) = w.cleared < 16
-Small (Err r) = r.number < 32
+Small answer = MatchResult answer (λ w. w.cleared < 16) (λ r. r.number < 32)
 
 abbrev Low : Result Usi Refused → Type 0
 Low step = refusal step < 32
@@ -126,7 +126,8 @@ byte_low u address value =
     (either-low (eqb address USISRL) _ _ (omega arith)
     (either-low (eqb address USISRH) _ _ (omega arith) (omega arith))))))
 
-then-low : (step : Result Usi Refused) (next : Usi → Result Usi Refused) → Low step → ((u : Usi) → Low (next u)) → Low (and_then step next)
+then-low : (step : Result Usi Refused) (next : Usi → Result Usi Refused) → Low step → ((u : Usi) → Low (next u))
+    → Low (and_then step next)
 then-low (Ok u) next first rest = rest u
 then-low (Err r) next first rest = first
 

@@ -120,8 +120,9 @@ write-word-sound u address value = either (odd address) refl
     either false e = both-sound u address value e
 
 -- a step on a module in I2C, one on a module in SPI, and a refusal of any other
-fitting-sound : (u v : Usi) (s : Result Usi Refused) → (fits u ≡ true → Sound u s) → (fits_spi u ≡ true → fits_spi v ≡ true) → Sound u
-    (cond (fits u) s (cond (fits_spi u) (Ok v) (Err (refused 3 u))))
+fitting-sound : (u v : Usi) (s : Result Usi Refused) → (fits u ≡ true → Sound u s)
+    → (fits_spi u ≡ true → fits_spi v ≡ true)
+    → Sound u (cond (fits u) s (cond (fits_spi u) (Ok v) (Err (refused 3 u))))
 fitting-sound u v s i2c keeps = either (fits u) (fits_spi u) refl refl
   where
     either : (one two : Bool) → fits u ≡ one → fits_spi u ≡ two

@@ -93,7 +93,8 @@ joined (Ok low) (Err r) = Err r
 joined (Err r) high = Err r
 
 unfoldable pub read_word : Usi → ℕ → Result ℕ Refusal
-read_word u address = cond (odd address) (Err (refused_at 2 0)) (joined (read_byte u address) (read_byte u (address + 1)))
+read_word u address =
+    cond (odd address) (Err (refused_at 2 0)) (joined (read_byte u address) (read_byte u (address + 1)))
 
 unfoldable pub write_word : Usi → ℕ → ℕ → Result Usi Refused
 write_word u address value =
