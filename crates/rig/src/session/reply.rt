@@ -3,11 +3,12 @@ use super::command;
 use super::command::Command;
 use crate::lines::{put, say_numbers};
 use crate::trouble;
+use laws::Refusal;
 use rig_lines::console::PAGE;
 use rig_lines::lists::line_of;
 use rig_lines::refusals::put_refusal;
 use text::put_byte;
-use usi::{Read, Step, Usi, Written};
+use usi::{Refused, Usi, Written};
 use usi_spi::Driven;
 use usi_text::put_module;
 
@@ -75,25 +76,24 @@ fn refused(device: Usi, refusal: u8) -> Reply {
     }
 }
 
-fn read(device: Usi, read: Read, words: usize) -> Reply {
+fn read(device: Usi, read: Result<u16, Refusal>, words: usize) -> Reply {
     match read {
-        Read::Value(value) => said(device, words, LOW_BYTE, value),
-        Read::Refused(number) => refused(device, number),
+        Ok(value) => said(device, words, LOW_BYTE, value),
+        Err(refusal) => refused(device, refusal.number),
     }
 }
 
-fn written(written: Written) -> Reply {
-    let device = written.usi;
-    if written.refusal != 0 {
-        return refused(device, written.refusal);
+fn written(written: Result<Written, Refused>) -> Reply {
+    match written {
+        Ok(written) => said(written.usi, MODULE, CLEARED, written.cleared as u16),
+        Err(stopped) => refused(stopped.usi, stopped.number),
     }
-    said(device, MODULE, CLEARED, written.cleared as u16)
 }
 
-fn stepped(step: Step) -> Reply {
+fn stepped(step: Result<Usi, Refused>) -> Reply {
     match step {
-        Step::Next(device) => said(device, MODULE, NO_TAIL, 0),
-        Step::Refused(number, device) => refused(device, number),
+        Ok(device) => said(device, MODULE, NO_TAIL, 0),
+        Err(stopped) => refused(stopped.usi, stopped.number),
     }
 }
 
