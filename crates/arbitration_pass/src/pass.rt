@@ -38,7 +38,10 @@ pub struct Seen {
 fn written(usi: Usi, address: u16, value: u8) -> Usi
     ensures { result ≡ rule.written address value usi }
 {
-    usi.write(address, value).usi
+    match usi.write(address, value) {
+        Ok(written) => written.usi,
+        Err(refused) => refused.usi,
+    }
 }
 
 // Powered up with shift bytes 0, then set up.

@@ -18,7 +18,8 @@ use Rattle.usi_registers.specs.Registers.{USISWRST}
 use Rattle.usi_registers.specs.Registers.{USICKPH, USII2C, USICKPL, USI16B}
 use Rattle.usi_registers.specs.Rules as set_up_rules
 use Rattle.usi.specs.declared.Usi.{Usi}
-use Rattle.usi.specs.declared.Step.{Step}
+use Rattle.std.specs.Prelude.{Result}
+use Rattle.usi.specs.declared.Refused.{Refused}
 use Rattle.usi.specs.Module.{fits, pulls_scl, pulls_sda, with_usictl0, with_usictl1, with_usicnt, with_usisrl}
 use Rattle.usi.specs.Step.{refusal, module_of, followed, settled, write_byte, sampled, sample, ticked, tick}
 use Rattle.usi.proofs.SetUp.{count-flags, followed-fits, sampled-fits, ticked-fits}
@@ -41,7 +42,7 @@ abbrev Ready : Usi → Type 0
 Ready u = (fits u ≡ true) × (eqb (set_up_rules.divider u.usickctl) 0 ≡ false)
 
 -- a step is not refused, and leaves such a set-up
-abbrev Fine : Step → Type 0
+abbrev Fine : Result Usi Refused → Type 0
 Fine step = (refusal step ≡ 0) × Ready (module_of step)
 
 -- a module whose set-up is as another's was is ready as it was

@@ -1,9 +1,9 @@
 -- One master at one instant: what each operation does to it. Every step is the module's own write, sample or tick.
-use Rattle.std.specs.Prelude.{ℕ, Bool, cond, true, false, not, ◌&&◌}
+use Rattle.std.specs.Prelude.{ℕ, Bool, cond, true, false, not, ◌&&◌, Result}
 use Rattle.bits.specs.Positions.{on}
 use Rattle.usi_registers.specs.Registers.{USIAL}
 use Rattle.usi.specs.declared.Usi.{Usi}
-use Rattle.usi.specs.declared.Step.{Step}
+use Rattle.usi.specs.declared.Refused.{Refused}
 use Rattle.usi.specs.Module.{power_up}
 use Rattle.usi.specs.Step.{refusal, module_of, write_byte, sample, tick}
 
@@ -38,7 +38,7 @@ pub data Operation : Type 0 where
   Sample : ℕ → Operation
   Write : ℕ → ℕ → Operation
 
-abbrev pub stepped : Operation → Usi → Step
+abbrev pub stepped : Operation → Usi → Result Usi Refused
 stepped Tick usi = tick usi
 stepped (Sample level) usi = sample usi level
 stepped (Write address value) usi = write_byte usi address value

@@ -5,14 +5,14 @@ mod command;
 mod show;
 
 use command::Command;
-use usi::{Step, Usi};
+use usi::Usi;
 
 const STDIN: i32 = 0;
 
 // Runs one command and answers the module after it.
 fn run_command(command: Command, device: Usi) -> Usi {
     match command {
-        Command::Power(low, high) => show::step(Step::Next(Usi::power_up(low, high))),
+        Command::Power(low, high) => show::step(Ok(Usi::power_up(low, high))),
         Command::Write(address, value) => show::written(device.write(address, value)),
         Command::WriteWord(address, value) => show::written(device.write_word(address, value)),
         Command::Sample(level) => show::step(device.sample(level)),

@@ -1,6 +1,7 @@
 // The lines that answer the commands.
+use laws::Refusal;
 use text::{put_byte, put_bytes, put_decimal, put_hex_byte, put_hex_word};
-use usi::{Read, Step, Usi, Written};
+use usi::{Refused, Usi, Written};
 
 const STDOUT: i32 = 1;
 
@@ -19,11 +20,8 @@ fn module(device: Usi) {
     io::write_all(STDOUT, &line[..end]);
 }
 
-// A refusal's number, where there is one.
+// A refusal's number.
 fn put_refusal(line: &mut [u8], at: usize, number: u8) -> usize {
-    if number == 0 {
-        return at;
-    }
     let past_label = put_bytes(line, at, b" refused ");
     put_decimal(line, past_label, number as u64)
 }
@@ -37,29 +35,43 @@ fn refused_module(number: u8, device: Usi) {
 }
 
 // Prints the module after a step, and answers it.
-pub fn step(step: Step) -> Usi {
+pub fn step(step: Result<Usi, Refused>) -> Usi {
     match step {
-        Step::Next(device) => {
+        Ok(device) => {
             module(device);
             device
         }
-        Step::Refused(number, device) => {
-            refused_module(number, device);
-            device
+        Err(refused) => {
+            refused_module(refused.number, refused.usi);
+            refused.usi
         }
     }
 }
 
-// Prints the module after a write, and the flags that it cleared; answers the module.
-pub fn written(answer: Written) -> Usi {
-    let mut line = [0u8; LINE];
-    let past_module = usi_text::put_module(&mut line, 0, answer.usi);
-    let past_refusal = put_refusal(&mut line, past_module, answer.refusal);
-    let past_label = put_bytes(&mut line, past_refusal, b" cleared=");
-    let past_flags = put_hex_byte(&mut line, past_label, answer.cleared);
-    let end = put_byte(&mut line, past_flags, b'\n');
+// Prints the end of a line that says what a write did: the flags that it cleared.
+fn end_with_flags(line: &mut [u8], at: usize, cleared: u8) {
+    let past_label = put_bytes(line, at, b" cleared=");
+    let past_flags = put_hex_byte(line, past_label, cleared);
+    let end = put_byte(line, past_flags, b'\n');
     io::write_all(STDOUT, &line[..end]);
-    answer.usi
+}
+
+// Prints the module after a write, and the flags that it cleared, of a refused one none; answers the module.
+pub fn written(answer: Result<Written, Refused>) -> Usi {
+    let mut line = [0u8; LINE];
+    match answer {
+        Ok(written) => {
+            let past_module = usi_text::put_module(&mut line, 0, written.usi);
+            end_with_flags(&mut line, past_module, written.cleared);
+            written.usi
+        }
+        Err(refused) => {
+            let past_module = usi_text::put_module(&mut line, 0, refused.usi);
+            let past_refusal = put_refusal(&mut line, past_module, refused.number);
+            end_with_flags(&mut line, past_refusal, 0);
+            refused.usi
+        }
+    }
 }
 
 fn refused(number: u8) {
@@ -86,16 +98,16 @@ fn word_value(value: u16) {
     io::write_all(STDOUT, &line[..end]);
 }
 
-pub fn byte(read: Read) {
+pub fn byte(read: Result<u16, Refusal>) {
     match read {
-        Read::Value(value) => byte_value((value % 256) as u8),
-        Read::Refused(number) => refused(number),
+        Ok(value) => byte_value((value % 256) as u8),
+        Err(refusal) => refused(refusal.number),
     }
 }
 
-pub fn word(read: Read) {
+pub fn word(read: Result<u16, Refusal>) {
     match read {
-        Read::Value(value) => word_value(value),
-        Read::Refused(number) => refused(number),
+        Ok(value) => word_value(value),
+        Err(refusal) => refused(refusal.number),
     }
 }

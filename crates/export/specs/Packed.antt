@@ -1,10 +1,10 @@
 -- A module as one 64-bit number, for callers that pass numbers only.
-use Rattle.std.specs.Prelude.{ℕ, ◌+◌, ◌*◌, ◌/◌, ◌%◌, ◌^◌, ◌<◌}
+use Rattle.std.specs.Prelude.{ℕ, ◌+◌, ◌*◌, ◌/◌, ◌%◌, ◌^◌, ◌<◌, Result, Ok, Err}
 use mir.Val.{bool_byte}
 use Rattle.bits.specs.Positions.{is_set}
 use Rattle.usi.specs.declared.Usi.{Usi}
-use Rattle.usi.specs.declared.Step.{Step}
-use Rattle.usi.specs.declared.Read.{Read}
+use Rattle.laws.specs.declared.Refusal.{Refusal}
+use Rattle.usi.specs.declared.Refused.{Refused}
 use Rattle.usi.specs.declared.Written.{Written}
 use Rattle.usi_spi.specs.declared.Driven.{Driven}
 use Rattle.usi_spi.specs.declared.Driven.TheVariants.{Released, Low, High}
@@ -57,15 +57,16 @@ pub record Bytes (u : Usi) : Type 0 where
   pub usisrh : u.usisrh < 256
 
 -- a step's answer: the module in bits 0 to 54, and the refusal's number in bits 55 to 59
-abbrev pub packed_step : Step → ℕ
+abbrev pub packed_step : Result Usi Refused → ℕ
 packed_step s = packed (module_of s) + 2 ^ 55 * refusal s
 
--- a write's answer: the same, and the flags that it cleared in bits 60 to 63 (02: Ask 12)
-abbrev pub packed_written : Written → ℕ
-packed_written w = packed w.usi + 2 ^ 55 * w.refusal + 2 ^ 60 * w.cleared
+-- a write's answer: the same, and the flags that it cleared in bits 60 to 63, of a refused one none (02: Ask 12)
+abbrev pub packed_written : Result Written Refused → ℕ
+packed_written (Ok w) = packed w.usi + 2 ^ 60 * w.cleared
+packed_written (Err r) = packed r.usi + 2 ^ 55 * r.number
 
 -- a read's answer: the value, and the refusal's number above 16 bits
-abbrev pub packed_read : Read → ℕ
+abbrev pub packed_read : Result ℕ Refusal → ℕ
 packed_read r = value_of r + 65536 * read_refusal r
 
 -- the lines: 1 where SCL is pulled low, and 2 where SDA is

@@ -1,7 +1,7 @@
 // The libraries for callers in C or Rust: numbers and slices only.
 #![tactic(auto)]
 
-ghost use Rattle.std.specs.Prelude.{◌≡◌, ◌+◌, ◌*◌, ◌^◌, ◌<◌};
+ghost use Rattle.std.specs.Prelude.{◌≡◌, ◌^◌, ◌<◌, MatchResult};
 ghost use mir.Val.{bool_byte};
 ghost use Rattle.usi.specs.Module.{power_up};
 ghost use Rattle.usi.specs.Step.{read_byte, read_word, written, written_word, sample as sample_rule, tick as tick_rule};
@@ -16,7 +16,8 @@ mod night_calls; // night_calls.rt: the night
 mod order_calls; // order_calls.rt: the least message
 mod trace_calls; // trace_calls.rt: decode and encode
 
-use usi::{Read, Step, Usi, Written};
+use laws::Refusal;
+use usi::{Refused, Usi, Written};
 use usi_spi::Driven;
 
 // The module that a number stands for.
@@ -76,27 +77,28 @@ pub(crate) fn packed(u: Usi) -> u64
     registers(u) + 281474976710656 * hidden(u)
 }
 
-fn answer(s: Step) -> u64
+fn answer(s: Result<Usi, Refused>) -> u64
     ensures { result ≡ packed_step s }
 {
-    packed(s.module()) + 36028797018963968 * (s.refusal() as u64)
+    packed(usi::module(s)) + 36028797018963968 * (usi::refusal(s) as u64)
 }
 
-fn write_answer(w: Written) -> u64
-    requires { (w.refusal < 32) × (w.cleared < 16) }
+fn write_answer(w: Result<Written, Refused>) -> u64
+    requires { MatchResult w (λ written. written.cleared < 16) (λ refused. refused.number < 32) }
     ensures { result ≡ packed_written w }
 {
-    packed(w.usi)
-        + 36028797018963968 * (w.refusal as u64)
-        + 1152921504606846976 * (w.cleared as u64)
+    match w {
+        Ok(written) => packed(written.usi) + 1152921504606846976 * (written.cleared as u64),
+        Err(refused) => packed(refused.usi) + 36028797018963968 * (refused.number as u64),
+    }
 }
 
-fn read_answer(r: Read) -> u32
+fn read_answer(r: Result<u16, Refusal>) -> u32
     ensures { result ≡ packed_read r }
 {
     match r {
-        Read::Value(v) => v as u32,
-        Read::Refused(number) => 65536 * (number as u32),
+        Ok(v) => v as u32,
+        Err(refusal) => 65536 * (refusal.number as u32),
     }
 }
 

@@ -15,12 +15,12 @@ use Rattle.usi_registers.specs.Registers.{USIPE7, USIPE6, USIPE5, USISWRST}
 use Rattle.usi_registers.specs.Rules.{counting, output_enable, transparent}
 use Rattle.usi_spi.specs.Rules as spi
 use Rattle.usi.specs.declared.Usi.{Usi}
-use Rattle.usi.specs.declared.Step.{Step}
-use Rattle.usi.specs.declared.Step.TheVariants.{Next, Refused}
+use Rattle.usi.specs.declared.Refused.{Refused}
+use Rattle.std.specs.Prelude.{Result, Ok, Err}
 use Rattle.usi.specs.Module.{at_rest, fits, fits_spi}
 use Rattle.usi.specs.Spi as steps
-use Rattle.usi.specs.Step.{refusal, module_of, and_then, followed, kept, settled, write_byte, odd, write_word, sampled}
-use Rattle.usi.specs.Step.{sample, ticked, overruns, tick_i2c, tick}
+use Rattle.usi.specs.Step.{refused, refusal, module_of, and_then, followed, kept, settled, write_byte, odd, write_word}
+use Rattle.usi.specs.Step.{sampled, sample, ticked, overruns, tick_i2c, tick}
 use Rattle.usi.proofs.SetUp.{followed-fits, sampled-fits, ticked-fits}
 use Rattle.usi.proofs.Resting.{kept-fits}
 
@@ -85,13 +85,13 @@ settled-ready before u = either (fits u) (fits_spi u) refl refl
     either false false e f = record { out = λ fitting _ _ _ _. absurd (true≢false (sym fitting ∙ f)) }
 
 -- a step that is not refused leaves a module that is ready
-abbrev pub Leaves : Step → Type 0
+abbrev pub Leaves : Result Usi Refused → Type 0
 Leaves step = refusal step ≡ 0 → Ready (module_of step)
 
-leaves-next : (u : Usi) → Ready u → Leaves (Next u)
+leaves-next : (u : Usi) → Ready u → Leaves (Ok u)
 leaves-next u ready = λ _. ready
 
-leaves-cond : (test : Bool) (s t : Step) → Leaves s → Leaves t → Leaves (cond test s t)
+leaves-cond : (test : Bool) (s t : Result Usi Refused) → Leaves s → Leaves t → Leaves (cond test s t)
 leaves-cond true s t p q = p
 leaves-cond false s t p q = q
 
@@ -105,10 +105,10 @@ write-leaves u address value =
     (leaves-cond (eqb address USISRL) _ _ (leaves-next _ (settled-ready _ _))
     (leaves-cond (eqb address USISRH) _ _ (leaves-next _ (settled-ready _ _)) (λ z. absurd (omega (arith, z))))))))
 
-second-leaves : (first : Step) (next : Usi → Step) → ((u : Usi) → Leaves (next u)) → Leaves first
-    → Leaves (and_then first next)
-second-leaves (Next u) next leaves first = leaves u
-second-leaves (Refused number u) next leaves first = first
+second-leaves : (first : Result Usi Refused) (next : Usi → Result Usi Refused) → ((u : Usi) → Leaves (next u))
+    → Leaves first → Leaves (and_then first next)
+second-leaves (Ok u) next leaves first = leaves u
+second-leaves (Err r) next leaves first = first
 
 pub write-word-leaves : (u : Usi) (address value : ℕ) → Leaves (write_word u address value)
 unfolding write_word
@@ -118,11 +118,11 @@ write-word-leaves u address value =
     (λ v. write-leaves v (address + 1) (value / 256)) (write-leaves u address (value % 256)))
 
 -- a sample, and a tick
-chosen-leaves : (u v : Usi) (s : Step) → (fits u ≡ true → Leaves s) → Ready v
-    → Leaves (cond (fits u) s (cond (fits_spi u) (Next v) (Refused 3 u)))
+chosen-leaves : (u v : Usi) (s : Result Usi Refused) → (fits u ≡ true → Leaves s) → Ready v
+    → Leaves (cond (fits u) s (cond (fits_spi u) (Ok v) (Err (refused 3 u))))
 chosen-leaves u v s i2c ready = either (fits u) (fits_spi u) refl
   where
-    either : (one two : Bool) → fits u ≡ one → Leaves (cond one s (cond two (Next v) (Refused 3 u)))
+    either : (one two : Bool) → fits u ≡ one → Leaves (cond one s (cond two (Ok v) (Err (refused 3 u))))
     either true two e = i2c e
     either false true e = λ _. ready
     either false false e = λ z. absurd (omega (arith, z))
@@ -133,13 +133,13 @@ sample-leaves u level =
     let scl = levels.scl level in
     let sda = levels.sda level in
     leaves-cond (ltb levels.max_level level) _ _ (λ z. absurd (omega (arith, z)))
-    (chosen-leaves u (steps.sampled scl sda u) (Next (sampled scl sda u))
+    (chosen-leaves u (steps.sampled scl sda u) (Ok (sampled scl sda u))
     (λ e _. i2c-ready (sampled scl sda u) (sampled-fits scl sda u ∙ e)) (followed-ready _))
 
 pub tick-leaves : (u : Usi) → Leaves (tick u)
 unfolding tick
 tick-leaves u =
     chosen-leaves u (steps.ticked u) (tick_i2c u)
-    (λ e. leaves-cond (overruns u) (Refused 17 u) (Next (ticked u)) (λ z. absurd (omega (arith, z)))
+    (λ e. leaves-cond (overruns u) (Err (refused 17 u)) (Ok (ticked u)) (λ z. absurd (omega (arith, z)))
     (λ _. i2c-ready (ticked u) (ticked-fits u ∙ e)))
     (followed-ready _)

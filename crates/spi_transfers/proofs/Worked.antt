@@ -12,11 +12,11 @@ use Rattle.usi_spi.specs.declared.Driven.TheVariants.{Released, Low, High}
 use Rattle.usi_spi.specs.Rules as spi
 use Rattle.usi.specs.declared.Usi.{Usi}
 use Rattle.usi.specs.declared.SpiLines.{SpiLines}
-use Rattle.usi.specs.declared.Step.{Step}
-use Rattle.usi.specs.declared.Step.TheVariants.{Refused}
+use Rattle.usi.specs.declared.Refused.{Refused}
+use Rattle.std.specs.Prelude.{Result, Err}
 use Rattle.usi.specs.Module.{power_up, lines, spi_lines}
 use Rattle.usi.specs.Spi as steps
-use Rattle.usi.specs.Step.{refusal, module_of, followed, settled, write_byte, edged, sample, tick}
+use Rattle.usi.specs.Step.{refused, refusal, module_of, followed, settled, write_byte, edged, sample, tick}
 use Rattle.spi_transfers.specs.Transfer.{Act, Sample, after, sent}
 
 -- the replies as they compute: all that each is made of unfolds with it
@@ -25,12 +25,12 @@ unfolding count_flags followed steps.followed spi.register settled write_byte
 written [] u = u
 written ((address, value) ∷ others) u = written others (module_of (write_byte u address value))
 
-unfoldable pub stepped : Usi → ℕ → Step
+unfoldable pub stepped : Usi → ℕ → Result Usi Refused
 unfolding i2c.condition_flags i2c.condition_count i2c.end_flags followed edged spi.captures spi.changes spi.register
     spi.high steps.followed steps.changed steps.at_edge steps.edged sample
 stepped u level = sample u level
 
-unfoldable pub clocked : Usi → Step
+unfoldable pub clocked : Usi → Result Usi Refused
 unfolding i2c.phase_after spi.phase_after spi.register followed steps.followed tick
 clocked u = tick u
 
@@ -64,8 +64,8 @@ unfolding written clocked
 fits-spi = (refl, refl, refl, refl, refl, refl, refl)
 
 -- a sample: 4, then 3, and the module stays
-pub refuses-samples : (sample (set_up 0xc0 0x00 0x00 0x00 0 0) 4 ≡ Refused 4 (set_up 0xc0 0x00 0x00 0x00 0 0))
-    × (sample (set_up 0xc0 0x00 0x00 0x00 0 0) 3 ≡ Refused 3 (set_up 0xc0 0x00 0x00 0x00 0 0))
+pub refuses-samples : (sample (set_up 0xc0 0x00 0x00 0x00 0 0) 4 ≡ Err (refused 4 (set_up 0xc0 0x00 0x00 0x00 0 0)))
+    × (sample (set_up 0xc0 0x00 0x00 0x00 0 0) 3 ≡ Err (refused 3 (set_up 0xc0 0x00 0x00 0x00 0 0)))
     × (refusal (sample (set_up 0xe0 0x00 0x00 0x00 0 0) 3) ≡ 0)
 unfolding written stepped
 refuses-samples = (refl, refl, refl)

@@ -9,10 +9,10 @@ use Rattle.usi_registers.specs.Rules as set_up
 use Rattle.usi_i2c.specs.Rules as rules
 use Rattle.usi_i2c.specs.Rules.{condition_flags, condition_count}
 use Rattle.usi.specs.declared.Usi.{Usi}
-use Rattle.usi.specs.declared.Step.TheVariants.{Next, Refused}
+use Rattle.std.specs.Prelude.{Ok, Err}
 use Rattle.usi.specs.Module.{with_stretch, fits}
 use Rattle.usi.specs.Step.{latched, bit_taken, risen, fallen, stretched, edged, followed, recorded, ticked}
-use Rattle.usi.specs.Step.{overruns, module_of, sample, tick, sample_then}
+use Rattle.usi.specs.Step.{overruns, refused, module_of, sample, tick, sample_then}
 use Rattle.usi.specs.Cases.{stretched_by, condition_seen, rise_seen, fall_seen, finished, stepped}
 use Rattle.usi.proofs.SetUp.{edged-fits, followed-fits}
 
@@ -103,7 +103,7 @@ followed-overruns u = by-case (set_up.transparent u.usictl0)
     by-case true = refl
     by-case false = refl
 
-module-of : (late : Bool) (v w : Usi) → module_of (cond late (Refused 17 v) (Next w)) ≡ cond late v w
+module-of : (late : Bool) (v w : Usi) → module_of (cond late (Err (refused 17 v)) (Ok w)) ≡ cond late v w
 module-of true v w = refl
 module-of false v w = refl
 

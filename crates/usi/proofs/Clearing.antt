@@ -12,12 +12,13 @@ use Rattle.usi_registers.specs.Rules as set_up
 use Rattle.usi_registers.specs.Rules.{cleared}
 use Rattle.usi_spi.specs.Rules.{follows}
 use Rattle.usi.specs.declared.Usi.{Usi}
-use Rattle.usi.specs.declared.Step.{Step}
-use Rattle.usi.specs.declared.Step.TheVariants.{Next, Refused}
+use Rattle.usi.specs.declared.Refused.{Refused}
+use Rattle.std.specs.Prelude.{Result, Ok, Err, MatchResult}
 use Rattle.usi.specs.Module.{fits, fits_spi, at_rest, with_usictl0, with_usickctl, with_usisrl}
 use Rattle.usi.specs.Spi as spi
-use Rattle.usi.specs.Step.{refusal, module_of, and_then, latched, followed, kept, settled, write_byte, odd, write_word}
-use Rattle.usi.specs.Step.{answered, written, written_word, overruns, ticked, tick}
+use Rattle.usi.specs.declared.Written.{Written}
+use Rattle.usi.specs.Step.{refused, refusal, module_of, and_then, latched, followed, kept, settled, write_byte, odd}
+use Rattle.usi.specs.Step.{write_word, answered, cleared_by, written, written_word, overruns, ticked, tick}
 
 -- what stays is not cleared
 pub same-clears-none : (flags : ℕ) → flags < 256 → cleared flags flags ≡ 0
@@ -25,9 +26,8 @@ same-clears-none flags small =
     eqb-true (cleared flags flags) 0 (all-below (λ (x : ℕ). eqb (cleared x x) 0) 256 refl flags small)
 
 -- a refused write clears nothing
-pub refused-clears-none : (u : Usi) (number : ℕ) → u.usictl1 < 256
-    → (answered u.usictl1 (Refused number u)).cleared ≡ 0
-refused-clears-none u number small = same-clears-none u.usictl1 small
+pub refused-clears-none : (u : Usi) (number : ℕ) → cleared_by (answered u.usictl1 (Err (refused number u))) ≡ 0
+refused-clears-none u number = refl
 
 -- the hidden state settles, USICTL1 stays
 chosen-keeps : (test : Bool) (u v w : Usi) → v.usictl1 ≡ u.usictl1 → w.usictl1 ≡ u.usictl1
@@ -57,10 +57,11 @@ settled-keeps before u =
     (followed-spi-keeps (kept (fits_spi before) u) ∙ kept-keeps (fits_spi before) u) refl)
 
 -- a tick sets and clears no flag
-abbrev Keeps : Usi → Step → Type 0
+abbrev Keeps : Usi → Result Usi Refused → Type 0
 Keeps u step = (module_of step).usictl1 ≡ u.usictl1
 
-either-keeps : (test : Bool) (u : Usi) (one two : Step) → Keeps u one → Keeps u two → Keeps u (cond test one two)
+either-keeps : (test : Bool) (u : Usi) (one two : Result Usi Refused) → Keeps u one → Keeps u two
+    → Keeps u (cond test one two)
 either-keeps true u one two first second = first
 either-keeps false u one two first second = second
 
@@ -68,8 +69,8 @@ pub tick-flags : (u : Usi) → Keeps u (tick u)
 unfolding tick
 tick-flags u =
     either-keeps (fits u) u _ _
-    (either-keeps (overruns u) u (Refused 17 u) (Next (ticked u)) refl (followed-keeps _))
-    (either-keeps (fits_spi u) u (Next (spi.ticked u)) (Refused 3 u) (followed-spi-keeps _) refl)
+    (either-keeps (overruns u) u (Err (refused 17 u)) (Ok (ticked u)) refl (followed-keeps _))
+    (either-keeps (fits_spi u) u (Ok (spi.ticked u)) (Err (refused 3 u)) (followed-spi-keeps _) refl)
 
 -- a low byte that leaves USICTL1 as it was adds nothing
 joined : (first middle last : ℕ) → first < 256 → middle ≡ first
@@ -80,14 +81,15 @@ joined first middle last small same =
 
 -- the flags that a byte of a word clears, and those that the word does
 abbrev low_cleared : Usi → ℕ → ℕ → ℕ
-low_cleared u address value = (written u address (value % 256)).cleared
+low_cleared u address value = cleared_by (written u address (value % 256))
 
 abbrev high_cleared : Usi → ℕ → ℕ → ℕ
-high_cleared u address value = (written (written u address (value % 256)).usi (address + 1) (value / 256)).cleared
+high_cleared u address value =
+    cleared_by (written (module_of (write_byte u address (value % 256))) (address + 1) (value / 256))
 
 abbrev Joins : Usi → ℕ → ℕ → Type 0
 Joins u address value =
-    (written_word u address value).cleared ≡ bit_or (low_cleared u address value) (high_cleared u address value)
+    cleared_by (written_word u address value) ≡ bit_or (low_cleared u address value) (high_cleared u address value)
 
 -- each of the three words clears what its two bytes clear, joined
 pub word-joins : (u : Usi) (value : ℕ) → u.usictl1 < 256
@@ -104,10 +106,13 @@ cleared-small : (before after : ℕ) → cleared before after < 16
 cleared-small before after =
     omega (arith, and_le_l (bit_and before USIFLAGS) (255 - after), and_le_r before USIFLAGS)
 
-abbrev Low : Step → Type 0
+abbrev pub Small : Result Written Refused → Type 0
+Small answer = MatchResult answer (λ w. w.cleared < 16) (λ r. r.number < 32)
+
+abbrev Low : Result Usi Refused → Type 0
 Low step = refusal step < 32
 
-either-low : (test : Bool) (one two : Step) → Low one → Low two → Low (cond test one two)
+either-low : (test : Bool) (one two : Result Usi Refused) → Low one → Low two → Low (cond test one two)
 either-low true one two first second = first
 either-low false one two first second = second
 
@@ -121,24 +126,26 @@ byte_low u address value =
     (either-low (eqb address USISRL) _ _ (omega arith)
     (either-low (eqb address USISRH) _ _ (omega arith) (omega arith))))))
 
-then-low : (step : Step) (next : Usi → Step) → Low step → ((u : Usi) → Low (next u)) → Low (and_then step next)
-then-low (Next u) next first rest = rest u
-then-low (Refused number u) next first rest = first
+then-low : (step : Result Usi Refused) (next : Usi → Result Usi Refused) → Low step → ((u : Usi) → Low (next u))
+    → Low (and_then step next)
+then-low (Ok u) next first rest = rest u
+then-low (Err r) next first rest = first
 
-pub written_small : (u : Usi) (address value : ℕ)
-    → ((written u address value).refusal < 32) × ((written u address value).cleared < 16)
-written_small u address value =
-    (byte_low u address value, cleared-small u.usictl1 (module_of (write_byte u address value)).usictl1)
+-- of what a step answers, a write's answer
+answered-small : (before : ℕ) (step : Result Usi Refused) → Low step → Small (answered before step)
+answered-small before (Ok u) low = cleared-small before u.usictl1
+answered-small before (Err r) low = low
+
+pub written_small : (u : Usi) (address value : ℕ) → Small (written u address value)
+written_small u address value = answered-small u.usictl1 (write_byte u address value) (byte_low u address value)
 
 word_low : (u : Usi) (address value : ℕ) → Low (write_word u address value)
 unfolding write_word
 word_low u address value =
-    either-low (odd address) (Refused 2 u)
+    either-low (odd address) (Err (refused 2 u))
     (and_then (write_byte u address (value % 256)) (λ v. write_byte v (address + 1) (value / 256))) (omega arith)
     (then-low (write_byte u address (value % 256)) (λ v. write_byte v (address + 1) (value / 256))
     (byte_low u address (value % 256)) (λ v. byte_low v (address + 1) (value / 256)))
 
-pub word_small : (u : Usi) (address value : ℕ)
-    → ((written_word u address value).refusal < 32) × ((written_word u address value).cleared < 16)
-word_small u address value =
-    (word_low u address value, cleared-small u.usictl1 (module_of (write_word u address value)).usictl1)
+pub word_small : (u : Usi) (address value : ℕ) → Small (written_word u address value)
+word_small u address value = answered-small u.usictl1 (write_word u address value) (word_low u address value)

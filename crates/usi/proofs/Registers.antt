@@ -6,9 +6,9 @@ use lib.Dec.{eqb}
 use borrow.Author.Tests.{ne_eqb}
 use Rattle.usi_registers.specs.Registers.{USICTL0, USICTL1, USICKCTL, USICNT, USISRL, USISRH}
 use Rattle.usi.specs.declared.Usi.{Usi}
-use Rattle.usi.specs.declared.Read.TheVariants.{Refused}
-use Rattle.usi.specs.declared.Step.TheVariants.{Refused as NoStep}
-use Rattle.usi.specs.Step.{read_byte, write_byte}
+use Rattle.std.specs.Prelude.{Err}
+use Rattle.laws.specs.Refusals.{refused_at}
+use Rattle.usi.specs.Step.{refused, read_byte, write_byte}
 
 module _ (address : ℕ) (even : address % 2 ≡ 1 → ⊥) (first : address ≡ USICTL0 → ⊥) (second : address ≡ USICKCTL → ⊥)
     (third : address ≡ USISRL → ⊥) where
@@ -31,10 +31,10 @@ module _ (address : ℕ) (even : address % 2 ≡ 1 → ⊥) (first : address ≡
         ne_eqb address USISRH (not-odd USISRH refl),
       )
 
-  pub reads_nothing : (u : Usi) → read_byte u address ≡ Refused 1
+  pub reads_nothing : (u : Usi) → read_byte u address ≡ Err (refused_at 1 0)
   unfolding read_byte
-  reads_nothing u = outside _ _ _ _ _ _ (Refused 1)
+  reads_nothing u = outside _ _ _ _ _ _ (Err (refused_at 1 0))
 
-  pub writes_nothing : (u : Usi) (value : ℕ) → write_byte u address value ≡ NoStep 1 u
+  pub writes_nothing : (u : Usi) (value : ℕ) → write_byte u address value ≡ Err (refused 1 u)
   unfolding write_byte
-  writes_nothing u value = outside _ _ _ _ _ _ (NoStep 1 u)
+  writes_nothing u value = outside _ _ _ _ _ _ (Err (refused 1 u))

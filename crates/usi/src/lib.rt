@@ -1,9 +1,9 @@
 // The USI module in I2C mode and in SPI: six register bytes and a hidden state, stepped by writes, samples and ticks.
 #![tactic(auto)]
 
-ghost use Rattle.std.specs.Prelude.{◌≡◌};
+ghost use Rattle.std.specs.Prelude.{◌≡◌, Err};
 ghost use Rattle.usi.specs.Module.{power_up, fits as fits_rule, fits_spi};
-ghost use Rattle.usi.specs.Step.{refusal as refusal_of, module_of};
+ghost use Rattle.usi.specs.Step.{refused, refusal as refusal_of, module_of};
 
 mod access; // access.rt: byte and word access to the registers
 mod edges; // edges.rt: what the lines did since the last sample, in I2C
@@ -36,27 +36,19 @@ pub struct Usi {
     pub stretch: bool,
 }
 
-// What a step answers: the next module, or a refusal's number with the module as it was.
+// A step or a write that is refused: the refusal's number, and the module as it was.
 #[derive(Clone, Copy)]
-pub enum Step {
-    Next(Usi),
-    Refused(u8, Usi),
+pub struct Refused {
+    pub number: u8,
+    pub usi: Usi,
 }
 
-// What a write answers: the module, as it was where the write is refused; the refusal's number, 0 where it is not;
-// and the flags of USICTL1 that were 1 before it and are 0 after it (02: Ask 12).
+// What a write answers that is not refused: the next module, and the flags of USICTL1 that were 1 before it and are 0
+// after it (02: Ask 12).
 #[derive(Clone, Copy)]
 pub struct Written {
     pub usi: Usi,
-    pub refusal: u8,
     pub cleared: u8,
-}
-
-// What a read answers: the byte or word, or a refusal's number.
-#[derive(Clone, Copy)]
-pub enum Read {
-    Value(u16),
-    Refused(u8),
 }
 
 // Which lines a module pulls low.
@@ -73,25 +65,23 @@ pub struct SpiLines {
     pub sdo: Driven,
 }
 
-impl Step {
-    // The refusal's number; 0: not refused.
-    pub fn refusal(self) -> u8
-        ensures { result ≡ refusal_of self }
-    {
-        match self {
-            Step::Next(_) => 0,
-            Step::Refused(number, _) => number,
-        }
+// The refusal's number; 0: not refused.
+pub fn refusal(step: Result<Usi, Refused>) -> u8
+    ensures { result ≡ refusal_of step }
+{
+    match step {
+        Ok(_) => 0,
+        Err(refused) => refused.number,
     }
+}
 
-    // The module that the step hands back.
-    pub fn module(self) -> Usi
-        ensures { result ≡ module_of self }
-    {
-        match self {
-            Step::Next(u) => u,
-            Step::Refused(_, u) => u,
-        }
+// The module that a step hands back.
+pub fn module(step: Result<Usi, Refused>) -> Usi
+    ensures { result ≡ module_of step }
+{
+    match step {
+        Ok(u) => u,
+        Err(refused) => refused.usi,
     }
 }
 
@@ -135,6 +125,13 @@ impl Usi {
             sda: false,
             stretch: false,
         }
+    }
+
+    // A step that is refused, with the module as it was.
+    pub(crate) fn refused(self, number: u8) -> Result<Usi, Refused>
+        ensures { result ≡ Err (refused number self) }
+    {
+        Err(Refused { number, usi: self })
     }
 
     // The set-up fits I2C mode.

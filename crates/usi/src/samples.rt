@@ -3,7 +3,7 @@ ghost use Rattle.std.specs.Prelude.{◌≡◌};
 ghost use Rattle.usi.specs.Cases.{finished as finished_rule, stepped as stepped_rule};
 ghost use Rattle.usi.specs.Step.{module_of, sampled as sampled_rule, sample as sample_rule, sample_then};
 
-use crate::{Step, Usi, spi};
+use crate::{Refused, Usi, spi};
 
 impl Usi {
     fn sampled(self, scl: bool, sda: bool) -> Usi
@@ -13,21 +13,21 @@ impl Usi {
     }
 
     // A sample of both lines: SCL + 2 SDA, in SPI SCLK + 2 SDI.
-    pub fn sample(self, level: u8) -> Step
+    pub fn sample(self, level: u8) -> Result<Usi, Refused>
         ensures { result ≡ sample_rule self level }
     {
         if level > levels::MAX_LEVEL {
-            return Step::Refused(4, self);
+            return self.refused(4);
         }
         let scl = levels::scl(level);
         let sda = levels::sda(level);
         if self.fits() {
-            return Step::Next(self.sampled(scl, sda));
+            return Ok(self.sampled(scl, sda));
         }
         if self.fits_spi() {
-            return Step::Next(spi::sampled(self, scl, sda));
+            return Ok(spi::sampled(self, scl, sda));
         }
-        Step::Refused(3, self)
+        self.refused(3)
     }
 
     // The module after a sample; a refused one leaves it as it was.

@@ -3,7 +3,7 @@ ghost use Rattle.std.specs.Prelude.{◌≡◌};
 ghost use Rattle.usi.specs.Step.{module_of, overruns as overruns_rule, ticked as ticked_rule};
 ghost use Rattle.usi.specs.Step.{tick_i2c, tick as tick_rule};
 
-use crate::{Step, Usi, spi};
+use crate::{Refused, Usi, spi};
 
 impl Usi {
     pub(crate) fn ticked(mut self) -> Usi
@@ -27,26 +27,26 @@ impl Usi {
     }
 
     // A tick of the module's clock in I2C.
-    fn tick_i2c(self) -> Step
+    fn tick_i2c(self) -> Result<Usi, Refused>
         ensures { result ≡ tick_i2c self }
     {
         if self.overruns() {
-            return Step::Refused(17, self);
+            return self.refused(17);
         }
-        Step::Next(self.ticked())
+        Ok(self.ticked())
     }
 
     // A tick of the module's clock.
-    pub fn tick(self) -> Step
+    pub fn tick(self) -> Result<Usi, Refused>
         ensures { result ≡ tick_rule self }
     {
         if self.fits() {
             return self.tick_i2c();
         }
         if self.fits_spi() {
-            return Step::Next(spi::ticked(self));
+            return Ok(spi::ticked(self));
         }
-        Step::Refused(3, self)
+        self.refused(3)
     }
 
     // The module after a tick; a refused one leaves it as it was.

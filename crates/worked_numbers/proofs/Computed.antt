@@ -6,8 +6,7 @@ use Rattle.levels.specs.Levels.{starts, stops}
 use Rattle.usi_registers.specs.Rules.{count_flags}
 use Rattle.usi_i2c.specs.Rules.{condition_flags, condition_count, loss_control, loss_flags, end_flags, phase_after}
 use Rattle.usi.specs.declared.Usi.{Usi}
-use Rattle.usi.specs.declared.Step.{Step}
-use Rattle.usi.specs.declared.Read.{Read}
+use Rattle.usi.specs.declared.Refused.{Refused}
 use Rattle.usi.specs.Step as step
 use Rattle.usi.specs.Step.{followed, settled, write_byte, read_byte, edged, fallen, risen}
 use Rattle.encode.specs.Complete.{advance}
@@ -31,27 +30,27 @@ use Rattle.arbitration_checks.specs.declared.order.Least.{Least}
 use Rattle.arbitration_checks.specs.Order.{least_of}
 
 -- a register read and written, a word read and written, a sample, a tick
-unfoldable pub read : Usi → ℕ → Read
+unfoldable pub read : Usi → ℕ → Result ℕ Refusal
 unfolding read_byte
 read u address = read_byte u address
 
-unfoldable pub write : Usi → ℕ → ℕ → Step
+unfoldable pub write : Usi → ℕ → ℕ → Result Usi Refused
 unfolding count_flags followed settled write_byte
 write u address value = write_byte u address value
 
-unfoldable pub read_word : Usi → ℕ → Read
+unfoldable pub read_word : Usi → ℕ → Result ℕ Refusal
 unfolding read_byte step.read_word
 read_word u address = step.read_word u address
 
-unfoldable pub write_word : Usi → ℕ → ℕ → Step
+unfoldable pub write_word : Usi → ℕ → ℕ → Result Usi Refused
 unfolding count_flags followed settled write_byte step.write_word
 write_word u address value = step.write_word u address value
 
-unfoldable pub sample : Usi → ℕ → Step
+unfoldable pub sample : Usi → ℕ → Result Usi Refused
 unfolding condition_flags condition_count loss_control loss_flags end_flags followed edged fallen risen step.sample
 sample u level = step.sample u level
 
-unfoldable pub tick : Usi → Step
+unfoldable pub tick : Usi → Result Usi Refused
 unfolding phase_after followed step.tick
 tick u = step.tick u
 

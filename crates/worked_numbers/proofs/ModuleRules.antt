@@ -3,14 +3,14 @@ use mathlib.Core.Path.{◌≡◌, refl}
 use mathlib.Core.Bool.{Bool, true, false}
 use mathlib.Core.List.{List, [], ◌∷◌, map}
 use Prim.Native.Nat.{ℕ}
+use Rattle.std.specs.Prelude.{Result, Ok, Err}
+use Rattle.laws.specs.Refusals.{refused_at}
 use Rattle.usi_registers.specs.Registers as table
 use Rattle.usi_registers.specs.Rules.{divider, clock_source, bit_count}
 use Rattle.usi.specs.declared.Usi.{Usi}
-use Rattle.usi.specs.declared.Step.{Step}
-use Rattle.usi.specs.declared.Step.TheVariants.{Refused}
-use Rattle.usi.specs.declared.Read.TheVariants.{Value, Refused as NoValue}
+use Rattle.usi.specs.declared.Refused.{Refused}
 use Rattle.usi.specs.Module.{power_up, pulls_scl, pulls_sda}
-use Rattle.usi.specs.Step.{refusal, module_of, read_byte, write_byte, read_word, write_word, sample, tick}
+use Rattle.usi.specs.Step.{refused, refusal, module_of, read_byte, write_byte, read_word, write_word, sample, tick}
 use Rattle.worked_numbers.proofs.Computed as computed
 
 -- ---- the table
@@ -83,27 +83,29 @@ powers-up low high = refl
 -- ---- access
 -- each register reads back what is written; 1 outside 078h to 07Dh, and the module stays
 pub reads-back : (low high : ℕ) → map (read_byte (power_up low high)) addresses
-    ≡ Value 0x01 ∷ Value 0x01 ∷ Value 0x00 ∷ Value 0x00 ∷ Value low ∷ Value high ∷ []
+    ≡ Ok 0x01 ∷ Ok 0x01 ∷ Ok 0x00 ∷ Ok 0x00 ∷ Ok low ∷ Ok high ∷ []
 unfolding computed.read
 reads-back low high = refl
 
-pub writes-shift : (x : ℕ) → read_byte (module_of (write_byte (power_up 0 0) 0x07d x)) 0x07d ≡ Value x
+pub writes-shift : (x : ℕ) → read_byte (module_of (write_byte (power_up 0 0) 0x07d x)) 0x07d ≡ Ok x
 unfolding computed.read computed.write
 writes-shift x = refl
 
-pub refuses-1 : (u : Usi) (x : ℕ) → (read_byte u 0x077 ≡ NoValue 1) × (read_byte u 0x07e ≡ NoValue 1)
-    × (write_byte u 0x077 x ≡ Refused 1 u) × (write_byte u 0x07e x ≡ Refused 1 u)
+pub refuses-1 : (u : Usi) (x : ℕ)
+    → (read_byte u 0x077 ≡ Err (refused_at 1 0)) × (read_byte u 0x07e ≡ Err (refused_at 1 0))
+    × (write_byte u 0x077 x ≡ Err (refused 1 u)) × (write_byte u 0x07e x ≡ Err (refused 1 u))
 unfolding computed.read computed.write
 refuses-1 u x = (refl, refl, refl, refl)
 
 -- a word: 2 at an odd address, then 1; low byte at the address, high byte after it, written in this order
-pub reads-words : read_word (power_up 0x34 0x12) 0x07c ≡ Value 0x1234
+pub reads-words : read_word (power_up 0x34 0x12) 0x07c ≡ Ok 0x1234
 unfolding computed.read_word
 reads-words = refl
 
-pub refuses-words : (u : Usi) (x : ℕ) → (read_word u 0x077 ≡ NoValue 2) × (read_word u 0x079 ≡ NoValue 2)
-    × (read_word u 0x076 ≡ NoValue 1) × (read_word u 0x07e ≡ NoValue 1) × (write_word u 0x077 x ≡ Refused 2 u)
-    × (write_word u 0x07e x ≡ Refused 1 u)
+pub refuses-words : (u : Usi) (x : ℕ)
+    → (read_word u 0x077 ≡ Err (refused_at 2 0)) × (read_word u 0x079 ≡ Err (refused_at 2 0))
+    × (read_word u 0x076 ≡ Err (refused_at 1 0)) × (read_word u 0x07e ≡ Err (refused_at 1 0))
+    × (write_word u 0x077 x ≡ Err (refused 2 u)) × (write_word u 0x07e x ≡ Err (refused 1 u))
 unfolding computed.read_word computed.write_word
 refuses-words u x = (refl, refl, refl, refl, refl, refl)
 
@@ -205,8 +207,9 @@ unfolding computed.write
 count-sets = (refl, refl, refl)
 
 -- ---- a sample: refusals 4, then 3; the module stays
-pub refuses-levels : (u : Usi) → (sample u 4 ≡ Refused 4 u) × (sample (power_up 0 0) 4 ≡ Refused 4 (power_up 0 0))
-    × (sample (power_up 0 0) 3 ≡ Refused 3 (power_up 0 0)) × (tick (power_up 0 0) ≡ Refused 3 (power_up 0 0))
+pub refuses-levels : (u : Usi)
+    → (sample u 4 ≡ Err (refused 4 u)) × (sample (power_up 0 0) 4 ≡ Err (refused 4 (power_up 0 0)))
+    × (sample (power_up 0 0) 3 ≡ Err (refused 3 (power_up 0 0))) × (tick (power_up 0 0) ≡ Err (refused 3 (power_up 0 0)))
 unfolding computed.sample computed.tick
 refuses-levels u = (refl, refl, refl, refl)
 
@@ -302,7 +305,7 @@ unfolding computed.sample
 stretches = (refl, refl, refl, refl)
 
 -- ---- GE=1: after each step the latch is bit 7 of USISRL and the enable is OE
-abbrev follows : Step → Bool × Bool
+abbrev follows : Result Usi Refused → Bool × Bool
 follows step = ((module_of step).latch, (module_of step).enable)
 
 pub transparent :

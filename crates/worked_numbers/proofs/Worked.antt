@@ -7,7 +7,6 @@ use lib.ListN.{replicate}
 use Rattle.laws.specs.Refusals.{none, refused_at}
 use Rattle.usi_registers.specs.Registers.{USICTL0, USICTL1, USICKCTL, USICNT, USISRL}
 use Rattle.usi.specs.declared.Usi.{Usi}
-use Rattle.usi.specs.declared.Read.TheVariants.{Value}
 use Rattle.usi.specs.Module.{power_up, pulls_scl, pulls_sda}
 use Rattle.usi.specs.Step.{module_of}
 use Rattle.usi.specs.Step as step
@@ -33,35 +32,36 @@ abbrev fitted : ℕ → ℕ → ℕ → Usi
 fitted usictl0 low high = written USICTL0 usictl0 (written USICTL1 0x41 (written USICKCTL 0x22 (power_up low high)))
 
 -- P1: power-up, write 08h to 07Bh: USICTL1 reads 00h
-pub P1 : (low high : ℕ) → step.read_byte (written 0x07b 0x08 (power_up low high)) 0x079 ≡ Value 0x00
+pub P1 : (low high : ℕ) → step.read_byte (written 0x07b 0x08 (power_up low high)) 0x079 ≡ Ok 0x00
 unfolding read write
 P1 low high = refl
 
 -- P2: 28h instead: 01h stays
-pub P2 : (low high : ℕ) → step.read_byte (written 0x07b 0x28 (power_up low high)) 0x079 ≡ Value 0x01
+pub P2 : (low high : ℕ) → step.read_byte (written 0x07b 0x28 (power_up low high)) 0x079 ≡ Ok 0x01
 unfolding read write
 P2 low high = refl
 
 -- P3: then 00h: 01h
 pub P3 : (low high : ℕ) → step.read_byte (written 0x07b 0x00 (written 0x07b 0x28 (power_up low high))) 0x079
-    ≡ Value 0x01
+    ≡ Ok 0x01
 unfolding read write
 P3 low high = refl
 
 -- what these writes clear (02: Ask 12): P1 clears IFG, P2 and P3 nothing; a refused write clears nothing
 pub writes-clear : (low high : ℕ)
-    → ((step.written (power_up low high) 0x07b 0x08).cleared ≡ 0x01)
-    × ((step.written (power_up low high) 0x07b 0x28).cleared ≡ 0)
-    × ((step.written (power_up low high) 0x07b 0x00).cleared ≡ 0)
-    × ((step.written (power_up low high) 0x079 0x40).cleared ≡ 0x01)
-    × ((step.written (power_up low high) 0x07e 0x00).cleared ≡ 0)
-    × ((step.written_word (power_up low high) 0x078 0x4001).cleared ≡ 0x01)
-    × ((step.written_word (power_up low high) 0x079 0x4001).cleared ≡ 0)
+    → (step.cleared_by (step.written (power_up low high) 0x07b 0x08) ≡ 0x01)
+    × (step.cleared_by (step.written (power_up low high) 0x07b 0x28) ≡ 0)
+    × (step.cleared_by (step.written (power_up low high) 0x07b 0x00) ≡ 0)
+    × (step.cleared_by (step.written (power_up low high) 0x079 0x40) ≡ 0x01)
+    × (step.cleared_by (step.written (power_up low high) 0x07e 0x00) ≡ 0)
+    × (step.cleared_by (step.written_word (power_up low high) 0x078 0x4001) ≡ 0x01)
+    × (step.cleared_by (step.written_word (power_up low high) 0x079 0x4001) ≡ 0)
 unfolding write write_word
 writes-clear low high = (refl, refl, refl, refl, refl, refl, refl)
 
 -- AL, STP, STTIFG and IFG in their places, and no other bit
-pub four-flags : (low high : ℕ) → (step.written (written 0x079 0xff (power_up low high)) 0x079 0x00).cleared ≡ 0x0f
+pub four-flags : (low high : ℕ)
+    → step.cleared_by (step.written (written 0x079 0xff (power_up low high)) 0x079 0x00) ≡ 0x0f
 unfolding write
 four-flags low high = refl
 

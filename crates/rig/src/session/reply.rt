@@ -3,10 +3,11 @@ use super::command;
 use super::command::Command;
 use crate::lines::{end, say, say_numbers};
 use crate::trouble::Fault;
+use laws::Refusal;
 use rig_lines::console::PAGE;
 use rig_lines::refusals::put_refusal;
 use text::{put_byte, put_bytes};
-use usi::{Read, Step, Usi, Written};
+use usi::{Refused, Usi, Written};
 use usi_spi::Driven;
 use usi_text::put_module;
 
@@ -43,24 +44,24 @@ fn said(device: Usi, answer: Answer) -> Reply {
 }
 
 // What was read, or the number of the refusal.
-fn value(read: Read) -> Result<u16, u8> {
+fn value(read: Result<u16, Refusal>) -> Result<u16, u8> {
     match read {
-        Read::Value(value) => Ok(value),
-        Read::Refused(number) => Err(number),
+        Ok(value) => Ok(value),
+        Err(refusal) => Err(refusal.number),
     }
 }
 
-fn written(written: Written) -> Result<Reply, u8> {
-    if written.refusal != 0 {
-        return Err(written.refusal);
+fn written(written: Result<Written, Refused>) -> Result<Reply, u8> {
+    match written {
+        Ok(written) => Ok(said(written.usi, Answer::Cleared(written.cleared))),
+        Err(refused) => Err(refused.number),
     }
-    Ok(said(written.usi, Answer::Cleared(written.cleared)))
 }
 
-fn stepped(step: Step) -> Result<Reply, u8> {
+fn stepped(step: Result<Usi, Refused>) -> Result<Reply, u8> {
     match step {
-        Step::Next(device) => Ok(said(device, Answer::Module)),
-        Step::Refused(number, _) => Err(number),
+        Ok(device) => Ok(said(device, Answer::Module)),
+        Err(refused) => Err(refused.number),
     }
 }
 

@@ -31,3 +31,4 @@ returns-in_default c =
           c.in_default.in_default-own.rest.1
           c.args.self,
     )
+    c.refused-in_default.ensures

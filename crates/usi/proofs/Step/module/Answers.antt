@@ -1,8 +1,0 @@
--- Each constructor hands its module back.
-use Rattle.usi.proofs.Step.module.Goals as goal
-
-pub returns-in-Next : goal.returns-in-Next
-returns-in-Next c = rw c.in-Next.is
-
-pub returns-in-Refused : goal.returns-in-Refused
-returns-in-Refused c = rw c.in-Refused.is

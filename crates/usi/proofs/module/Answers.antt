@@ -1,0 +1,8 @@
+-- Each answer hands its module back.
+use Rattle.usi.proofs.module.Goals as goal
+
+pub returns-in-Ok : goal.returns-in-Ok
+returns-in-Ok c = rw c.in-Ok.is
+
+pub returns-in-Err : goal.returns-in-Err
+returns-in-Err c = rw c.in-Err.is
