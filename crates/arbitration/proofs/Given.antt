@@ -11,7 +11,7 @@ use Rattle.laws.specs.declared.Refusal.{Refusal}
 use Rattle.laws.specs.Everyone.{nobody, also}
 use Rattle.laws.specs.Refusals.{check, given, none, or_else}
 use Rattle.laws.proofs.Bools.{neither}
-use Rattle.laws.proofs.Refusals.{Passed, passed, in_parts, unrefused, passed_ok, ok_same, err_given}
+use Rattle.laws.proofs.Refusals.{Passed, passed, in_parts, unrefused, passed_ok, ok_same, err_given, err-numbered}
 use Rattle.arbitration_rules.specs.Limits.{max_masters, max_length}
 use Rattle.arbitration_rules.specs.Outcome.{least, carried_count, carried_of, level_count}
 use Rattle.arbitration_rules.specs.Reply.{Request, lengths_of, messages_of, shape_checks}
@@ -48,9 +48,13 @@ module _ (request : Request) where
       let none-applies = unrefused (request_checks request) (passed_ok (request_checks request) whole run is) in
       (ap (λ (r : Refusal). r.number) none-applies, ok_same (request_checks request) whole run is)
 
-  pub settled-some : (r : Refusal) → settled request ≡ Err r → found ≡ r
+  pub settled-some : (r : Refusal) → settled request ≡ Err r → (found ≡ r) × (r.number ≡ 0 → ⊥)
   unfolding settled
-  settled-some r is = err_given (request_checks request) (carrying (least messages) acknowledges) r is
+  settled-some r is =
+      let whole = carrying (least messages) acknowledges in (
+        err_given (request_checks request) whole r is,
+        err-numbered (request_checks request) whole r (request-numbered request) is,
+      )
 
   -- past 12 to 16
   module _ (small : Bytes request.bytes) (unrefused : found.number ≡ 0) where
