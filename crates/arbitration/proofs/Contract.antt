@@ -1,23 +1,21 @@
 -- What an arbitration promises: refused, or run to its end.
 use Prim.Native.Nat.{ℕ, ◌-◌, ◌≤◌}
 use mathlib.Core.Path.{◌≡◌, refl, sym, ap, ◌∙◌}
-use mathlib.Core.Bool.{Bool, true, false, false≢true}
 use mathlib.Core.List.{List, [], ◌∷◌, ◌++◌, map, zip_with}
 use native.Mathlib.Omega.{arith}
-use lib.Dec.{eqb}
-use borrow.Author.Tests.{eq-eqb, ne_eqb, eqb-true, eqb-false}
+use borrow.Author.Tests.{ne_eqb}
 use lib.ListN.{length, take, drop, replicate, length-map}
 use lib.Seq.{take-append_seam}
 use Rattle.laws.specs.declared.Refusal.{Refusal}
 use Rattle.laws.specs.Buffer.{filled}
-use Rattle.laws.specs.Refusals.{none, given}
+use Rattle.laws.specs.Refusals.{none}
 use Rattle.arbitration_rules.specs.declared.Arbitrated.{Arbitrated}
 use Rattle.arbitration_rules.specs.declared.Seat.{Seat}
 use Rattle.arbitration_rules.specs.Limits.{max_masters}
 use Rattle.arbitration_rules.specs.Masters.{Master}
 use Rattle.arbitration_rules.specs.Outcome.{Fate, least, level_count}
-use Rattle.arbitration_rules.specs.Reply.{Request, asked, sent_of, lengths_of, messages_of, refusal, absent, refused, padded}
-use Rattle.arbitration_rules.specs.Reply.{shape_checks, seat_of, run_of, answered, arbitrated, table_after, carried_after, levels_after}
+use Rattle.arbitration_rules.specs.Reply.{Request, sent_of, lengths_of, messages_of, refusal, absent, refused, padded}
+use Rattle.arbitration_rules.specs.Reply.{seat_of, run_of, answered, arbitrated, table_after, carried_after, levels_after}
 use Rattle.arbitration_rules.specs.Run.{Bus, fate_of, observed}
 use Rattle.arbitration_rules.specs.Cleared.{cleared_by}
 use Rattle.arbitration_rules.proofs.Cut.{lengths-count, messages-count}
@@ -25,16 +23,15 @@ use Rattle.arbitration_rules.proofs.Pieces.{Bytes}
 use Rattle.arbitration_rules.proofs.Accepted.{answered-outcome, refused-by-16}
 use Rattle.arbitration_rules.proofs.ClearedFlags.{run-clears}
 use Rattle.arbitration_members.specs.Members as members
-use Rattle.arbitration_messages.specs.Gathered.{passing}
 use Rattle.arbitration_members.specs.Rows.{rows_of}
 use Rattle.arbitration_run.specs.Sequence.{first}
-use Rattle.arbitration_turns.specs.Turns.{Turn, Reached, ended, more}
+use Rattle.arbitration_turns.specs.Turns.{Turn, Reached}
 use Rattle.arbitration_turns.proofs.Ran as ran
-use Rattle.arbitration.specs.declared.prepare.Prepared.{Prepared}
 use Rattle.arbitration.specs.Shown as shows
 use Rattle.arbitration.specs.Shown.{Lent, shown, cleared_in, all_cleared, OnlyUndecided, Arbitrates}
-use Rattle.arbitration.specs.Prepared.{Prepares, replied_by, replied_to}
-use Rattle.arbitration.proofs.Given.{bytes_below, arbitration, shaped, whole, short, carried-length, levels-length}
+use Rattle.arbitration.specs.declared.prepare.Prepared.{Prepared}
+use Rattle.arbitration.specs.Prepared.{begun, replied_by}
+use Rattle.arbitration.proofs.Given.{arbitration, whole, short, carried-length, levels-length}
 use Rattle.arbitration.proofs.Given.{Unrefused, unrefused-gives}
 
 -- seats that differ in nothing but the master
@@ -78,7 +75,7 @@ module _ (request : Request) (entry : Lent) where
       (length entry.levels) count sizes reading answers enough
 
   -- a refused reply, and the slices as they were
-  refused-clauses : (stopped : Refusal) (reply : Arbitrated) → what_applies ≡ stopped → (stopped.number ≡ 0 → ⊥)
+  pub refused-clauses : (stopped : Refusal) (reply : Arbitrated) → what_applies ≡ stopped → (stopped.number ≡ 0 → ⊥)
       → reply ≡ refused stopped → Promise entry reply
   unfolding arbitrated table_after carried_after levels_after refused
   refused-clauses stopped reply applies some is =
@@ -262,17 +259,10 @@ module _ (request : Request) (entry : Lent) where
           answered-none : answer.refusal ≡ none
           answered-none = unfold answered in refl
 
-  -- nothing is turned by a sequencer that makes no turn
-  stays : {count : ℕ} {rows : List (List ℕ)} {turn final : Turn} → Reached count rows acknowledges turn final
-      → turn.sequencer.running ≡ false → final ≡ turn
-  stays (ended turn still) stopped = refl
-  stays (more turn final runs after) stopped = absurd (false≢true (sym stopped ∙ runs))
-
   -- what was prepared, and where it ended
-  pub promised : (prepared : Prepared)
-      → Prepares request (length entry.table) (length entry.carried) (length entry.levels) prepared
+  pub promised : Bytes request.bytes → what_applies.number ≡ 0 → (prepared : Prepared) → begun request ≡ prepared
       → (final : Turn)
-      → Reached prepared.count (rows_of (passing request)) acknowledges
+      → Reached (length request.counts) prepared.rows acknowledges
       (record {
         sequencer = prepared.first;
         table = entry.table;
@@ -280,30 +270,10 @@ module _ (request : Request) (entry : Lent) where
         levels = entry.levels;
       })
       final
-      → (reply : Arbitrated) → reply ≡ replied_to prepared final.sequencer
+      → (reply : Arbitrated) → reply ≡ replied_by final.sequencer (length request.counts)
       → Promise (record { table = final.table; carried = final.carried; levels = final.levels }) reply
-  unfolding passing replied_to
-  promised prepared prepares final reached reply is = go (eqb prepared.refusal.number 0) refl
-    where
-      go : (runs : Bool) → eqb prepared.refusal.number 0 ≡ runs
-          → Promise (record { table = final.table; carried = final.carried; levels = final.levels }) reply
-      go true runs =
-          let none_so : prepared.refusal.number ≡ 0 = eqb-true prepared.refusal.number 0 runs in
-          let number : what_applies.number ≡ 0 =
-          ap (λ (r : Refusal). r.number) (sym prepares.applies) ∙ none_so in
-          let small : Bytes request.bytes = bytes_below request.bytes prepares.small in
-          let sound = eq-eqb (given (shape_checks request)).number 0 (shaped request small (held small number).passed) in
-          let many : prepared.count ≡ count = prepares.masters ∙ rw runs (sym (lengths-count request)) in
-          ran-clauses small number final
-          (rw (many, prepares.begins none_so, sound) at reached) reply
-          (rw (many, runs) at is)
-      go false runs =
-          let some = eqb-false prepared.refusal.number 0 runs in
-          let same = stays reached (prepares.rests some) in
-          rw same (refused-clauses prepared.refusal reply (sym prepares.applies) some (rw runs at is))
-
--- the acknowledges play no part in which messages are sound
-pub same-passing : (bytes parts counts acknowledges : List ℕ)
-    → passing (asked bytes parts counts []) ≡ passing (asked bytes parts counts acknowledges)
-unfolding passing
-same-passing bytes parts counts acknowledges = refl
+  promised small accepted prepared is final reached reply replies =
+      let first-is = ap (λ (p : Prepared). p.first) is in
+      let rows-are = ap (λ (p : Prepared). p.rows) is in
+      ran-clauses small accepted final (rw (lengths-count request, first-is, rows-are) reached) reply
+      (rw (lengths-count request) replies)

@@ -1,17 +1,17 @@
 -- What a request that 12 to 16 pass gives of its run: how much it carries and records.
 use Prim.Native.Nat.{ℕ, zero, suc, ◌<◌, ◌≤◌}
 use mathlib.Core.Path.{◌≡◌, refl, sym, ap, ◌∙◌}
-use mathlib.Core.Bool.{Bool, true, false, cond}
+use mathlib.Core.Bool.{Bool, true, false}
 use mathlib.Core.List.{List, [], ◌∷◌, map}
 use native.Mathlib.Omega.{arith}
 use lib.Dec.{eqb, ltb}
-use borrow.Author.Tests.{eqb-true, eqb-false, ltb-false, eq-eqb, ne_eqb}
+use borrow.Author.Tests.{ltb-false, eq-eqb, ne_eqb}
 use lib.ListN.{length, get_or, take}
 use Rattle.laws.specs.declared.Refusal.{Refusal}
 use Rattle.laws.specs.Everyone.{nobody, also}
 use Rattle.laws.specs.Refusals.{check, given, none, or_else}
 use Rattle.laws.proofs.Bools.{neither}
-use Rattle.laws.proofs.Refusals.{Passed, passed, in_parts}
+use Rattle.laws.proofs.Refusals.{Passed, passed, in_parts, unrefused, passed_ok, ok_same, err_given, err-numbered}
 use Rattle.arbitration_rules.specs.Limits.{max_masters, max_length}
 use Rattle.arbitration_rules.specs.Outcome.{least, carried_count, carried_of, level_count}
 use Rattle.arbitration_rules.specs.Reply.{Request, lengths_of, messages_of, shape_checks}
@@ -20,37 +20,15 @@ use Rattle.arbitration_rules.proofs.Pieces.{Bytes}
 use Rattle.arbitration_rules.proofs.Demand.{Arbitration}
 use Rattle.arbitration_rules.proofs.RecordedLevels.{byte-count, levels-count}
 use Rattle.arbitration_rules.proofs.Accepted.{request-numbered, passes, sound-lengths, few-acknowledges}
-use Rattle.arbitration_checks.specs.Settled.{stopped_by, carrying, settled_by, settled}
+use Rattle.std.specs.Prelude.{Ok, Err}
+use Rattle.arbitration_checks.specs.declared.Settled.{Settled}
+use Rattle.arbitration_checks.specs.Settled.{carrying, settled}
 use Rattle.arbitration.specs.Prepared.{Short}
 
 -- bytes, index by index
 pub bytes_below : (bytes : List ℕ) → ((i : ℕ) → get_or bytes i 0 < 256) → Bytes bytes
 bytes_below [] below = nobody
 bytes_below (byte ∷ bytes) below = also (below zero) (bytes_below bytes (λ i. below (suc i)))
-
--- what the checks of the request alone give
-by-none : (found : Refusal) (message acknowledges : List ℕ)
-    → (settled_by found message acknowledges).refusal.number ≡ 0
-    → (found.number ≡ 0)
-    × (settled_by found message acknowledges ≡ carrying message acknowledges)
-by-none found message acknowledges unrefused = go (eqb found.number 0) refl unrefused
-  where
-    go : (passes : Bool) → eqb found.number 0 ≡ passes
-        → (cond passes (carrying message acknowledges) (stopped_by found)).refusal.number ≡ 0
-        → (found.number ≡ 0)
-        × (cond passes (carrying message acknowledges) (stopped_by found) ≡ carrying message acknowledges)
-    go true is unrefused = (eqb-true found.number 0 is, refl)
-    go false is unrefused = absurd (eqb-false found.number 0 is unrefused)
-
-by-some : (found : Refusal) (message acknowledges : List ℕ)
-    → ((settled_by found message acknowledges).refusal.number ≡ 0 → ⊥)
-    → (settled_by found message acknowledges).refusal ≡ found
-by-some found message acknowledges refused = go (eqb found.number 0) refused
-  where
-    go : (passes : Bool) → ((cond passes (carrying message acknowledges) (stopped_by found)).refusal.number ≡ 0 → ⊥)
-        → (cond passes (carrying message acknowledges) (stopped_by found)).refusal ≡ found
-    go true refused = absurd (refused refl)
-    go false refused = refl
 
 module _ (request : Request) where
   abbrev messages : List (List ℕ)
@@ -62,14 +40,21 @@ module _ (request : Request) where
   abbrev pub found : Refusal
   found = given (request_checks request)
 
-  pub settled-none : (settled request).refusal.number ≡ 0
-      → (found.number ≡ 0) × (settled request ≡ carrying (least messages) acknowledges)
+  pub settled-none : (run : Settled) → settled request ≡ Ok run
+      → (found.number ≡ 0) × (carrying (least messages) acknowledges ≡ run)
   unfolding settled
-  settled-none unrefused = by-none found (least messages) acknowledges unrefused
+  settled-none run is =
+      let whole = carrying (least messages) acknowledges in
+      let none-applies = unrefused (request_checks request) (passed_ok (request_checks request) whole run is) in
+      (ap (λ (r : Refusal). r.number) none-applies, ok_same (request_checks request) whole run is)
 
-  pub settled-some : ((settled request).refusal.number ≡ 0 → ⊥) → (settled request).refusal ≡ found
+  pub settled-some : (r : Refusal) → settled request ≡ Err r → (found ≡ r) × (r.number ≡ 0 → ⊥)
   unfolding settled
-  settled-some refused = by-some found (least messages) acknowledges refused
+  settled-some r is =
+      let whole = carrying (least messages) acknowledges in (
+        err_given (request_checks request) whole r is,
+        err-numbered (request_checks request) whole r (request-numbered request) is,
+      )
 
   -- past 12 to 16
   module _ (small : Bytes request.bytes) (unrefused : found.number ≡ 0) where

@@ -10,6 +10,7 @@ mod table; // table.rt: a pass over a table of modules, and a run
 
 use arbitration_rules::MAX_MASTERS;
 pub use arbitration_rules::{Arbitrated, Seat};
+use prepare::Prepared;
 use usi::Usi;
 
 // Runs the arbitration of the messages that lie in bytes one after the other, with the length of every part, message
@@ -40,17 +41,13 @@ pub fn arbitrate(
         carried.len(),
         levels.len(),
     );
-    let rows = prepare::rows(bytes, parts, counts);
-    let ended = table::run(
-        table,
-        prepared.count,
-        prepared.first,
-        rows,
-        acks,
-        carried,
-        levels,
-    );
-    reply::replied(prepared, ended)
+    let Prepared { first, rows } = match prepared {
+        Ok(prepared) => prepared,
+        Err(refusal) => return reply::refused(refusal),
+    };
+    let count = counts.len();
+    let ended = table::run(table, count, first, rows, acks, carried, levels);
+    reply::answered(ended, count)
 }
 
 // A rehearsal: the reply, and the table of modules as it then stands.

@@ -1,15 +1,14 @@
 // The reply: of a refusal, and of a run.
 ghost use Rattle.std.specs.Prelude.{◌≡◌};
 ghost use Rattle.arbitration_rules.specs.Reply.{refused as refused_reply};
-ghost use Rattle.arbitration.specs.Prepared.{replied_by, replied_to};
+ghost use Rattle.arbitration.specs.Prepared.{replied_by};
 
-use crate::prepare::Prepared;
 use arbitration_rules::{Arbitrated, MAX_MASTERS, Seat};
 use arbitration_run::Sequencer;
 use laws::Refusal;
 
 // A refused reply: nobody is in.
-fn refused(refusal: Refusal) -> Arbitrated
+pub(crate) fn refused(refusal: Refusal) -> Arbitrated
     ensures { result ≡ refused_reply refusal }
 {
     let empty = Seat {
@@ -25,7 +24,7 @@ fn refused(refusal: Refusal) -> Arbitrated
 }
 
 // The reply of a run of so many masters.
-fn answered(sequencer: Sequencer, count: usize) -> Arbitrated
+pub(crate) fn answered(sequencer: Sequencer, count: usize) -> Arbitrated
     ensures { result ≡ replied_by sequencer count }
 {
     let members = sequencer.members;
@@ -38,15 +37,4 @@ fn answered(sequencer: Sequencer, count: usize) -> Arbitrated
         count: sequencer.sent,
         seats,
     }
-}
-
-// The reply of what was refused, or else ran.
-pub(crate) fn replied(prepared: Prepared, sequencer: Sequencer) -> Arbitrated
-    ensures { result ≡ replied_to prepared sequencer }
-{
-    let refusal = prepared.refusal;
-    if refusal.number != 0 {
-        return refused(refusal);
-    }
-    answered(sequencer, prepared.count)
 }

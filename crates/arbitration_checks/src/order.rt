@@ -3,7 +3,7 @@ ghost use Rattle.std.specs.Prelude.{◌≡◌, [], ◌<◌};
 ghost use Rattle.arbitration_rules.specs.Reply.{asked};
 ghost use Rattle.arbitration_checks.specs.Order.{compared_of, LeastAt, least_of};
 
-use arbitration_messages::NO_RESTART;
+use arbitration_messages::{Messages, NO_RESTART};
 
 // Whether a message comes before another or is the same; and how many comparisons have been made, with this one.
 #[derive(Clone, Copy)]
@@ -100,11 +100,18 @@ pub(crate) fn locate_least(sent: &[u16], lengths: &[u32]) -> Located
 pub fn least_message(bytes: &[u8], parts: &[u32], counts: &[u32]) -> Least
     ensures { result ≡ least_of (asked bytes.now parts.now counts.now []) }
 {
-    let messages = arbitration_messages::gather(bytes, parts, counts);
-    let sent = messages.sent;
-    let size = messages.size;
-    let lengths = messages.lengths;
-    let count = messages.count;
+    let Ok(messages) = arbitration_messages::gather(bytes, parts, counts) else {
+        return Least {
+            index: 0,
+            comparisons: 0,
+        };
+    };
+    let Messages {
+        sent,
+        size,
+        lengths,
+        count,
+    } = messages;
     let located = locate_least(&sent[..size], &lengths[..count]);
     Least {
         index: located.index,

@@ -8,7 +8,8 @@ use borrow.Author.Tests.{ltb-false, eqb-true, not-false}
 use lib.Dec.{eqb, ltb}
 use lib.ListN.{length, get_or, take, replicate, length-map}
 use lib.Seq.{take_at}
-use Rattle.laws.specs.Refusals.{refused_at, none}
+use Rattle.std.specs.Prelude.{Ok, Err}
+use Rattle.laws.specs.Refusals.{refused_at}
 use Rattle.laws.specs.Search.{first, any}
 use Rattle.laws.proofs.Bools.{neither}
 use Rattle.laws.proofs.Lists.{zip_with-front, zip_with-by, zip_with-alike, zip_with-length, everyone-append}
@@ -20,7 +21,7 @@ use Rattle.arbitration_rules.proofs.Cut.{cut-count, lengths-count}
 use Rattle.arbitration_messages.specs.Lengths.{limited, bad_length, bad_lengths_of}
 use Rattle.arbitration_messages.specs.Marks.{max_sent, started, joined_of}
 use Rattle.arbitration_rules.specs.Reply.{asked}
-use Rattle.arbitration_messages.specs.Gathered.{without, sending, gathered}
+use Rattle.arbitration_messages.specs.Gathered.{sending, gathered}
 use Rattle.arbitration_messages.proofs.Sums.{total-append, total-none}
 use Rattle.arbitration_messages.proofs.Limited.{limited-bad}
 use Rattle.arbitration_messages.proofs.Sound.{Sound, sound, sound-lengths, sound-total, sound-bound, sound-short}
@@ -54,18 +55,18 @@ module _ (bytes parts counts : List ℕ) where
   few-counts good =
       ltb-false max_masters (length counts) (neither (eqb (length counts) 0) (ltb max_masters (length counts)) good).1
 
-  pub gathered-12 : bad_count request ≡ true → without (refused_at 12 0) ≡ gathered request
+  pub gathered-12 : bad_count request ≡ true → Err (refused_at 12 0) ≡ gathered request
   unfolding gathered
   gathered-12 bad = rw bad
 
   module _ (count : bad_count request ≡ false) where
     gathered-13 : bad_lengths request ≡ true
-        → without (refused_at 13 (first itself (bad_messages request))) ≡ gathered request
+        → Err (refused_at 13 (first itself (bad_messages request))) ≡ gathered request
     unfolding gathered
     gathered-13 bad = rw (count, bad)
 
     gathered-sound : bad_lengths request ≡ false
-        → sending none (sent_of request) (lengths_of request) ≡ gathered request
+        → Ok (sending (sent_of request) (lengths_of request)) ≡ gathered request
     unfolding gathered
     gathered-sound good = rw (count, good)
 
@@ -153,9 +154,9 @@ module _ (bytes parts counts : List ℕ) where
             go false is =
                 ap₂ (λ (some : Bool) (k : ℕ). some || not (eqb k (length bytes))) test-is (sized ∙ lengths-total is)
 
-        pub refused-13 : fails ≡ true → without (refused_at 13 bad) ≡ gathered request
+        pub refused-13 : fails ≡ true → Err (refused_at 13 bad) ≡ gathered request
         refused-13 applies =
-            ap (λ (k : ℕ). without (refused_at 13 k)) place ∙ gathered-13 (sym same_test ∙ applies)
+            ap (λ (k : ℕ). Err (refused_at 13 k)) place ∙ gathered-13 (sym same_test ∙ applies)
 
         module _ (good : fails ≡ false) where
           two : (ltb bad (length counts) || not (eqb sum (length parts)) ≡ false)
@@ -175,7 +176,7 @@ module _ (bytes parts counts : List ℕ) where
           pub gathered-all : (restarts marks sent : List ℕ)
               → restarts ≡ marks_after parts ++ replicate (max_sent - total parts) 256
               → marks ≡ started (take (length counts) lengths) restarts → sent ≡ joined_of bytes marks
-              → record { refusal = none; sent = sent; size = size; lengths = lengths; count = length counts }
+              → Ok (record { sent = sent; size = size; lengths = lengths; count = length counts })
               ≡ gathered request
           gathered-all restarts marks sent parted marked joined =
               let all = all_sound shape-passes in

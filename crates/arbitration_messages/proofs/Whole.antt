@@ -1,102 +1,71 @@
--- What a caller has of the messages that are gathered: the refusal, and the messages in what is sent.
+-- What a caller has of the messages that are gathered: the messages in what is sent, or none.
 use Prim.Native.Nat.{ℕ, ◌≤◌, ◌-◌}
-use mathlib.Core.Path.{◌≡◌, refl, sym, ap, ap₂, ◌∙◌}
-use mathlib.Core.Bool.{Bool, true, false, cond}
+use mathlib.Core.Path.{◌≡◌, refl, ap, ap₂}
 use mathlib.Core.List.{List, []}
 use native.Mathlib.Omega.{arith}
-use borrow.Author.Tests.{eq-eqb, eqb-true}
-use lib.Dec.{eqb}
+use borrow.Author.Tests.{eq-eqb, ne_eqb}
 use lib.ListN.{length, take, replicate, length-append}
 use lib.Seq.{take-append_seam}
+use Rattle.std.specs.Prelude.{Ok, Err}
 use Rattle.laws.specs.declared.Refusal.{Refusal}
-use Rattle.laws.specs.Refusals.{none, given}
-use Rattle.laws.proofs.Refusals.{Numbered, passed, unrefused}
+use Rattle.laws.specs.Refusals.{given}
+use Rattle.laws.proofs.Refusals.{Numbered, unrefused, passed_ok, ok_same, err_given, err-numbered}
 use Rattle.arbitration_rules.specs.Limits.{max_masters}
-use Rattle.arbitration_rules.specs.Reply.{Request, cut, sent_of, lengths_of, messages_of, shape_checks}
+use Rattle.arbitration_rules.specs.Reply.{Request, cut, sent_of, lengths_of, shape_checks}
 use Rattle.arbitration_messages.specs.declared.Messages.{Messages}
 use Rattle.arbitration_messages.specs.Marks.{max_sent}
 use Rattle.arbitration_rules.specs.Reply.{asked}
-use Rattle.arbitration_messages.specs.Gathered.{sending, without, gathered, passing}
+use Rattle.arbitration_messages.specs.Gathered.{sending, gathered, passing}
 
 pub shape-numbered : (request : Request) → Numbered (shape_checks request)
 shape-numbered request = ((λ e. omega arith), ((λ e. omega arith), tt))
 
--- of any lists that are sent
-module _ (found : Refusal) (sent lengths : List ℕ) (messages : Messages) (is : messages ≡ sending found sent lengths)
-  where
-    whole_sent : take messages.size messages.sent ≡ sent
-    whole_sent = rw is (take-append_seam sent (replicate (max_sent - length sent) 256))
-
-    whole-lengths : take messages.count messages.lengths ≡ lengths
-    whole-lengths = rw is (take-append_seam lengths (replicate (max_masters - length lengths) 0))
-
-module _ (request : Request) (messages : Messages) (is : messages ≡ gathered request) where
-  -- which of the two it is
-  when-passed : eqb (given (shape_checks request)).number 0 ≡ true
-      → messages ≡ sending none (sent_of request) (lengths_of request)
+module _ (request : Request) (messages : Messages) (is : gathered request ≡ Ok messages) where
+  sending-is : sending (sent_of request) (lengths_of request) ≡ messages
   unfolding gathered
-  when-passed passes = is ∙ rw passes refl
+  sending-is = ok_same (shape_checks request) (sending (sent_of request) (lengths_of request)) messages is
 
-  when-refused : eqb (given (shape_checks request)).number 0 ≡ false → messages ≡ without (given (shape_checks request))
+  -- past 12 and 13
+  pub nothing-refused : (given (shape_checks request)).number ≡ 0
   unfolding gathered
-  when-refused fails = is ∙ rw fails refl
-
-  pub refusal_is : messages.refusal ≡ given (shape_checks request)
-  refusal_is = go (eqb (given (shape_checks request)).number 0) refl
-    where
-      go : (passes : Bool) → eqb (given (shape_checks request)).number 0 ≡ passes
-          → messages.refusal ≡ given (shape_checks request)
-      go true is-passed =
-          let zero = eqb-true (given (shape_checks request)).number 0 is-passed in
-          let all = passed (shape_checks request) (shape-numbered request) zero in
-          ap (λ (m : Messages). m.refusal) (when-passed is-passed) ∙ sym (unrefused (shape_checks request) all)
-      go false is-refused = ap (λ (m : Messages). m.refusal) (when-refused is-refused)
-
-  -- what holds of any lists that are sent
-  either : (P : Messages → Type 0) → ((found : Refusal) (sent lengths : List ℕ) → P (sending found sent lengths))
-      → P messages
-  either P holds = go (eqb (given (shape_checks request)).number 0) refl
-    where
-      go : (passes : Bool) → eqb (given (shape_checks request)).number 0 ≡ passes → P messages
-      go true is-passed = rw (when-passed is-passed) (holds none (sent_of request) (lengths_of request))
-      go false is-refused = rw (when-refused is-refused) (holds (given (shape_checks request)) [] [])
+  nothing-refused =
+      let all = passed_ok (shape_checks request) (sending (sent_of request) (lengths_of request)) messages is in
+      ap (λ (r : Refusal). r.number) (unrefused (shape_checks request) all)
 
   pub size-within : messages.size ≤ length messages.sent
   size-within =
-      either (λ (m : Messages). m.size ≤ length m.sent)
-      (λ found sent lengths. omega (arith, length-append sent (replicate (max_sent - length sent) 256)))
+      let sent = sent_of request in
+      rw (← sending-is) (omega (arith, length-append sent (replicate (max_sent - length sent) 256)))
 
   pub count-within : messages.count ≤ length messages.lengths
   count-within =
-      either (λ (m : Messages). m.count ≤ length m.lengths)
-      (λ found sent lengths. omega (arith, length-append lengths (replicate (max_masters - length lengths) 0)))
+      let lengths = lengths_of request in
+      rw (← sending-is) (omega (arith, length-append lengths (replicate (max_masters - length lengths) 0)))
 
-  pub whole : cut (take messages.count messages.lengths) (take messages.size messages.sent)
-      ≡ passing request
+  pub sent-whole : take messages.size messages.sent ≡ sent_of request
+  sent-whole =
+      let sent = sent_of request in
+      rw (← sending-is) (take-append_seam sent (replicate (max_sent - length sent) 256))
+
+  pub lengths-whole : take messages.count messages.lengths ≡ lengths_of request
+  lengths-whole =
+      let lengths = lengths_of request in
+      rw (← sending-is) (take-append_seam lengths (replicate (max_masters - length lengths) 0))
+
+  pub whole : cut (take messages.count messages.lengths) (take messages.size messages.sent) ≡ passing request
   unfolding passing
-  whole = go (eqb (given (shape_checks request)).number 0) refl
-    where
-      go : (passes : Bool) → eqb (given (shape_checks request)).number 0 ≡ passes
-          → cut (take messages.count messages.lengths) (take messages.size messages.sent)
-          ≡ cond passes (messages_of request) []
-      go true is-passed =
-          ap₂ cut (whole-lengths none (sent_of request) (lengths_of request) messages (when-passed is-passed))
-          (whole_sent none (sent_of request) (lengths_of request) messages (when-passed is-passed))
-      go false is-refused =
-          ap₂ cut (whole-lengths (given (shape_checks request)) [] [] messages (when-refused is-refused))
-          (whole_sent (given (shape_checks request)) [] [] messages (when-refused is-refused))
+  whole =
+      rw (eq-eqb (given (shape_checks request)).number 0 nothing-refused)
+      (ap₂ cut lengths-whole sent-whole)
 
-  -- past 12 and 13
-  module _ (unrefused : messages.refusal.number ≡ 0) where
-    passes : eqb (given (shape_checks request)).number 0 ≡ true
-    passes =
-        eq-eqb (given (shape_checks request)).number 0 (ap (λ (r : Refusal). r.number) (sym refusal_is) ∙ unrefused)
-
-    pub sent-whole : take messages.size messages.sent ≡ sent_of request
-    sent-whole = whole_sent none (sent_of request) (lengths_of request) messages (when-passed passes)
-
-    pub lengths-whole : take messages.count messages.lengths ≡ lengths_of request
-    lengths-whole = whole-lengths none (sent_of request) (lengths_of request) messages (when-passed passes)
+-- where one of both applies there is none
+pub none-whole : (request : Request) (r : Refusal) → gathered request ≡ Err r → [] ≡ passing request
+unfolding gathered passing
+none-whole request r is =
+    let checks = shape_checks request in
+    let whole = sending (sent_of request) (lengths_of request) in
+    let some = err-numbered checks whole r (shape-numbered request) is in
+    rw (err_given checks whole r is, ne_eqb r.number 0 some) refl
 
 -- acknowledges play no part
 pub apart : (bytes parts counts acknowledges : List ℕ)

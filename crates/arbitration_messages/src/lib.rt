@@ -2,15 +2,14 @@
 #![tactic(auto)]
 
 ghost use Rattle.std.specs.Prelude.{◌≡◌, []};
-ghost use Rattle.laws.specs.Refusals.{refused_at};
 ghost use Rattle.arbitration_rules.specs.Reply.{asked};
-ghost use Rattle.arbitration_messages.specs.Gathered.{without, gathered};
+ghost use Rattle.arbitration_messages.specs.Gathered.{gathered};
 
 mod lengths; // lengths.rt: how many bytes each message has, and the first that is out of the limits
 mod marks; // marks.rt: where a restart stands, and the bytes with that
 
 use arbitration_rules::{MAX_LENGTH, MAX_MASTERS};
-use laws::Refusal;
+use laws::{Refusal, refused};
 pub use lengths::end_of;
 
 // The most bytes that all messages together have.
@@ -19,33 +18,18 @@ pub const MAX_SENT: usize = MAX_MASTERS * MAX_LENGTH;
 // What is added to a byte that no restart stands before.
 pub const NO_RESTART: u16 = 256;
 
-// The first of 12 and 13 that applies, else the messages: what they send, one number a byte, as many as size says, and
-// past it 256; and the length of each, as many as count says, and past it 0. At a refusal there is no message.
+// What the messages send, one number a byte, as many as size says, and past it 256; and the length of each, as many as
+// count says, and past it 0.
 #[derive(Clone, Copy)]
 pub struct Messages {
-    pub refusal: Refusal,
     pub sent: [u16; MAX_SENT],
     pub size: usize,
     pub lengths: [u32; MAX_MASTERS],
     pub count: usize,
 }
 
-// No message, for a refusal.
-fn refused(number: u8, place: usize) -> Messages
-    ensures { result ≡ without (refused_at number place) }
-{
-    let sent = marks::unmarked();
-    Messages {
-        refusal: Refusal { number, place },
-        sent,
-        size: 0,
-        lengths: [0u32; MAX_MASTERS],
-        count: 0,
-    }
-}
-
-// The messages of a request.
-pub fn gather(bytes: &[u8], parts: &[u32], counts: &[u32]) -> Messages
+// The messages of a request, or the first of 12 and 13 that applies.
+pub fn gather(bytes: &[u8], parts: &[u32], counts: &[u32]) -> Result<Messages, Refusal>
     ensures { result
         ≡ gathered (asked bytes.now parts.now counts.now []) }
 {
@@ -62,14 +46,10 @@ pub fn gather(bytes: &[u8], parts: &[u32], counts: &[u32]) -> Messages
     let restarts = marks::part_marks(parts);
     let marks = marks::message_marks(restarts, lengths, count);
     let sent = marks::joined(bytes, marks);
-    Messages {
-        refusal: Refusal {
-            number: 0,
-            place: 0,
-        },
+    Ok(Messages {
         sent,
         size,
         lengths,
         count,
-    }
+    })
 }

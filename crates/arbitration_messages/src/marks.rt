@@ -9,7 +9,7 @@ use crate::{MAX_SENT, NO_RESTART};
 use arbitration_rules::MAX_MASTERS;
 
 // No restart anywhere.
-pub(crate) fn unmarked() -> [u16; MAX_SENT]
+fn unmarked() -> [u16; MAX_SENT]
     ensures { result ≡ replicate max_sent 256 }
 {
     [NO_RESTART; MAX_SENT]

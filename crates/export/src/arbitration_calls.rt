@@ -89,9 +89,7 @@ pub extern "C" fn kan_arbitrate(
 {
     let masters = counts.len();
     if (modules.len() < masters) | (seats.len() < masters) {
-        let settled = arbitration_checks::settle(bytes, parts, counts, acks);
-        let found = settled.refusal;
-        if found.number != 0 {
+        if let Err(found) = arbitration_checks::settle(bytes, parts, counts, acks) {
             return refused(found);
         }
         return 8;

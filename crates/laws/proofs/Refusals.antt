@@ -1,6 +1,6 @@
 -- One law for every table of refusals: what no refusal says of each check, what one that applies gives, and a table
 -- cut in two.
-use mathlib.Core.Path.{◌≡◌, refl, sym}
+use mathlib.Core.Path.{◌≡◌, refl, sym, ap, ◌∙◌}
 use mathlib.Core.Bool.{Bool, true, false, cond}
 use mathlib.Core.List.{List, [], ◌∷◌, ◌++◌}
 use Prim.Native.Nat.{ℕ, ◌≤◌, ◌<◌}
@@ -117,6 +117,25 @@ ok_same (c ∷ checks) a b is = go c.applies is (ok_same checks a b)
         → (answer checks a ≡ Ok b → a ≡ b) → a ≡ b
     go true is rest = absurd (ok_or_err is)
     go false is rest = rest is
+
+-- what is refused is the first that applies
+pub err_given : {A : Type 0} (checks : List Check) (a : A) (r : Refusal) → answer checks a ≡ Err r
+    → given checks ≡ r
+err_given [] a r is = absurd (ok_or_err (sym is))
+err_given (c ∷ checks) a r is = go c.applies is (err_given checks a r)
+  where
+    go : (applies : Bool) → cond applies (Err (refused_at c.number c.place)) (answer checks a) ≡ Err r
+        → (answer checks a ≡ Err r → given checks ≡ r)
+        → cond applies (refused_at c.number c.place) (given checks) ≡ r
+    go true is rest = cc
+    go false is rest = rest is
+
+-- and its number is above 0
+pub err-numbered : {A : Type 0} (checks : List Check) (a : A) (r : Refusal) → Numbered checks
+    → answer checks a ≡ Err r → r.number ≡ 0 → ⊥
+err-numbered checks a r numbered is zero =
+    let number = ap (λ (r : Refusal). r.number) (err_given checks a r is) in
+    ok_or_err (sym is ∙ ok_passed checks a (passed checks numbered (number ∙ zero)))
 
 -- the place of what a table refuses is at most a number, if each of its checks' is where no earlier one applies
 pub refused_place : {A : Type 0} (most : ℕ) (checks : List Check) (a : A) (r : Refusal) → Placed most checks

@@ -1,89 +1,86 @@
 -- The refusals of a night, checked in parts: 12 to 15 as for one arbitration, then 43, 16 and 8.
-use Prim.Native.Nat.{ℕ, ◌<◌}
+use Rattle.std.proofs.Common.{◌≡◌, refl, sym, ap, ap₂, ◌∙◌, ℕ, ◌<◌, Bool, true, false, List, [], ◌∷◌}
 use native.Mathlib.Omega.{arith}
-use mathlib.Core.Path.{◌≡◌, refl, sym, ap, ◌∙◌}
-use mathlib.Core.Bool.{Bool, true, false}
-use mathlib.Core.List.{List, [], ◌∷◌}
-use lib.Dec.{eqb}
-use borrow.Author.Tests.{eqb-true, eq-eqb, ne_eqb}
+use lib.ListN.{take}
+use Rattle.std.specs.Prelude.{Result, Ok, Err}
+use Rattle.std.specs.Result.{result_and}
 use Rattle.laws.specs.declared.Refusal.{Refusal}
-use Rattle.laws.specs.Refusals.{Check, check, none, refused_at, given, or_else}
+use Rattle.laws.specs.Refusals.{Check, check, none, refused_at, answer}
 use Rattle.laws.specs.Search.{any}
-use Rattle.laws.proofs.Refusals.{Numbered, Passed, passed, unrefused, in_parts, number-below}
-use Rattle.arbitration_rules.specs.Outcome.{undecided}
-use Rattle.arbitration_rules.specs.Reply.{Request, messages_of, shape_checks, request_checks}
-use Rattle.arbitration_rules.proofs.Accepted.{request-numbered}
-use Rattle.arbitration_messages.specs.Gathered.{passing}
-use Rattle.arbitration_checks.specs.Settled.{settled}
-use Rattle.night_rules.specs.Night.{form_checks, is_one, end_apart, short_room, night_refusal}
+use Rattle.laws.proofs.Refusals.{Passed, passed_first, passed_ok, ok_passed, ok_same, ok_or_err, unrefused}
+use Rattle.laws.proofs.Refusals.{err_given, err-numbered, answer-in_order, number-below}
+use Rattle.arbitration_rules.specs.Outcome.{least, undecided}
+use Rattle.arbitration_rules.specs.Reply.{Request, cut, sent_of, lengths_of, messages_of, shape_checks, request_checks}
+use Rattle.arbitration_messages.specs.declared.Messages.{Messages}
+use Rattle.arbitration_messages.specs.Gathered.{sending, gathered}
+use Rattle.arbitration_messages.proofs.Whole.{sent-whole, lengths-whole}
+use Rattle.arbitration_checks.specs.declared.Settled.{Settled}
+use Rattle.arbitration_checks.specs.Settled.{carrying, settled}
+use Rattle.night_rules.specs.Night.{form_checks, is_one, end_apart, short_room, night_checks, night_refusal}
+use Rattle.night_rules.proofs.Accepted.{night-numbered}
+use Rattle.night.specs.Admitted.{formed, admitted}
 
 module _ (request : Request) where
-  form-numbered : Numbered (form_checks request)
-  form-numbered = ((λ e. omega arith), ((λ e. omega arith), ((λ e. omega arith), ((λ e. omega arith), tt))))
+  abbrev whole : Messages
+  whole = sending (sent_of request) (lengths_of request)
 
-  -- no number is 0 but that of no refusal
-  none-given : (checks : List Check) → Numbered checks → (given checks).number ≡ 0 → given checks ≡ none
-  none-given checks numbered zero = unrefused checks (passed checks numbered zero)
+  abbrev run : Settled
+  run = carrying (least (messages_of request)) request.acknowledges
 
-  -- what settle refuses
-  pub settled_is : (settled request).refusal ≡ given (request_checks request)
-  unfolding settled
-  settled_is = go (eqb (given (request_checks request)).number 0) refl
-    where
-      go : (passes : Bool) → eqb (given (request_checks request)).number 0 ≡ passes
-          → (settled request).refusal ≡ given (request_checks request)
-      go true is =
-          rw is
-          (sym (none-given (request_checks request) (request-numbered request)
-          (eqb-true (given (request_checks request)).number 0 is)))
-      go false is = rw is
-
-  abbrev form : Refusal
-  form = given (form_checks request)
-
-  form-below : form.number < 16
-  form-below =
-      number-below 16 (form_checks request) (omega arith)
-      (omega arith, (omega arith, (omega arith, (omega arith, tt))))
+  abbrev sixteen : List Check
+  sixteen = check 16 (undecided (messages_of request) request.acknowledges) ∷ []
 
   -- 12 to 16 are 12 to 15, then 16
-  sixteen : given (request_checks request)
-      ≡ or_else form (given (check 16 (undecided (messages_of request) request.acknowledges) ∷ []))
-  sixteen = in_parts (form_checks request)
-      (check 16 (undecided (messages_of request) request.acknowledges) ∷ []) form-numbered
+  in_order : settled request ≡ result_and (formed request) (answer sixteen run)
+  unfolding settled formed
+  in_order = answer-in_order (form_checks request) sixteen whole run
+
+  -- past 12 to 15 the messages are gathered
+  form-gathers : Passed (form_checks request) → gathered request ≡ formed request
+  unfolding gathered formed
+  form-gathers all =
+      ok_passed (shape_checks request) whole (all.0, (all.1.0, tt)) ∙ sym (ok_passed (form_checks request) whole all)
+
+  pub form-passed : (s : Settled) → settled request ≡ Ok s → gathered request ≡ formed request
+  unfolding settled
+  form-passed s is = form-gathers (passed_first (form_checks request) sixteen (passed_ok (request_checks request) run s is))
+
+  form-below : (r : Refusal) → formed request ≡ Err r → r.number < 16
+  unfolding formed
+  form-below r is =
+      let below =
+      number-below 16 (form_checks request) (omega arith)
+      (omega arith, (omega arith, (omega arith, (omega arith, tt)))) in
+      omega (arith, below, ap (λ (r : Refusal). r.number) (err_given (form_checks request) whole r is))
 
   -- so where it is 16, none of 12 to 15 applies, and else it is what they give
-  pub form-none : (given (request_checks request)).number ≡ 16 → none ≡ form
-  form-none is = go (eqb form.number 0) refl
+  pub form-none : (r : Refusal) → settled request ≡ Err r → r.number ≡ 16 → gathered request ≡ formed request
+  unfolding formed
+  form-none r is number = go (formed request) refl
     where
-      go : (passes : Bool) → eqb form.number 0 ≡ passes → none ≡ form
-      go true zero = sym (none-given (form_checks request) form-numbered (eqb-true form.number 0 zero))
-      go false some =
-          let same : given (request_checks request) ≡ form = rw some at sixteen in
-          let number = ap (λ (r : Refusal). r.number) same in
-          absurd (omega (arith, is, number, form-below))
+      go : (answered : Result Messages Refusal) → formed request ≡ answered → gathered request ≡ formed request
+      go (Ok m) so = form-gathers (passed_ok (form_checks request) whole m so)
+      go (Err first) so =
+          let stopped : settled request ≡ Err first = in_order ∙ rw so refl in
+          let same : r ≡ first = let both = sym is ∙ stopped in cc in
+          absurd (omega (arith, number, ap (λ (r : Refusal). r.number) same, form-below first so))
 
-  pub form-is : ((given (request_checks request)).number ≡ 16 → ⊥) → given (request_checks request) ≡ form
-  form-is other = go (eqb form.number 0) refl (undecided (messages_of request) request.acknowledges) refl
+  pub form-is : (r : Refusal) → settled request ≡ Err r → (r.number ≡ 16 → ⊥) → Err r ≡ formed request
+  form-is r is other = go (formed request) refl (undecided (messages_of request) request.acknowledges) refl
     where
-      go : (passes : Bool) → eqb form.number 0 ≡ passes
-          → (apart : Bool) → undecided (messages_of request) request.acknowledges ≡ apart
-          → given (request_checks request) ≡ form
-      go true zero true apart =
-          let same : given (request_checks request) ≡ refused_at 16 0 = sixteen ∙ rw (zero, apart) in
+      go : (answered : Result Messages Refusal) → formed request ≡ answered
+          → (apart : Bool) → undecided (messages_of request) request.acknowledges ≡ apart → Err r ≡ formed request
+      go (Err first) so apart differs =
+          let stopped : settled request ≡ Err first = in_order ∙ rw so refl in
+          let same : r ≡ first = let both = sym is ∙ stopped in cc in
+          rw (so, same) refl
+      go (Ok m) so true differs =
+          let stopped : settled request ≡ Err (refused_at 16 0) = in_order ∙ rw (so, differs) refl in
+          let same : r ≡ refused_at 16 0 = let both = sym is ∙ stopped in cc in
           absurd (other (ap (λ (r : Refusal). r.number) same))
-      go true zero false apart =
-          let same : given (request_checks request) ≡ none = sixteen ∙ rw (zero, apart) in
-          same ∙ sym (none-given (form_checks request) form-numbered (eqb-true form.number 0 zero))
-      go false some apart is = rw some at sixteen
-
-  -- past 12 and 13 the messages gathered are those of the request
-  all-passing : form.number ≡ 0 → passing request ≡ messages_of request
-  unfolding passing
-  all-passing zero =
-      let all : Passed (form_checks request) = passed (form_checks request) form-numbered zero in
-      let shaped : (given (shape_checks request)).number ≡ 0 = rw (all.0, all.1.0) in
-      rw (eq-eqb (given (shape_checks request)).number 0 shaped)
+      go (Ok m) so false differs =
+          let runs : settled request ≡ Ok run = in_order ∙ rw (so, differs) refl in
+          absurd (ok_or_err (sym is ∙ runs))
 
   -- the night's: those, or else 43, 16 and 8
   module _ (rounds_room table_room : ℕ) where
@@ -94,17 +91,52 @@ module _ (request : Request) where
         ∷ check 8 (short_room request rounds_room table_room)
         ∷ []
 
-    parts : night_refusal request rounds_room table_room ≡ or_else form (given rest)
-    unfolding night_refusal
-    parts = in_parts (form_checks request) rest form-numbered
+    night-parts : admitted request rounds_room table_room ≡ result_and (formed request) (answer rest whole)
+    unfolding admitted formed
+    night-parts = answer-in_order (form_checks request) rest whole whole
 
-    pub night-form : (form.number ≡ 0 → ⊥) → night_refusal request rounds_room table_room ≡ form
-    night-form some = rw (ne_eqb form.number 0 some) at parts
+    pub night-form : (r : Refusal) → formed request ≡ Err r → Err r ≡ admitted request rounds_room table_room
+    night-form r is = rw (night-parts, is) refl
 
-    pub night-rest : form.number ≡ 0
-        → (one apart short : Bool) → any is_one request.acknowledges ≡ one → end_apart (passing request) ≡ apart
-        → short_room request rounds_room table_room ≡ short
-        → night_refusal request rounds_room table_room ≡ given (check 43 one ∷ check 16 apart ∷ check 8 short ∷ [])
-    night-rest zero one apart short ones ends tight =
-        (rw (eq-eqb form.number 0 zero) at parts)
-        ∙ rw (ones, ap end_apart (sym (all-passing zero)) ∙ ends, tight)
+    module _ (messages : Messages) (is : formed request ≡ Ok messages) where
+      -- the messages gathered are those of the request
+      pub all-gathered : gathered request ≡ Ok messages
+      unfolding formed
+      all-gathered = form-gathers (passed_ok (form_checks request) whole messages is) ∙ is
+
+      pub night-rest : (one apart short : Bool) → any is_one request.acknowledges ≡ one
+          → end_apart (messages_of request) ≡ apart → short_room request rounds_room table_room ≡ short
+          → admitted request rounds_room table_room
+          ≡ answer (check 43 one ∷ check 16 apart ∷ check 8 short ∷ []) messages
+      unfolding formed
+      night-rest one apart short ones ends tight =
+          let same = ok_same (form_checks request) whole messages is in
+          rw (night-parts, is, ones, ends, tight, same) refl
+
+      pub apart-is : end_apart (cut (take messages.count messages.lengths) (take messages.size messages.sent))
+          ≡ end_apart (messages_of request)
+      apart-is =
+          ap end_apart
+          (ap₂ cut (lengths-whole request messages all-gathered) (sent-whole request messages all-gathered))
+
+    -- what is refused, and what is not
+    abbrev all_checks : List Check
+    all_checks = night_checks request rounds_room table_room
+
+    pub stops : (r : Refusal) → admitted request rounds_room table_room ≡ Err r
+        → (r ≡ night_refusal request rounds_room table_room) × (r.number ≡ 0 → ⊥)
+    unfolding admitted night_refusal
+    stops r is = (
+      sym (err_given all_checks whole r is),
+      err-numbered all_checks whole r (night-numbered request rounds_room table_room) is,
+    )
+
+    pub runs : (messages : Messages) → admitted request rounds_room table_room ≡ Ok messages
+        → (none ≡ night_refusal request rounds_room table_room) × (gathered request ≡ Ok messages)
+    unfolding admitted night_refusal gathered
+    runs messages is =
+        let all = passed_ok all_checks whole messages is in
+        let same = ok_same all_checks whole messages is in (
+          sym (unrefused all_checks all),
+          ok_passed (shape_checks request) whole (all.0, (all.1.0, tt)) ∙ ap Ok same,
+        )

@@ -4,21 +4,17 @@ use mathlib.Core.Path.{◌≡◌, sym, ap, ◌∙◌}
 use mathlib.Core.Bool.{false}
 use mathlib.Core.List.{List, ◌++◌, map}
 use lib.Dec.{eqb, ltb}
-use lib.ListN.{length, take, drop, replicate, length-map}
+use lib.ListN.{length, drop, replicate, length-map}
 use borrow.Author.Tests.{eq-eqb, ne_eqb, le-ltb, ltb-false}
 use Rattle.laws.specs.declared.Refusal.{Refusal}
 use Rattle.laws.specs.Buffer.{filled}
-use Rattle.laws.specs.Refusals.{given}
 use Rattle.laws.proofs.Bools.{neither}
 use Rattle.laws.proofs.Refusals.{Passed, passed, unrefused}
 use Rattle.usi.specs.declared.Usi.{Usi}
 use Rattle.arbitration_rules.specs.Limits.{max_masters}
-use Rattle.arbitration_rules.specs.Reply.{Request, lengths_of, messages_of, shape_checks}
+use Rattle.arbitration_rules.specs.Reply.{Request, messages_of}
 use Rattle.arbitration_rules.proofs.Cut.{messages-count}
 use Rattle.arbitration_rules.proofs.Pieces.{Bytes}
-use Rattle.arbitration_messages.specs.declared.Messages.{Messages}
-use Rattle.arbitration_messages.specs.Gathered.{gathered}
-use Rattle.arbitration_messages.proofs.Whole.{refusal_is, lengths-whole}
 use Rattle.night_rules.specs.Different.{round_of}
 use Rattle.night_rules.specs.Night.{Night, short_room, night_checks, night_refusal, night_for, rounds_counted, rounds_after}
 use Rattle.night_rules.specs.Night.{table_after}
@@ -51,14 +47,6 @@ module _ (request : Request) (rounds_room table_room : ℕ) where
           all.0,
           (all.1.0, (all.1.1.0, (all.1.1.1.0, (all.1.1.1.1.0, (all.1.1.1.1.1.0, (enough, tt)))))),
         ))
-
-    -- and the lengths gathered are those of the messages
-    pub gathered-lengths : (messages : Messages) → messages ≡ gathered request
-        → take messages.count messages.lengths ≡ lengths_of request
-    gathered-lengths messages is =
-        let shaped : (given (shape_checks request)).number ≡ 0 = rw (all-passed.0, all-passed.1.0) in
-        lengths-whole request messages is
-        (ap (λ (found : Refusal). found.number) (refusal_is request messages is) ∙ shaped)
 
   module _ (found : Refusal) (is : found ≡ night_refusal request rounds_room table_room) (modules : List Usi) where
     -- a refusal

@@ -3,4 +3,5 @@ pub mod Waiting
 pub mod Round
 pub mod Carried
 pub mod Rehearsal
+pub mod Admitted
 pub mod Lent

@@ -46,23 +46,27 @@ pub fn rehearse(
         (asked bytes.now parts.now counts.now acks.now)
         rounds_room table_room modules result }
 {
-    let refusal = refusals::refusal(bytes, parts, counts, acks, rounds_room, table_room);
-    if refusal.number != 0 {
-        return NightRun {
-            refusal,
-            count: 0,
-            rounds: [0u32; MAX_MASTERS],
-            modules,
-        };
-    }
-    let messages = arbitration_messages::gather(bytes, parts, counts);
+    let messages = match refusals::admitted(bytes, parts, counts, acks, rounds_room, table_room) {
+        Ok(messages) => messages,
+        Err(refusal) => {
+            return NightRun {
+                refusal,
+                count: 0,
+                rounds: [0u32; MAX_MASTERS],
+                modules,
+            };
+        }
+    };
     let lengths = messages.lengths;
     let count = messages.count;
     let ended = rounds::all_rounds(modules, bytes, parts, counts, acks, &lengths[..count]);
     let rounds = ended.rounds;
     let modules = ended.modules;
     NightRun {
-        refusal,
+        refusal: Refusal {
+            number: 0,
+            place: 0,
+        },
         count: ended.count as usize,
         rounds,
         modules,

@@ -1,33 +1,21 @@
 // The refusals of a night, in their order: 12, 13, 14, 15, 43, 16, 8.
 ghost use Rattle.std.specs.Prelude.{◌≡◌};
-ghost use Rattle.laws.specs.Refusals.{given, refused_at};
 ghost use Rattle.laws.specs.Search.{any};
 ghost use Rattle.arbitration_rules.specs.Reply.{asked, cut};
-ghost use Rattle.arbitration_messages.specs.Gathered.{passing};
-ghost use Rattle.night_rules.specs.Night.{form_checks, is_one, end_apart, night_refusal};
+ghost use Rattle.night_rules.specs.Night.{is_one, end_apart};
+ghost use Rattle.night.specs.Admitted.{formed, admitted};
 
-use laws::Refusal;
+use arbitration_messages::Messages;
+use laws::{Refusal, refused};
 
-// A refusal that has no place.
-fn refused(number: u8) -> Refusal
-    ensures { result ≡ refused_at number 0 }
+// The first of 12 to 15 that applies, as for one arbitration, else the messages.
+fn form(bytes: &[u8], parts: &[u32], counts: &[u32], acks: &[u8]) -> Result<Messages, Refusal>
+    ensures { result ≡ formed (asked bytes.now parts.now counts.now acks.now) }
 {
-    Refusal { number, place: 0 }
-}
-
-// The first of 12 to 15 that applies, as for one arbitration.
-fn form(bytes: &[u8], parts: &[u32], counts: &[u32], acks: &[u8]) -> Refusal
-    ensures { result
-        ≡ given
-        (form_checks
-        (asked bytes.now parts.now counts.now acks.now)) }
-{
-    let settled = arbitration_checks::settle(bytes, parts, counts, acks);
-    let found = settled.refusal;
-    if found.number == 16 {
-        return refused(0);
+    match arbitration_checks::settle(bytes, parts, counts, acks) {
+        Err(found) if found.number != 16 => Err(found),
+        _ => arbitration_messages::gather(bytes, parts, counts),
     }
-    found
 }
 
 // Some acknowledge is 1.
@@ -52,46 +40,35 @@ fn end_apart(sent: &[u16], lengths: &[u32], acks: &[u8]) -> bool
     false
 }
 
-// 16 of the messages gathered, of which there are none where 12 or 13 applies.
-fn messages_end_apart(bytes: &[u8], parts: &[u32], counts: &[u32], acks: &[u8]) -> bool
-    ensures { result
-        ≡ end_apart
-        (passing (asked bytes.now parts.now counts.now acks.now)) }
-{
-    let messages = arbitration_messages::gather(bytes, parts, counts);
-    let sent = messages.sent;
-    let size = messages.size;
-    let lengths = messages.lengths;
-    let count = messages.count;
-    end_apart(&sent[..size], &lengths[..count], acks)
-}
-
-// The first refusal that applies, or none.
-pub(crate) fn refusal(
+// The messages of a night, or the first refusal that applies.
+pub(crate) fn admitted(
     bytes: &[u8],
     parts: &[u32],
     counts: &[u32],
     acks: &[u8],
     rounds_room: usize,
     table_room: usize,
-) -> Refusal
+) -> Result<Messages, Refusal>
     ensures { result
-        ≡ night_refusal
+        ≡ admitted
         (asked bytes.now parts.now counts.now acks.now)
         rounds_room table_room }
 {
-    let found = form(bytes, parts, counts, acks);
-    if found.number != 0 {
-        return found;
-    }
+    let messages = form(bytes, parts, counts, acks)?;
+    let Messages {
+        sent,
+        size,
+        lengths,
+        count,
+    } = messages;
     if any_one(acks) {
-        return refused(43);
+        return refused(43, 0);
     }
-    if messages_end_apart(bytes, parts, counts, acks) {
-        return refused(16);
+    if end_apart(&sent[..size], &lengths[..count], acks) {
+        return refused(16, 0);
     }
     if (rounds_room < counts.len()) | (table_room < counts.len()) {
-        return refused(8);
+        return refused(8, 0);
     }
-    refused(0)
+    Ok(messages)
 }

@@ -8,6 +8,7 @@ ghost use Rattle.verdict.specs.Verdict.{contenders as contenders_of, decided, ve
 mod contenders; // contenders.rt: the boards that are still in, and whether their messages are the same
 mod messages; // messages.rt: where a message lies, two compared, and whether every byte is acknowledged
 
+use arbitration_messages::Messages;
 use arbitration_rules::{Arbitrated, MAX_MASTERS, Seat};
 
 // What a rehearsal says of a load.
@@ -60,11 +61,15 @@ pub fn judge(reply: Arbitrated, bytes: &[u8], parts: &[u32], counts: &[u32], ack
     if refusal.number != 0 {
         return Verdict::Refused(refusal.number);
     }
-    let messages = arbitration_messages::gather(bytes, parts, counts);
-    let sent = messages.sent;
-    let size = messages.size;
-    let lengths = messages.lengths;
-    let masters = messages.count;
+    let Ok(messages) = arbitration_messages::gather(bytes, parts, counts) else {
+        return Verdict::Undecided;
+    };
+    let Messages {
+        sent,
+        size,
+        lengths,
+        count,
+    } = messages;
     let seats = reply.seats;
-    decide(seats, reply.count, &sent[..size], &lengths[..masters], acks)
+    decide(seats, reply.count, &sent[..size], &lengths[..count], acks)
 }

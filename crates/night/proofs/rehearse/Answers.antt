@@ -1,56 +1,50 @@
 -- A refusal, or the rounds.
-use Prim.Native.Nat.{ℕ, ◌<◌}
-use mathlib.Core.Path.{sym, ap, ◌∙◌}
+use Rattle.std.proofs.Common.{refl, sym, ap, ◌∙◌}
 use native.Mathlib.Omega.{arith}
-use lib.ListN.{get_or}
 use lib.Seq.{length-take-le}
 use Rattle.laws.specs.declared.Refusal.{Refusal}
+use Rattle.laws.specs.Refusals.{none}
 use Rattle.arbitration_rules.specs.Reply.{asked}
-use Rattle.arbitration_messages.proofs.Whole.{count-within, apart}
+use Rattle.arbitration_messages.proofs.Whole.{count-within, lengths-whole}
 use Rattle.arbitration.proofs.Given.{bytes_below}
-use Rattle.night.proofs.Rehearsed.{any-room, gathered-lengths, refused-so, ran-so}
+use Rattle.night.proofs.Refused.{stops, runs}
+use Rattle.night.proofs.Rehearsed.{any-room, refused-so, ran-so}
 use Rattle.night.proofs.rehearse.Goals as goal
 
-pub returns-then-refusal-ne0 : goal.returns-then-refusal-ne0
-returns-then-refusal-ne0 c =
+pub returns-in-Err : goal.returns-in-Err
+returns-in-Err c =
     let a = c.args in
     let request = asked a.bytes.now a.parts.now a.counts.now a.acks.now in
-    let found = c.refusal-refusal in
-    refused-so request a.rounds_room a.table_room found.result found.ensures a.modules c.if-refusal-ne0.true
+    let found = stops request a.rounds_room a.table_room _ (sym c.admitted.ensures ∙ c.in-Err.is) in
+    refused-so request a.rounds_room a.table_room _ found.0 a.modules found.1
 
 pub slice_bounds-lengths-end : goal.slice_bounds-lengths-end
 slice_bounds-lengths-end c =
-    let got = c.gather-messages in
-    count-within _ got.result got.ensures
+    let a = c.args in
+    let request = asked a.bytes.now a.parts.now a.counts.now a.acks.now in
+    let ready = runs request a.rounds_room a.table_room _ (sym c.admitted.ensures ∙ c.in-Ok.is) in
+    count-within request _ ready.1
 
 pub slice_bounds-all_rounds-end : goal.slice_bounds-all_rounds-end
 slice_bounds-all_rounds-end c =
-    let got = c.gather-messages in
-    sym (length-take-le _ got.result.lengths (count-within _ got.result got.ensures))
+    let a = c.args in
+    let request = asked a.bytes.now a.parts.now a.counts.now a.acks.now in
+    let ready = runs request a.rounds_room a.table_room _ (sym c.admitted.ensures ∙ c.in-Ok.is) in
+    sym (length-take-le _ _ (count-within request _ ready.1))
 
 pub all_rounds-ended-requires : goal.all_rounds-ended-requires
 all_rounds-ended-requires c =
     let a = c.args in
     let request = asked a.bytes.now a.parts.now a.counts.now a.acks.now in
-    let found = c.refusal-refusal in
-    let got = c.gather-messages in
-    let is = got.ensures ∙ apart a.bytes.now a.parts.now a.counts.now a.acks.now in
-    let passes = ap (λ (one : Refusal). one.number) (sym found.ensures) ∙ c.if-refusal-ne0.false in (
-      any-room request a.rounds_room a.table_room passes,
-      gathered-lengths request a.rounds_room a.table_room passes got.result is,
-    )
+    let ready = runs request a.rounds_room a.table_room _ (sym c.admitted.ensures ∙ c.in-Ok.is) in
+    let passes = ap (λ (one : Refusal). one.number) (sym ready.0) in
+    (any-room request a.rounds_room a.table_room passes, lengths-whole request _ ready.1)
 
 pub returns : goal.returns
 returns c =
     let a = c.args in
     let request = asked a.bytes.now a.parts.now a.counts.now a.acks.now in
-    let below : (i : ℕ) → get_or a.bytes.now i 0 < 256 =
-    λ i. omega (
-      arith,
-      c.shared_slice_known-1.given i,
-    ) in
-    let small = bytes_below a.bytes.now below in
-    let found = c.refusal-refusal in
-    let ran = c.all_rounds-ended in
-    ran-so request a.rounds_room a.table_room found.result found.ensures a.modules small
-    c.if-refusal-ne0.false ran.result ran.ensures
+    let small = bytes_below a.bytes.now (λ i. omega (arith, c.type_inv.bytes i)) in
+    let ready = runs request a.rounds_room a.table_room _ (sym c.admitted.ensures ∙ c.in-Ok.is) in
+    ran-so request a.rounds_room a.table_room none ready.0 a.modules small refl c.all_rounds-ended.result
+    c.all_rounds-ended.ensures

@@ -1,7 +1,7 @@
 -- Each return is one of the cases of Contract.antt.
 use Prim.Native.Nat.{◌≤◌}
 use native.Mathlib.Omega.{arith}
-use mathlib.Core.Path.{◌≡◌, refl, ap, ◌∙◌}
+use mathlib.Core.Path.{◌≡◌, refl, sym, ◌∙◌}
 use mathlib.Core.Bool.{false, true, ◌||◌, or-true}
 use lib.Dec.{ltb}
 use lib.ListN.{length, replicate}
@@ -9,8 +9,7 @@ use borrow.Author.Tests.{ltb-false}
 use Rattle.laws.proofs.Bools.{neither}
 use Rattle.arbitration_rules.specs.Reply.{asked}
 use Rattle.arbitration_rules.proofs.Pieces.{Bytes}
-use Rattle.arbitration_checks.specs.declared.Settled.{Settled}
-use Rattle.arbitration.proofs.Given.{found, bytes_below, settled-some, settled-none}
+use Rattle.arbitration.proofs.Given.{bytes_below, settled-some, settled-none}
 use Rattle.usi.specs.Module.{power_up}
 use Rattle.arbitration_rules.specs.Limits.{max_masters}
 use Rattle.arbitration.specs.Shown.{Arbitrates}
@@ -31,16 +30,11 @@ refused-requires c =
       modules = a.modules.now;
       seats = a.seats.now;
     } in
-    let stopped : c.settle-settled.result.refusal
-    ≡ found (lent_at).request =
-    let settled = c.settle-settled in
-    let lent = lent_at in
-    ap (λ (s : Settled). s.refusal) settled.ensures
-    ∙ settled-some lent.request (rw settled.ensures at c.if-found-ne0.true) in
-    rw (stopped) (found-placed (lent_at))
+    let stopped = settled-some lent_at.request _ (sym c.settle.ensures ∙ c.in-Err.is) in
+    rw (← stopped.0) (found-placed lent_at)
 
-pub returns-then-found-ne0 : goal.returns-then-found-ne0
-returns-then-found-ne0 c =
+pub returns-in-Err : goal.returns-in-Err
+returns-in-Err c =
     let lent_at : Lent =
     let a = c.args in
     record {
@@ -50,17 +44,11 @@ returns-then-found-ne0 c =
       modules = a.modules.now;
       seats = a.seats.now;
     } in
-    let stopped : c.settle-settled.result.refusal
-    ≡ found (lent_at).request =
-    let settled = c.settle-settled in
-    let lent = lent_at in
-    ap (λ (s : Settled). s.refusal) settled.ensures
-    ∙ settled-some lent.request (rw settled.ensures at c.if-found-ne0.true) in
-    refused-before (lent_at) c.refused.result
-    (rw (stopped) at c.if-found-ne0.true) (rw (stopped) at c.refused.ensures)
+    let stopped = settled-some lent_at.request _ (sym c.settle.ensures ∙ c.in-Err.is) in
+    refused-before lent_at c.refused.result (rw stopped.0 stopped.1) (rw stopped.0 c.refused.ensures)
 
-pub returns-then-modules-masters : goal.returns-then-modules-masters
-returns-then-modules-masters c =
+pub returns-in-Ok : goal.returns-in-Ok
+returns-in-Ok c =
     let lent_at : Lent =
     let a = c.args in
     record {
@@ -70,15 +58,13 @@ returns-then-modules-masters c =
       modules = a.modules.now;
       seats = a.seats.now;
     } in
-    let settled = c.settle-settled in
-    let lent = lent_at in
-    let passes = (settled-none lent.request (rw settled.ensures at c.if-found-ne0.false)).0 in
-    let tables : short_table lent ≡ true = c.if-modules-masters.true in
-    let tight : short lent || short_table lent ≡ true = rw tables (or-true (short lent)) in
-    refused-short lent 8 passes tight refl
+    let passes = (settled-none lent_at.request _ (sym c.settle.ensures ∙ c.in-Ok.is)).0 in
+    let tables : short_table lent_at ≡ true = c.if-modules-masters.true in
+    let tight : short lent_at || short_table lent_at ≡ true = rw tables (or-true (short lent_at)) in
+    refused-short lent_at 8 passes tight refl
 
-pub refused-requires-then-found-ne0-2 : goal.refused-requires-then-found-ne0-2
-refused-requires-then-found-ne0-2 c =
+pub refused-requires-then-found-ne0 : goal.refused-requires-then-found-ne0
+refused-requires-then-found-ne0 c =
     let lent_at : Lent =
     let a = c.args in
     record {
@@ -111,10 +97,10 @@ refused-requires-then-found-ne0-2 c =
     rw c.power_up-table.ensures at c.rehearse-done.ensures in
     let replied : c.rehearse-done.result.reply ≡ library_reply (lent_again) (small_again) (roomy) =
     (promise).replies in
-    refused-place (lent_again) (small_again) (roomy) c.rehearse-done.result.reply (replied) c.if-found-ne0-2.true
+    refused-place (lent_again) (small_again) (roomy) c.rehearse-done.result.reply (replied) c.if-found-ne0.true
 
-pub returns-then-found-ne0-2 : goal.returns-then-found-ne0-2
-returns-then-found-ne0-2 c =
+pub returns-then-found-ne0 : goal.returns-then-found-ne0
+returns-then-found-ne0 c =
     let lent_at : Lent =
     let a = c.args in
     record {
@@ -149,7 +135,7 @@ returns-then-found-ne0-2 c =
     (promise).replies in
     let done = promise in
     refused-by-library (lent_again) (small_again) (roomy) c.rehearse-done.result.reply
-    c.refused-then-found-ne0-2.result _ _ (replied) c.if-found-ne0-2.true c.refused-then-found-ne0-2.ensures done.carried
+    c.refused-then-found-ne0.result _ _ (replied) c.if-found-ne0.true c.refused-then-found-ne0.ensures done.carried
     done.recorded
 
 pub put_modules-requires : goal.put_modules-requires
@@ -192,7 +178,7 @@ put_modules-requires c =
     let masters = length lent.request.counts in
     let two = neither (ltb (length lent.modules) masters) (ltb (length lent.seats) masters) (roomy) in
     (ltb-false (length lent.modules) masters two.0, ltb-false (length lent.seats) masters two.1) in (
-      masters-few (lent_again) (small_again) (roomy) c.rehearse-done.result.reply (replied) c.if-found-ne0-2.false,
+      masters-few (lent_again) (small_again) (roomy) c.rehearse-done.result.reply (replied) c.if-found-ne0.false,
       (long-enough).0,
     )
 
@@ -236,7 +222,7 @@ put_seats-requires c =
     let masters = length lent.request.counts in
     let two = neither (ltb (length lent.modules) masters) (ltb (length lent.seats) masters) (roomy) in
     (ltb-false (length lent.modules) masters two.0, ltb-false (length lent.seats) masters two.1) in (
-      masters-few (lent_again) (small_again) (roomy) c.rehearse-done.result.reply (replied) c.if-found-ne0-2.false,
+      masters-few (lent_again) (small_again) (roomy) c.rehearse-done.result.reply (replied) c.if-found-ne0.false,
       (long-enough).1,
     )
 
@@ -274,7 +260,7 @@ reply-requires c =
     rw c.power_up-table.ensures at c.rehearse-done.ensures in
     let replied : c.rehearse-done.result.reply ≡ library_reply (lent_again) (small_again) (roomy) =
     (promise).replies in
-    answered-small (lent_again) (small_again) (roomy) c.rehearse-done.result.reply (replied) c.if-found-ne0-2.false
+    answered-small (lent_again) (small_again) (roomy) c.rehearse-done.result.reply (replied) c.if-found-ne0.false
 
 pub returns : goal.returns
 returns c =
@@ -312,5 +298,5 @@ returns c =
     (promise).replies in
     let done = promise in
     answered-by-library (lent_again) (small_again) (roomy) c.rehearse-done.result.reply c.reply.result
-    c.rehearse-done.result.modules _ _ _ _ (replied) c.if-found-ne0-2.false c.reply.ensures done.stepped
+    c.rehearse-done.result.modules _ _ _ _ (replied) c.if-found-ne0.false c.reply.ensures done.stepped
     done.carried done.recorded c.put_modules.ensures c.put_seats.ensures done.follows

@@ -1,27 +1,25 @@
--- What settle refuses, without 16.
-use mathlib.Core.Path.{◌≡◌, sym, ap, ◌∙◌}
-use Rattle.laws.specs.declared.Refusal.{Refusal}
-use Rattle.laws.specs.Refusals.{given}
-use Rattle.arbitration_checks.specs.declared.Settled.{Settled}
-use Rattle.arbitration_rules.specs.Reply.{Request, asked, request_checks}
-use Rattle.night.proofs.Refused.{settled_is, form-none, form-is}
+-- What settle refuses, without 16, or the messages.
+use Rattle.std.proofs.Common.{sym, ◌∙◌}
+use Rattle.arbitration_rules.specs.Reply.{asked}
+use Rattle.arbitration_messages.proofs.Whole.{apart}
+use Rattle.night.proofs.Refused.{form-none, form-is, form-passed}
 use Rattle.night.proofs.refusals.form.Goals as goal
+use Rattle.night.proofs.refusals.form.Goals.{in_default-via-in-Err+else-found-ne16, in_default-via-in_default}
 
-pub returns-then-found-eq16 : goal.returns-then-found-eq16
-returns-then-found-eq16 c =
-    let request : Request =
+pub returns-in-Err : goal.returns-in-Err
+returns-in-Err c =
     let a = c.args in
-    asked a.bytes.now a.parts.now a.counts.now a.acks.now in
-    let found : c.settle-settled.result.refusal ≡ given (request_checks (request)) =
-    ap (λ (settled : Settled). settled.refusal) c.settle-settled.ensures ∙ settled_is (request) in
-    c.refused.ensures
-    ∙ form-none (request) (ap (λ (r : Refusal). r.number) (sym (found)) ∙ c.if-found-eq16.true)
+    let request = asked a.bytes.now a.parts.now a.counts.now a.acks.now in
+    form-is request _ (sym c.settle.ensures ∙ c.in-Err.is) c.if-found-ne16.true
 
-pub returns : goal.returns
-returns c =
-    let request : Request =
+pub returns-in_default : goal.returns-in_default
+returns-in_default c =
     let a = c.args in
-    asked a.bytes.now a.parts.now a.counts.now a.acks.now in
-    let found : c.settle-settled.result.refusal ≡ given (request_checks (request)) =
-    ap (λ (settled : Settled). settled.refusal) c.settle-settled.ensures ∙ settled_is (request) in
-    found ∙ form-is (request) (λ e. c.if-found-eq16.false (ap (λ (r : Refusal). r.number) (found) ∙ e))
+    let request = asked a.bytes.now a.parts.now a.counts.now a.acks.now in
+    c.gather.ensures
+    ∙ apart a.bytes.now a.parts.now a.counts.now a.acks.now
+    ∙ elim c.in_default.branch [
+      | in_default-via-in-Err+else-found-ne16 w ↦
+          form-none request _ (sym c.settle.ensures ∙ w.in-Err.is) w.if-found-ne16.false
+      | in_default-via-in_default w ↦ form-passed request _ (sym c.settle.ensures ∙ w.in_default.is)
+    ]
