@@ -2,7 +2,7 @@
 use crate::forms;
 use arbitration_rules::MAX_LENGTH;
 use check::same;
-use load_text::{Byte, acknowledge_in, byte_in, short_byte_in};
+use load_text::{acknowledge_in, byte_in, short_byte_in};
 use rig_lines::numbers::{least, more};
 use text::{after_word, first_word, put_byte};
 
@@ -14,7 +14,7 @@ pub(crate) enum Kind {
     Ack,
 }
 
-fn read(kind: Kind, word: &[u8]) -> Byte {
+fn read(kind: Kind, word: &[u8]) -> Option<u8> {
     match kind {
         Kind::Byte => byte_in(word),
         Kind::Short => short_byte_in(word),
@@ -23,11 +23,7 @@ fn read(kind: Kind, word: &[u8]) -> Byte {
 }
 
 fn is_read(kind: Kind, word: &[u8]) -> bool {
-    if let Byte::Of(_) = read(kind, word) {
-        true
-    } else {
-        false
-    }
+    read(kind, word).is_some()
 }
 
 // A word after `/` is a byte, or is found to be none later.
@@ -48,10 +44,7 @@ fn suits(kind: Kind, words: &[u8], is_first: bool) -> bool {
 }
 
 fn value(kind: Kind, word: &[u8]) -> u8 {
-    match read(kind, word) {
-        Byte::Of(b) => b,
-        Byte::No => 0,
-    }
+    read(kind, word).unwrap_or(0)
 }
 
 // `-` stands for no bytes, or for standard input.
