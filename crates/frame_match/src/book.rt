@@ -6,7 +6,6 @@ ghost use Rattle.frame_match.specs.Book.{number_at, kept, put, is_load, is_rehea
 
 use super::{FIELDS, FROM, KIND, LOAD, MET, STATE, TO, WAITS};
 use crate::frames::span;
-use event_match::Difference;
 
 // No number that is kept is above it.
 const LARGEST: usize = 4294967295;
@@ -105,10 +104,7 @@ pub(crate) fn is_a(book: &[u32], row: usize, sought: Sought) -> bool
 fn is_same(events: &[u16], others: &[u16]) -> bool
     ensures { result ≡ same events.now others.now }
 {
-    match event_match::compare(events, others) {
-        Difference::Equal => true,
-        _ => false,
-    }
+    event_match::compare(events, others).is_none()
 }
 
 // The frame is that of a row: the message of a board, or the frame that was rehearsed.

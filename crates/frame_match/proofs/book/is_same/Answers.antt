@@ -1,10 +1,8 @@
--- `compare` answers Equal where the lists are the same, and there only.
-use mathlib.Core.Path.{sym, ◌∙◌}
-use Rattle.frame_match.proofs.Matching.{equal-same, unequal-same}
+-- `compare` finds no difference where the lists are the same, and there only.
+use mathlib.Core.Path.{sym, ap, ◌∙◌}
+use Rattle.std.specs.Option.{is_some}
+use Rattle.frame_match.proofs.Matching.{none-same}
 use Rattle.frame_match.proofs.book.is_same.Goals as goal
 
-pub returns-in-Equal : goal.returns-in-Equal
-returns-in-Equal c = equal-same _ _ (sym c.compare.ensures ∙ c.in-Equal.is)
-
-pub returns-in_default : goal.returns-in_default
-returns-in_default c = unequal-same _ _ _ _ _ (sym c.compare.ensures ∙ c.in_default.is)
+pub returns : goal.returns
+returns c = none-same _ _ _ (ap is_some (sym c.compare.ensures) ∙ c.is_none.ensures)
