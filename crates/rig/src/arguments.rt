@@ -2,11 +2,12 @@
 use crate::lines::say;
 use check::same;
 use phases::Mode;
-use rig_lines::arguments::{Found, count, find, word};
+use rig_lines::arguments::{count, find, word};
 use rig_lines::console::PAGE;
 use rig_lines::lists::{line_of, place_of};
 use rig_lines::numbers::{is_number, value};
 use rig_lines::options::is_option;
+use std::env::FillError;
 use std::rt::Env;
 
 // The commands by their place in the list of names.
@@ -156,8 +157,8 @@ impl Arguments {
     fn with_argument<E: Env>(self, env: &E, argument: usize) -> Arguments {
         let mut space = io::buffer();
         match find(env, argument, &mut space) {
-            Found::Word(n) => self.with_word(argument, &space[..n]),
-            _ => self.failed(TOO_LONG, argument),
+            Ok(n) => self.with_word(argument, &space[..n]),
+            Err(_) => self.failed(TOO_LONG, argument),
         }
     }
 
@@ -217,9 +218,9 @@ fn begun<E: Env>(env: &E) -> Arguments {
     let none = Arguments::none(0);
     let mut space = io::buffer();
     match find(env, 1, &mut space) {
-        Found::Word(n) => of_command(&space[..n]),
-        Found::TooLong => none.failed(TOO_LONG, 1),
-        Found::Missing => none.failed(NO_COMMAND, 0),
+        Ok(n) => of_command(&space[..n]),
+        Err(FillError::TooLong) => none.failed(TOO_LONG, 1),
+        Err(FillError::NotPresent) => none.failed(NO_COMMAND, 0),
     }
 }
 

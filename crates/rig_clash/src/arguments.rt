@@ -2,10 +2,11 @@
 use crate::problem::Problem;
 use crate::words::is_dash;
 use crate::{forms, problem};
-use rig_lines::arguments::{Found, count, find, word};
+use rig_lines::arguments::{count, find, word};
 use rig_lines::lists::place_of;
 use rig_lines::numbers::{is_number, value};
 use rig_lines::options::is_option;
+use std::env::FillError;
 use std::rt::Env;
 
 // The places of the options in their list; those from the first that takes the next word on take it.
@@ -217,8 +218,8 @@ impl Arguments {
     fn with_argument<E: Env>(self, env: &E, argument: usize) -> Arguments {
         let mut space = io::buffer();
         match find(env, argument, &mut space) {
-            Found::Word(n) => self.with_word(argument, &space[..n]),
-            _ => self.trouble(forms::LONG_ARGUMENT, b""),
+            Ok(n) => self.with_word(argument, &space[..n]),
+            Err(_) => self.trouble(forms::LONG_ARGUMENT, b""),
         }
     }
 
@@ -309,9 +310,9 @@ fn passed_by(word: &[u8]) -> usize {
 fn passed<E: Env>(env: &E, argument: usize) -> usize {
     let mut space = io::buffer();
     match find(env, argument, &mut space) {
-        Found::Word(n) => passed_by(&space[..n]),
-        Found::TooLong => 0,
-        Found::Missing => usize::MAX,
+        Ok(n) => passed_by(&space[..n]),
+        Err(FillError::TooLong) => 0,
+        Err(FillError::NotPresent) => usize::MAX,
     }
 }
 
