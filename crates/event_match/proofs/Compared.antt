@@ -6,11 +6,11 @@ use mathlib.Core.List.{List}
 use lib.Dec.{eqb}
 use lib.ListN.{length, take}
 use borrow.Author.Tests.{eq-eqb, eqb-true}
+use Rattle.std.specs.Prelude.{Some, None}
 use Rattle.laws.specs.Same.{same}
 use Rattle.laws.proofs.Bools.{both}
 use Rattle.event_match.specs.declared.Part.{Part}
-use Rattle.event_match.specs.declared.Difference.TheVariants.{Equal, At}
-use Rattle.event_match.specs.Match.{agreed, byte_from, part_at, compared}
+use Rattle.event_match.specs.Match.{agreed, byte_from, part_at, difference_at, compared}
 use Rattle.event_match.proofs.Agreeing.{ends_same, same_ends}
 
 module _ (rehearsed seen : List ℕ) (index : ℕ) (is : index ≡ agreed rehearsed seen) where
@@ -34,11 +34,11 @@ module _ (rehearsed seen : List ℕ) (index : ℕ) (is : index ≡ agreed rehear
           let second : eqb index (length seen) ≡ true = eq-eqb index (length seen) (is ∙ ends.1) in
           absurd (false≢true (rw (first, second) at (sym goes-on)))
 
-  pub compared-equal : ended ≡ true → Equal ≡ compared rehearsed seen
+  pub compared-equal : ended ≡ true → None ≡ compared rehearsed seen
   unfolding compared
   compared-equal ends = rw (ended_same ends)
 
   pub compared_at : (byte : ℕ) (part : Part) → ended ≡ false → byte ≡ byte_from 0 (take index rehearsed)
-      → part ≡ part_at rehearsed seen index → At index byte part ≡ compared rehearsed seen
+      → part ≡ part_at rehearsed seen index → Some (difference_at index byte part) ≡ compared rehearsed seen
   unfolding compared
   compared_at byte part goes-on byte-is part-is = rw (not_same goes-on, byte-is, part-is, is)

@@ -1,12 +1,14 @@
 -- What compare's answer says of the two lists.
 use Prim.Native.Nat.{ℕ, ◌/◌, ◌%◌, ◌≤◌, ◌<◌}
 use native.Mathlib.Omega.{arith}
-use mathlib.Core.Path.{◌≡◌, refl, sym, ◌∙◌}
+use mathlib.Core.Path.{◌≡◌, refl, sym, ap, ◌∙◌}
 use mathlib.Core.Bool.{Bool, true, false, cond, ◌&&◌}
 use mathlib.Core.List.{List}
 use lib.Dec.{ltb}
 use lib.ListN.{length, get_or, take}
 use borrow.Author.Tests.{ltb-true}
+use Rattle.std.specs.Prelude.{Option, Some, None}
+use Rattle.std.proofs.lemmas.Option.{none-some, same_Some}
 use Rattle.laws.specs.Same.{same}
 use Rattle.laws.proofs.Bools.{both}
 use Rattle.laws.proofs.Same.{same_self, same-equal}
@@ -14,26 +16,21 @@ use Rattle.trace.specs.Events.{is_byte}
 use Rattle.event_match.specs.declared.Part.{Part}
 use Rattle.event_match.specs.declared.Part.TheVariants.{Other, Bit, Acknowledge}
 use Rattle.event_match.specs.declared.Difference.{Difference}
-use Rattle.event_match.specs.declared.Difference.TheVariants.{Equal, At}
-use Rattle.event_match.specs.Match.{agreed, byte_from, first_bit, part_of, part_at, compared}
+use Rattle.event_match.specs.Match.{agreed, byte_from, first_bit, part_of, part_at, difference_at, compared}
 use Rattle.event_match.proofs.Agreeing.{agreed-within, agreed-before, agreed-differ, agreed-all}
 use Rattle.event_match.proofs.Places.{FirstBit, first-bit, no-bit}
 
 -- ---- equal exactly when the lists are
-told : (equal : Bool) (difference : Difference) → (difference ≡ Equal → ⊥) → cond equal Equal difference ≡ Equal
-    → equal ≡ true
-told true difference other reply = refl
-told false difference other reply = absurd (other reply)
+told : (equal : Bool) (difference : Difference) → cond equal None (Some difference) ≡ None → equal ≡ true
+told true difference reply = refl
+told false difference reply = absurd (none-some difference (sym reply))
 
-never-equal : (index byte : ℕ) (part : Part) → At index byte part ≡ Equal → ⊥
-never-equal index byte part reply = let never : ◌≡◌ {A = ℕ} 0 1 = cc in omega arith
-
-pub equal-lists : (rehearsed seen : List ℕ) → compared rehearsed seen ≡ Equal → rehearsed ≡ seen
+pub equal-lists : (rehearsed seen : List ℕ) → compared rehearsed seen ≡ None → rehearsed ≡ seen
 unfolding compared
 equal-lists rehearsed seen reply =
-    same-equal rehearsed seen (told (same rehearsed seen) _ (never-equal _ _ _) reply)
+    same-equal rehearsed seen (told (same rehearsed seen) _ reply)
 
-pub lists-equal : (list : List ℕ) → compared list list ≡ Equal
+pub lists-equal : (list : List ℕ) → compared list list ≡ None
 unfolding compared
 lists-equal list = rw (same_self list)
 
@@ -50,13 +47,15 @@ pub record Differs (rehearsed seen : List ℕ) (index byte : ℕ) (part : Part) 
   pub part-is : part ≡ part_at rehearsed seen index
 
 parts-of : (equal : Bool) (at-index at_byte index byte : ℕ) (at_part part : Part)
-    → cond equal Equal (At at-index at_byte at_part) ≡ At index byte part
+    → cond equal None (Some (difference_at at-index at_byte at_part)) ≡ Some (difference_at index byte part)
     → (equal ≡ false) × (at-index ≡ index) × (at_byte ≡ byte) × (at_part ≡ part)
-parts-of false at-index at_byte index byte at_part part reply = (refl, cc, cc, cc)
-parts-of true at-index at_byte index byte at_part part reply = absurd (never-equal index byte part (sym reply))
+parts-of false at-index at_byte index byte at_part part reply =
+    let same = same_Some _ _ reply in
+    (refl, ap (λ (d : Difference). d.index) same, ap (λ (d : Difference). d.byte) same, ap (λ (d : Difference). d.part) same)
+parts-of true at-index at_byte index byte at_part part reply = absurd (none-some (difference_at index byte part) reply)
 
 pub differs : (rehearsed seen : List ℕ) (index byte : ℕ) (part : Part)
-    → compared rehearsed seen ≡ At index byte part → Differs rehearsed seen index byte part
+    → compared rehearsed seen ≡ Some (difference_at index byte part) → Differs rehearsed seen index byte part
 unfolding compared
 differs rehearsed seen index byte part reply =
     let found = parts-of (same rehearsed seen) _ _ index byte _ part reply in
@@ -110,7 +109,7 @@ module _ (rehearsed seen : List ℕ) (index : ℕ) (part : Part) (some : part �
 
 module _ (rehearsed seen : List ℕ) (index byte : ℕ) where
   -- a bit: it differs, and every higher one of the eight is the same
-  pub bit-is-first : (position : ℕ) → compared rehearsed seen ≡ At index byte (Bit position)
+  pub bit-is-first : (position : ℕ) → compared rehearsed seen ≡ Some (difference_at index byte (Bit position))
       → FirstBit 8 (get_or rehearsed index 0) (get_or seen index 0) position
   bit-is-first position reply =
       let found = differs rehearsed seen index byte (Bit position) reply in
@@ -121,7 +120,7 @@ module _ (rehearsed seen : List ℕ) (index byte : ℕ) where
       never e = let no : ◌≡◌ {A = ℕ} 0 1 = cc in omega arith
 
   -- the acknowledge: the same byte, acknowledged in one list and not in the other
-  pub acknowledge-differs : compared rehearsed seen ≡ At index byte Acknowledge
+  pub acknowledge-differs : compared rehearsed seen ≡ Some (difference_at index byte Acknowledge)
       → (get_or rehearsed index 0 % 256 ≡ get_or seen index 0 % 256)
       × (get_or rehearsed index 0 / 256 ≡ get_or seen index 0 / 256 → ⊥)
   acknowledge-differs reply =

@@ -1,12 +1,12 @@
 -- The first difference of two lists of events: what was rehearsed, and what was seen (ours).
 use Rattle.std.specs.Prelude.{ℕ, zero, suc, cond, ◌&&◌, List, [], ◌∷◌, eqb, ltb, length, get_or, take}
+use Rattle.std.specs.Prelude.{Option, Some, None}
 use Rattle.bits.specs.Positions.{digit}
 use Rattle.laws.specs.Same.{same}
 use Rattle.trace.specs.Events.{is_byte, start_event}
 use Rattle.event_match.specs.declared.Part.{Part}
 use Rattle.event_match.specs.declared.Part.TheVariants.{Other, Bit, Acknowledge}
 use Rattle.event_match.specs.declared.Difference.{Difference}
-use Rattle.event_match.specs.declared.Difference.TheVariants.{Equal, At}
 
 -- how many events both begin with
 abbrev pub agreed : List ℕ → List ℕ → ℕ
@@ -39,8 +39,13 @@ part_at rehearsed seen index =
     cond (ltb index (length rehearsed) && ltb index (length seen))
     (part_of (get_or rehearsed index 0) (get_or seen index 0)) Other
 
+-- a difference at an event, a byte and a part
+abbrev pub difference_at : ℕ → ℕ → Part → Difference
+difference_at index byte part = record { index = index; byte = byte; part = part }
+
 -- the lists are the same, or they differ at the first event that one has and the other has not
-unfoldable pub compared : List ℕ → List ℕ → Difference
+unfoldable pub compared : List ℕ → List ℕ → Option Difference
 compared rehearsed seen =
     let index = agreed rehearsed seen in
-    cond (same rehearsed seen) Equal (At index (byte_from 0 (take index rehearsed)) (part_at rehearsed seen index))
+    cond (same rehearsed seen) None
+    (Some (difference_at index (byte_from 0 (take index rehearsed)) (part_at rehearsed seen index)))

@@ -17,27 +17,24 @@ pub enum Part {
 
 // The first difference: the index of the event, which byte of its message it is or comes before, and its part.
 #[derive(Clone, Copy)]
-pub enum Difference {
-    Equal,
-    At {
-        index: usize,
-        byte: usize,
-        part: Part,
-    },
+pub struct Difference {
+    pub index: usize,
+    pub byte: usize,
+    pub part: Part,
 }
 
-// The first difference of two lists of events, as decode gives them.
-pub fn compare(rehearsed: &[u16], seen: &[u16]) -> Difference
+// The first difference of two lists of events, as decode gives them; none where they are equal.
+pub fn compare(rehearsed: &[u16], seen: &[u16]) -> Option<Difference>
     ensures { result ≡ compared rehearsed.now seen.now }
 {
     let index = lists::agreed(rehearsed, seen);
     if (index == rehearsed.len()) & (index == seen.len()) {
-        return Difference::Equal;
+        return None;
     }
     let byte = lists::byte_at(&rehearsed[..index]);
-    Difference::At {
+    Some(Difference {
         index,
         byte,
         part: parts::part_at(rehearsed, seen, index),
-    }
+    })
 }

@@ -7,7 +7,7 @@ use native.Mathlib.Omega.{arith}
 use borrow.Author.Tests.{eq-eqb, ne_eqb, ltb-true, ltb-false}
 use lib.Dec.{eqb, ltb}
 use lib.ListN.{length, take, drop}
-use Rattle.std.specs.Prelude.{Some, None}
+use Rattle.std.specs.Prelude.{Option, Some, None}
 use Rattle.std.specs.List.{position, position_or_len}
 use Rattle.std.proofs.lemmas.List.Recursion.{is_position_or_len}
 use Rattle.std.proofs.lemmas.Option.{cond_some, none-some}
@@ -16,8 +16,6 @@ use Rattle.laws.proofs.Search.{first-within}
 use Rattle.text.specs.declared.numbers.Number.{Number}
 use Rattle.text.specs.Numbers.{number_in}
 use Rattle.text.proofs.Runs.{to_end}
-use Rattle.load_text.specs.declared.words.Parts.{Parts}
-use Rattle.load_text.specs.declared.words.Parts.TheVariants as parts
 use Rattle.load_text.specs.Words.{slash, parts_from, parts_in}
 
 -- where the first slash stands, as the library says it
@@ -34,7 +32,7 @@ module _ (word : List ℕ) where
       let less = ltb-true (position_or_len slash word) (length word) two.0 in
       (sym two.1 ∙ sym first-is, omega (arith, less, two.1))
 
-  pub no-slash : None ≡ position slash word → parts.No ≡ parts_in word
+  pub no-slash : None ≡ position slash word → None ≡ parts_in word
   unfolding parts_in
   no-slash is = rw (eq-eqb (first slash word) (length word) (go (ltb (position_or_len slash word) (length word)) refl is))
     where
@@ -44,7 +42,7 @@ module _ (word : List ℕ) where
       go false so none =
           omega (arith, first-is, first-within slash word, ltb-false (position_or_len slash word) (length word) so)
 
-pub parts-found : (word : List ℕ) (end : ℕ) (one other : Number) (r : Parts)
+pub parts-found : (word : List ℕ) (end : ℕ) (one other : Number) (r : Option (ℕ × ℕ))
     → Some end ≡ position slash word
     → one ≡ number_in 10 (take end word)
     → other ≡ number_in 10 (take (length word - (end + 1)) (drop (end + 1) word))

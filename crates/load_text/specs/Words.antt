@@ -1,41 +1,38 @@
 -- What the words of a file of loads say.
 use Rattle.std.specs.Prelude.{Bool, false, cond, not, ◌&&◌, ◌||◌, List, ℕ, ◌+◌, eqb, leb, ltb, length, get_or, take, drop}
+use Rattle.std.specs.Prelude.{Option, Some, None}
 use Rattle.laws.specs.Search.{first}
 use Rattle.text.specs.declared.numbers.Number.{Number}
 use Rattle.text.specs.Numbers.{number_in, between}
 use Rattle.rig_lines.specs.Numbers.{value_in, says_number}
-use Rattle.load_text.specs.declared.words.Byte.{Byte}
-use Rattle.load_text.specs.declared.words.Byte.TheVariants as byte
-use Rattle.load_text.specs.declared.words.Parts.{Parts}
-use Rattle.load_text.specs.declared.words.Parts.TheVariants as parts
 
 -- a number up to 255
-unfoldable pub small_in : Number → Byte
-small_in number = cond (ltb 255 (value_in number)) byte.No (byte.Of (value_in number))
+unfoldable pub small_in : Number → Option ℕ
+small_in number = cond (ltb 255 (value_in number)) None (Some (value_in number))
 
 -- a byte of a board: exactly two hexadecimal digits; in the old form one or two
-unfoldable pub byte_in : List ℕ → Byte
-byte_in word = cond (eqb (length word) 2) (small_in (number_in 16 word)) byte.No
+unfoldable pub byte_in : List ℕ → Option ℕ
+byte_in word = cond (eqb (length word) 2) (small_in (number_in 16 word)) None
 
-unfoldable pub short_byte_in : List ℕ → Byte
-short_byte_in word = cond (ltb 2 (length word)) byte.No (small_in (number_in 16 word))
+unfoldable pub short_byte_in : List ℕ → Option ℕ
+short_byte_in word = cond (ltb 2 (length word)) None (small_in (number_in 16 word))
 
 -- an acknowledge: a decimal number up to 255
-unfoldable pub acknowledge_in : List ℕ → Byte
+unfoldable pub acknowledge_in : List ℕ → Option ℕ
 acknowledge_in word = small_in (number_in 10 word)
 
 -- N/M: two decimal numbers with a `/` between
 abbrev pub slash : ℕ → Bool
 slash b = eqb b 47
 
-unfoldable pub parts_from : Number → Number → Parts
+unfoldable pub parts_from : Number → Number → Option (ℕ × ℕ)
 parts_from one other =
-    cond (says_number one && says_number other) (parts.Of (value_in one) (value_in other)) parts.No
+    cond (says_number one && says_number other) (Some (value_in one, value_in other)) None
 
-unfoldable pub parts_in : List ℕ → Parts
+unfoldable pub parts_in : List ℕ → Option (ℕ × ℕ)
 parts_in word =
     let end = first slash word in
-    cond (eqb end (length word)) parts.No
+    cond (eqb end (length word)) None
     (parts_from (number_in 10 (take end word)) (number_in 10 (drop (end + 1) word)))
 
 abbrev pub letter : ℕ → Bool

@@ -10,6 +10,6 @@ pub use boards::{board_of, master_of};
 pub use messages::{gather, gather_lengths, message_in};
 pub use parts::{count_parts, gather_counts, gather_parts};
 pub use words::{
-    BOARD_NAME, Byte, LOAD_NAME, Parts, acknowledge_in, byte_in, is_board_name, is_load_name,
-    parts_in, short_byte_in,
+    BOARD_NAME, LOAD_NAME, acknowledge_in, byte_in, is_board_name, is_load_name, parts_in,
+    short_byte_in,
 };

@@ -11,52 +11,35 @@ pub const BOARD_NAME: usize = 16;
 
 pub const LOAD_NAME: usize = 32;
 
-// A word that says a number up to 255, or none.
-#[derive(Clone, Copy)]
-pub enum Byte {
-    Of(u8),
-    No,
-}
-
-// A word that says two numbers, or none.
-#[derive(Clone, Copy)]
-pub enum Parts {
-    Of(u64, u64),
-    No,
-}
-
-fn small(number: Number) -> Byte
+// A number up to 255.
+fn small(number: Number) -> Option<u8>
     ensures { result ≡ small_in number }
 {
-    let n = value(number);
-    if n > 255 {
-        return Byte::No;
-    }
-    Byte::Of(n as u8)
+    u8::try_from(value(number)).ok()
 }
 
 // A byte of a board: two hexadecimal digits.
-pub fn byte_in(word: &[u8]) -> Byte
+pub fn byte_in(word: &[u8]) -> Option<u8>
     ensures { result ≡ byte_in word.now }
 {
     if word.len() != 2 {
-        return Byte::No;
+        return None;
     }
     small(text::hex(word))
 }
 
 // The same in the old form: one or two.
-pub fn short_byte_in(word: &[u8]) -> Byte
+pub fn short_byte_in(word: &[u8]) -> Option<u8>
     ensures { result ≡ short_byte_in word.now }
 {
     if word.len() > 2 {
-        return Byte::No;
+        return None;
     }
     small(text::hex(word))
 }
 
 // An acknowledge: a decimal number, which the library is to judge.
-pub fn acknowledge_in(word: &[u8]) -> Byte
+pub fn acknowledge_in(word: &[u8]) -> Option<u8>
     ensures { result ≡ acknowledge_in word.now }
 {
     small(text::decimal(word))
@@ -69,22 +52,20 @@ fn slash_at(word: &[u8]) -> Option<usize>
     word.iter().position(|b| *b == b'/')
 }
 
-fn parts_from(one: Number, other: Number) -> Parts
+fn parts_from(one: Number, other: Number) -> Option<(u64, u64)>
     ensures { result ≡ parts_from one other }
 {
     if is_number(one) & is_number(other) {
-        return Parts::Of(value(one), value(other));
+        return Some((value(one), value(other)));
     }
-    Parts::No
+    None
 }
 
 // N/M: two decimal numbers with `/` between.
-pub fn parts_in(word: &[u8]) -> Parts
+pub fn parts_in(word: &[u8]) -> Option<(u64, u64)>
     ensures { result ≡ parts_in word.now }
 {
-    let Some(end) = slash_at(word) else {
-        return Parts::No;
-    };
+    let end = slash_at(word)?;
     let next = end + 1;
     parts_from(text::decimal(&word[..end]), text::decimal(&word[next..]))
 }

@@ -1,10 +1,11 @@
 // The words of the command line: a command by its name, and what follows it.
 use crate::lines::{end, put};
 use phases::Mode;
-use rig_lines::arguments::{Found, count, find, word};
+use rig_lines::arguments::{count, find, word};
 use rig_lines::console::PAGE;
 use rig_lines::numbers::{is_number, value};
 use rig_lines::options::is_option;
+use std::env::FillError;
 use std::rt::Env;
 use text::put_bytes;
 
@@ -207,8 +208,8 @@ impl Arguments {
     fn with_argument<E: Env>(self, env: &E, argument: usize) -> Result<Arguments, Complaint> {
         let mut space = io::buffer();
         match find(env, argument, &mut space) {
-            Found::Word(n) => self.with_word(argument, &space[..n]),
-            _ => Err(Trouble::TooLong.about(argument)),
+            Ok(n) => self.with_word(argument, &space[..n]),
+            Err(_) => Err(Trouble::TooLong.about(argument)),
         }
     }
 
@@ -245,9 +246,9 @@ fn of_command(word: &[u8]) -> Result<Task, Complaint> {
 fn chosen<E: Env>(env: &E) -> Result<Task, Complaint> {
     let mut space = io::buffer();
     match find(env, 1, &mut space) {
-        Found::Word(n) => of_command(&space[..n]),
-        Found::TooLong => Err(Trouble::TooLong.about(1)),
-        Found::Missing => Err(Trouble::NoCommand.about(0)),
+        Ok(n) => of_command(&space[..n]),
+        Err(FillError::TooLong) => Err(Trouble::TooLong.about(1)),
+        Err(FillError::NotPresent) => Err(Trouble::NoCommand.about(0)),
     }
 }
 

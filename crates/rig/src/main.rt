@@ -17,7 +17,7 @@ mod trouble; // trouble.rt: what was not understood or could not be read
 use arguments::{Arguments, Task};
 use rig_lines::arguments::word;
 use rig_lines::console::PAGE;
-use rig_lines::files::{Opened, Reader};
+use rig_lines::files::Reader;
 use rig_lines::input::Source;
 use rig_lines::{console, files};
 use std::fs::File;
@@ -49,8 +49,8 @@ fn begin<R: Env + Files<File = File>>(rt: &R, reader: &mut Reader, page: &mut [u
     let mut name = io::buffer();
     let n = word(rt, file, &mut name);
     match files::open(rt, reader, file, &name[..n]) {
-        Opened::Source(source) => run(rt, reader, page, given, source),
-        Opened::Failed(errno) => trouble::file(rt, page, b"error cannot open ", file, errno),
+        Ok(source) => run(rt, reader, page, given, source),
+        Err(errno) => trouble::file(rt, page, b"error cannot open ", file, errno),
     }
 }
 

@@ -3,9 +3,10 @@ use crate::forms::Form;
 use crate::problem;
 use crate::problem::{Problem, Reach};
 use crate::words::is_dash;
-use rig_lines::arguments::{Found, count, find, word};
+use rig_lines::arguments::{count, find, word};
 use rig_lines::numbers::{is_number, value};
 use rig_lines::options::is_option;
+use std::env::FillError;
 use std::rt::Env;
 
 #[derive(Clone, Copy, PartialEq, Eq)]
@@ -204,8 +205,8 @@ impl Arguments {
     fn with_argument<E: Env>(self, env: &E, argument: usize) -> Arguments {
         let mut space = io::buffer();
         match find(env, argument, &mut space) {
-            Found::Word(n) => self.with_word(argument, &space[..n]),
-            _ => self.trouble(Form::LongArgument, b""),
+            Ok(n) => self.with_word(argument, &space[..n]),
+            Err(_) => self.trouble(Form::LongArgument, b""),
         }
     }
 
@@ -295,8 +296,8 @@ fn role_of(word: &[u8]) -> Role {
 fn role_at<E: Env>(env: &E, argument: usize) -> Role {
     let mut space = io::buffer();
     match find(env, argument, &mut space) {
-        Found::Word(n) => role_of(&space[..n]),
-        _ => Role::File,
+        Ok(n) => role_of(&space[..n]),
+        Err(_) => Role::File,
     }
 }
 

@@ -10,7 +10,7 @@ use crate::{ending, kept, lines, load, reading, slots, sources, statements, word
 use arbitration_rules::MAX_LENGTH;
 use load_text::{LOAD_NAME, is_board_name, is_load_name};
 use rig_lines::console::PAGE;
-use rig_lines::files::{Opened, Reader};
+use rig_lines::files::Reader;
 use rig_lines::input;
 use rig_lines::input::Line;
 use std::fs::File;
@@ -241,10 +241,8 @@ pub(crate) fn read<R: Env + Files<File = File>>(
     let mut reader = Reader::Standard(stdin);
     sources::keep(rt, kept, FILE_AT, argument);
     match sources::open(rt, &mut reader, kept, argument) {
-        Opened::Source(source) => {
-            reading::run_source(&mut reader, page, kept, state, source, true)
-        }
-        Opened::Failed(errno) => {
+        Ok(source) => reading::run_source(&mut reader, page, kept, state, source, true),
+        Err(errno) => {
             let words = b"! cannot open +: `; nothing is rehearsed";
             ending::failed(page, kept, state, words, argument, errno)
         }

@@ -5,7 +5,7 @@ use crate::state::State;
 use crate::words::Kind;
 use crate::{boards, kept, words};
 use arbitration_rules::{MAX_LENGTH, MAX_MASTERS};
-use load_text::{Parts, parts_in};
+use load_text::parts_in;
 use text::{after_word, first_word, put_bytes};
 
 // More than any line has words.
@@ -125,15 +125,13 @@ pub(crate) fn with_ack(kept: &mut [u8; ROOM], mut state: State, acks: &[u8]) -> 
 fn with_parts(state: State, board: usize, rest: &[u8]) -> State {
     let word = first_word(rest);
     let extra = first_word(after_word(rest));
-    match parts_in(word) {
-        Parts::No => state.wrong(Form::Parts, word, 0),
-        Parts::Of(carried, length) => {
-            if extra.len() > 0 {
-                return state.wrong(Form::Parts, extra, 0);
-            }
-            state.with_load(state.load.with_expected(board, carried, length))
-        }
+    let Some((carried, length)) = parts_in(word) else {
+        return state.wrong(Form::Parts, word, 0);
+    };
+    if extra.len() > 0 {
+        return state.wrong(Form::Parts, extra, 0);
     }
+    state.with_load(state.load.with_expected(board, carried, length))
 }
 
 // `expect NAME N/M`

@@ -52,7 +52,7 @@ use phrase::put_line;
 use problem::Problem;
 use rig_lines::arguments::count;
 use rig_lines::console::{PAGE, flush};
-use rig_lines::files::{Opened, Reader};
+use rig_lines::files::Reader;
 use state::{Options, State};
 use std::fs::File;
 use std::io::Stdin;
@@ -76,12 +76,8 @@ fn with_file<R: Env + Files<File = File>>(
     let next = state.moved(put_line(page, state.at, kept, named, b"file +", &[argument as u64]));
     let mut reader = Reader::Standard(stdin);
     match sources::open(rt, &mut reader, kept, argument) {
-        Opened::Source(source) => {
-            reading::run_source(&mut reader, page, kept, next, source, false)
-        }
-        Opened::Failed(errno) => {
-            ending::failed(page, kept, next, b"! cannot open +: `", argument, errno)
-        }
+        Ok(source) => reading::run_source(&mut reader, page, kept, next, source, false),
+        Err(errno) => ending::failed(page, kept, next, b"! cannot open +: `", argument, errno),
     }
 }
 

@@ -3,7 +3,8 @@ use crate::kept;
 use crate::kept::ROOM;
 use rig_lines::arguments::word;
 use rig_lines::files;
-use rig_lines::files::{Opened, Reader};
+use rig_lines::files::Reader;
+use rig_lines::input::Source;
 use std::fs::File;
 use std::rt::{Env, Files};
 
@@ -24,6 +25,6 @@ pub(crate) fn open<R: Files<File = File>>(
     reader: &mut Reader,
     kept: &[u8],
     argument: usize,
-) -> Opened {
+) -> Result<Source, u64> {
     files::open(rt, reader, argument, kept::file(kept))
 }

@@ -1,7 +1,7 @@
 // The bytes, the parts and the acknowledges of a load's lines.
 use crate::forms::Form;
 use arbitration_rules::MAX_LENGTH;
-use load_text::{Byte, acknowledge_in, byte_in, short_byte_in};
+use load_text::{acknowledge_in, byte_in, short_byte_in};
 use text::{after_word, first_word, put_byte};
 
 // What the words of a line are to be: bytes of two digits, of one or two, or acknowledges.
@@ -12,7 +12,7 @@ pub(crate) enum Kind {
     Ack,
 }
 
-fn read(kind: Kind, word: &[u8]) -> Byte {
+fn read(kind: Kind, word: &[u8]) -> Option<u8> {
     match kind {
         Kind::Byte => byte_in(word),
         Kind::Short => short_byte_in(word),
@@ -21,7 +21,7 @@ fn read(kind: Kind, word: &[u8]) -> Byte {
 }
 
 fn is_read(kind: Kind, word: &[u8]) -> bool {
-    matches!(read(kind, word), Byte::Of(_))
+    read(kind, word).is_some()
 }
 
 // A word after `/` is a byte, or is found to be none later.
@@ -39,10 +39,7 @@ fn suits(kind: Kind, words: &[u8], is_first: bool) -> bool {
 }
 
 fn value(kind: Kind, word: &[u8]) -> u8 {
-    match read(kind, word) {
-        Byte::Of(b) => b,
-        Byte::No => 0,
-    }
+    read(kind, word).unwrap_or(0)
 }
 
 // `-` stands for no bytes, or for standard input.

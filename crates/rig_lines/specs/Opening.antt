@@ -1,20 +1,19 @@
 -- What opening a file comes to. Which descriptor the system hands out, and which words the command line has, the logic
 -- does not know.
-use Rattle.std.specs.Prelude.{◌≡◌, cond, List, [], ◌∷◌, ℕ, eqb, ℤ, pos}
+use Rattle.std.specs.Prelude.{◌≡◌, cond, List, [], ◌∷◌, ℕ, eqb, ℤ, pos, Result, Ok, Err}
 use Rattle.text.specs.Output.{Put}
 use Rattle.rig_lines.specs.Bytes.{ascii}
 use Rattle.rig_lines.specs.Console.{shown_text, form_text}
 use Rattle.rig_lines.specs.Input.{begun}
-use Rattle.rig_lines.specs.declared.files.Opened.{Opened}
-use Rattle.rig_lines.specs.declared.files.Opened.TheVariants.{Source, Failed}
+use Rattle.rig_lines.specs.declared.input.Source.{Source}
 
 -- standard input, which argument 0 and the name `-` are; else the file of that name, from its start, or none
-pub data Opening (argument : ℕ) (name : List ℕ) : Opened → Type 0 where
-  standard : argument ≡ 0 → Opening argument name (Source (begun (pos 0) 0))
-  dash : name ≡ ascii "-" → Opening argument name (Source (begun (pos 0) 0))
+pub data Opening (argument : ℕ) (name : List ℕ) : Result Source ℕ → Type 0 where
+  standard : argument ≡ 0 → Opening argument name (Ok (begun (pos 0) 0))
+  dash : name ≡ ascii "-" → Opening argument name (Ok (begun (pos 0) 0))
   file :
-      (fd : ℤ) → (argument ≡ 0 → ⊥) → (name ≡ ascii "-" → ⊥) → Opening argument name (Source (begun fd argument))
-  failed : (errno : ℕ) → (argument ≡ 0 → ⊥) → (name ≡ ascii "-" → ⊥) → Opening argument name (Failed errno)
+      (fd : ℤ) → (argument ≡ 0 → ⊥) → (name ≡ ascii "-" → ⊥) → Opening argument name (Ok (begun fd argument))
+  failed : (errno : ℕ) → (argument ≡ 0 → ⊥) → (name ≡ ascii "-" → ⊥) → Opening argument name (Err errno)
 
 -- why the system refuses a file, by the error's number
 unfoldable pub reason_text : ℕ → List ℕ

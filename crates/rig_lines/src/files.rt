@@ -8,7 +8,7 @@ use crate::input::Source;
 use crate::{arguments, input};
 use check::same;
 use std::fs::File;
-use std::io::{Error, Read, Result, Stdin};
+use std::io::{Error, Read, Stdin};
 use std::os::fd::AsRawFd;
 use std::rt::{Env, Files};
 use std::str::from_utf8;
@@ -38,7 +38,7 @@ pub enum Reader {
 }
 
 impl Read for Reader {
-    fn read(&mut self, buf: &mut [u8]) -> Result<usize> {
+    fn read(&mut self, buf: &mut [u8]) -> Result<usize, Error> {
         match self {
             Reader::Standard(stdin) => stdin.read(buf),
             Reader::File(file) => file.read(buf),
@@ -88,38 +88,28 @@ pub fn put_name<E: Env>(env: &E, page: &mut [u8], at: usize, argument: usize) ->
     put_shown(page, at, &space[..n])
 }
 
-// What opening a file comes to: a source, or the error's number.
-#[derive(Clone, Copy)]
-pub enum Opened {
-    Source(Source),
-    Failed(u64),
-}
-
 // Opens the file of a name, that of an argument; argument 0 and the name `-` are standard input. The reader that is
 // lent is standard input, and becomes the file that is opened. A name that is no UTF-8 is taken for that of no file.
+// A failure has the error's number.
 pub fn open<R: Files<File = File>>(
     rt: &R,
     reader: &mut Reader,
     argument: usize,
     name: &[u8],
-) -> Opened
+) -> Result<Source, u64>
     ensures { Opening argument name.now result }
 {
     if argument == 0 {
-        return Opened::Source(input::begin(STDIN, 0));
+        return Ok(input::begin(STDIN, 0));
     }
     if same(name, b"-") {
-        return Opened::Source(input::begin(STDIN, 0));
+        return Ok(input::begin(STDIN, 0));
     }
     let Ok(path) = from_utf8(name) else {
-        return Opened::Failed(NO_FILE);
+        return Err(NO_FILE);
     };
-    match File::open(rt, path) {
-        Ok(file) => {
-            let fd = file.as_raw_fd();
-            *reader = Reader::File(file);
-            Opened::Source(input::begin(fd, argument))
-        }
-        Err(error) => Opened::Failed(error_number(error)),
-    }
+    let file = File::open(rt, path).map_err(error_number)?;
+    let fd = file.as_raw_fd();
+    *reader = Reader::File(file);
+    Ok(input::begin(fd, argument))
 }

@@ -20,14 +20,10 @@ fn is_acknowledge(part: Part) -> bool {
 
 // A message is on the bus up to and with the event at an index, whatever its acknowledge.
 fn goes_on(message: &[u16], seen: &[u16], index: usize) -> bool {
-    match event_match::compare(message, seen) {
-        Difference::Equal => true,
-        Difference::At {
-            index: other,
-            byte: _,
-            part,
-        } => { (other > index) | ((other == index) & is_acknowledge(part)) }
-    }
+    let Some(found) = event_match::compare(message, seen) else {
+        return true;
+    };
+    (found.index > index) | ((found.index == index) & is_acknowledge(found.part))
 }
 
 // The first board whose bytes these are, of those in rows, as the phrases name it: by its row; 0 where none has them.
@@ -43,30 +39,26 @@ fn owner(book: &[u32], events: &[u16], from: usize, end: usize, seen: &[u16], in
 pub(crate) fn said(book: &[u32], events: &[u16], frame: &[u16], load: usize, end: usize) -> Said {
     let rehearsed = span(events, get(book, load, FROM), get(book, load, TO));
     let first = load.saturating_add(1);
-    match event_match::compare(rehearsed, frame) {
-        Difference::Equal => {
-            let who = owner(book, events, first, end, frame, frame.len());
-            Said::new(b"$[; those are $'s bytes]", [load as u64, who, 0, 0, 0, 0])
-        }
-        Difference::At { index, byte, part } => {
-            let who = owner(book, events, first, end, frame, index);
-            let one = event_at(rehearsed, index) as u64;
-            let other = event_at(frame, index) as u64;
-            let at = byte as u64;
-            match part {
-                Part::Bit(bit) => Said::new(
-                    b"$ differs at byte # bit #: rehearsed %, bus %[; those are $'s bytes]",
-                    [load as u64, at, place_of(bit), one, other, who],
-                ),
-                Part::Acknowledge => Said::new(
-                    b"$ differs at byte # (%): rehearsed !, bus ![; those are $'s bytes]",
-                    [load as u64, at, one, one, other, who],
-                ),
-                Part::Other => Said::new(
-                    b"$ differs at byte #: rehearsed @, bus @[; those are $'s bytes]",
-                    [load as u64, at, one, other, who, 0],
-                ),
-            }
-        }
+    let Some(Difference { index, byte, part }) = event_match::compare(rehearsed, frame) else {
+        let who = owner(book, events, first, end, frame, frame.len());
+        return Said::new(b"$[; those are $'s bytes]", [load as u64, who, 0, 0, 0, 0]);
+    };
+    let who = owner(book, events, first, end, frame, index);
+    let one = event_at(rehearsed, index) as u64;
+    let other = event_at(frame, index) as u64;
+    let at = byte as u64;
+    match part {
+        Part::Bit(bit) => Said::new(
+            b"$ differs at byte # bit #: rehearsed %, bus %[; those are $'s bytes]",
+            [load as u64, at, place_of(bit), one, other, who],
+        ),
+        Part::Acknowledge => Said::new(
+            b"$ differs at byte # (%): rehearsed !, bus ![; those are $'s bytes]",
+            [load as u64, at, one, one, other, who],
+        ),
+        Part::Other => Said::new(
+            b"$ differs at byte #: rehearsed @, bus @[; those are $'s bytes]",
+            [load as u64, at, one, other, who, 0],
+        ),
     }
 }

@@ -15,9 +15,10 @@ mod shown; // shown.rt: what the marks of a phrase stand for
 mod words; // words.rt: messages and frames in words
 
 use frame_match::span;
-use rig_lines::arguments::{Found, find};
+use rig_lines::arguments::find;
 use rig_lines::console::{PAGE, flush, put_quoted};
 use rig_lines::input::ROOM;
+use std::env::FillError;
 use std::io::Stdin;
 use std::rt::Env;
 use text::put_bytes;
@@ -65,9 +66,13 @@ fn unexpected(page: &mut [u8; PAGE], word: &[u8]) -> usize {
 fn answer<E: Env>(env: &E, stdin: &mut Stdin, page: &mut [u8; PAGE]) {
     let mut space = io::buffer();
     let end = match find(env, 2, &mut space) {
-        Found::Missing => run(stdin, page),
-        Found::Word(n) => unexpected(page, &space[..n]),
-        Found::TooLong => put_bytes(page, 0, b"error an argument is longer than 4096 bytes\n"),
+        Err(FillError::NotPresent) => run(stdin, page),
+        Ok(n) => unexpected(page, &space[..n]),
+        Err(FillError::TooLong) => put_bytes(
+            page,
+            0,
+            b"error an argument is longer than 4096 bytes\n",
+        ),
     };
     flush(page, end);
 }

@@ -1,5 +1,6 @@
 -- `rig_lines::files::open` meets its contract.
 use Rattle.std.proofs.Common.{rules, sym, ◌∙◌}
+use Rattle.std.proofs.lemmas.Result.{err_from_is_err_and}
 use mathlib.Core.Bool.{false≢true}
 use Rattle.rig_lines.specs.Opening.{standard, dash, file, failed}
 use Rattle.rig_lines.proofs.files.open.Goals as goal
@@ -14,11 +15,12 @@ pub returns-in_default : goal.returns-in_default
 returns-in_default g c =
     failed _ (search rules) (λ dashed. false≢true (sym c.if-same.false ∙ c.same.ensures.1 dashed))
 
-pub returns-in-Ok-open : goal.returns-in-Ok-open
-returns-in-Ok-open g c =
-    rw c.begin-in-Ok-open.ensures
-    (file _ (search rules) (λ dashed. false≢true (sym c.if-same.false ∙ c.same.ensures.1 dashed)))
+pub returns-in_err-file : goal.returns-in_err-file
+returns-in_err-file g c =
+    let p = err_from_is_err_and c.from_residual.result c.from_residual.ensures.1 in
+    rw p.1 (failed _ (search rules) (λ dashed. false≢true (sym c.if-same.false ∙ c.same.ensures.1 dashed)))
 
-pub returns-in-Err : goal.returns-in-Err
-returns-in-Err g c =
-    failed _ (search rules) (λ dashed. false≢true (sym c.if-same.false ∙ c.same.ensures.1 dashed))
+pub returns : goal.returns
+returns g c =
+    rw c.begin-2.ensures
+    (file _ (search rules) (λ dashed. false≢true (sym c.if-same.false ∙ c.same.ensures.1 dashed)))
