@@ -6,7 +6,6 @@ use crate::words::is_dash;
 use rig_lines::arguments::{count, find, word};
 use rig_lines::numbers::{is_number, value};
 use rig_lines::options::is_option;
-use std::env::FillError;
 use std::rt::Env;
 
 #[derive(Clone, Copy, PartialEq, Eq)]
