@@ -15,9 +15,9 @@ pub fn message_in(rows: &[u8], lengths: [u32; MAX_MASTERS], board: usize) -> &[u
     if board >= MAX_MASTERS {
         return &rows[..0];
     }
-    let start = parts::bytes(board * MAX_LENGTH, rows);
+    let start = parts::lent(board * MAX_LENGTH, rows);
     let row = &rows[start..];
-    let end = parts::bytes(lengths[board] as usize, row);
+    let end = parts::lent(lengths[board] as usize, row);
     &row[..end]
 }
 

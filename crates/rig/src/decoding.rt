@@ -126,15 +126,15 @@ fn decoded_thin(stamps: &[u32], levels: &[u8], events: &mut [u16]) -> Result<Dec
     let mut left_stamps = [0u32; MAX_SAMPLES];
     let mut left_levels = [0u8; MAX_SAMPLES];
     let count = trace_thin::thin(stamps, levels, &mut left_stamps, &mut left_levels)?;
-    let left = parts::stamps(count, &left_stamps);
-    let also = parts::bytes(count, &left_levels);
+    let left = parts::lent(count, &left_stamps);
+    let also = parts::lent(count, &left_levels);
     decode::decode(&left_stamps[..left], &left_levels[..also], events)
 }
 
 // What the library says of a trace.
 fn decoded(given: Arguments, stamps: &[u32], levels: &[u8]) -> Result<Decoded, Refusal> {
     let mut events = [0u16; EVENTS];
-    let lent = parts::events(given.room, &events);
+    let lent = parts::lent(given.room, &events);
     if given.thin {
         return decoded_thin(stamps, levels, &mut events[..lent]);
     }

@@ -59,9 +59,9 @@ fn answer(
 fn answer_part(page: &mut [u8; PAGE], listing: Listing, events: &[u16], room: usize) -> usize {
     let mut stamps = [0u32; MAX_SAMPLES];
     let mut levels = [0u8; MAX_SAMPLES];
-    let count = parts::events(listing.count, events);
-    let stamp_room = parts::stamps(room, &stamps);
-    let level_room = parts::bytes(room, &levels);
+    let count = parts::lent(listing.count, events);
+    let stamp_room = parts::lent(room, &stamps);
+    let level_room = parts::lent(room, &levels);
     answer(
         page,
         listing,

@@ -11,7 +11,6 @@ use rig_lines::console::{PAGE, flush};
 use rig_lines::files::Reader;
 use rig_lines::input;
 use rig_lines::input::{ROOM, Source};
-use rig_lines::numbers::more;
 use std::rt::Env;
 use text::first_word;
 use usi::Usi;
@@ -50,7 +49,7 @@ impl Session {
         if self.faults == 0 {
             self.first_fault = self.source.line;
         }
-        self.faults = more(self.faults);
+        self.faults = self.faults.saturating_add(1);
         self
     }
 
@@ -59,7 +58,7 @@ impl Session {
             self.first_refusal = self.source.line;
             self.number = number;
         }
-        self.refusals = more(self.refusals);
+        self.refusals = self.refusals.saturating_add(1);
         self
     }
 
@@ -76,7 +75,7 @@ impl Session {
         if matches!(reply.answer, Answer::Nothing) {
             return self;
         }
-        self.commands = more(self.commands);
+        self.commands = self.commands.saturating_add(1);
         match reply.answer {
             Answer::Error(_) => self.with_fault(),
             Answer::Refused(number) => self.with_refusal(number),

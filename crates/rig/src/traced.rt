@@ -19,8 +19,8 @@ fn answer(
     levels: &[u8],
     lines: &[u64],
 ) -> usize {
-    let stamp_count = parts::stamps(reading.stamps, stamps);
-    let level_count = parts::bytes(reading.levels, levels);
+    let stamp_count = parts::lent(reading.stamps, stamps);
+    let level_count = parts::lent(reading.levels, levels);
     let read_stamps = &stamps[..stamp_count];
     let read_levels = &levels[..level_count];
     match given.task {
@@ -90,7 +90,7 @@ pub(crate) fn run<E: Env>(
 ) -> usize {
     let mut piece = [0u8; TEXT];
     let ready = input::fill(reader, &mut piece, source);
-    let n = parts::bytes(ready.end, &piece);
+    let n = parts::lent(ready.end, &piece);
     if matches!(given.task, Task::Decode) & captured::begins(&piece[..n]) {
         return captured::run(env, page, given, ready, &piece[..n]);
     }

@@ -1,4 +1,4 @@
--- A number stored at a position of a slice, where there is room and where there is none.
+-- A value stored at a position of a slice, where there is room and where there is none.
 use mathlib.Core.Path.{refl, sym}
 use mathlib.Core.List.{List}
 use Prim.Native.Nat.{ℕ, ◌+◌, ◌≤◌, ◌<◌}
@@ -7,9 +7,9 @@ use lib.Seq.{set_out}
 use borrow.Author.Tests.{lt-ltb, le-ltb}
 use Rattle.rig_lines.specs.Store.{Kept}
 
-pub kept-within : (old : List ℕ) (at value : ℕ) → at < length old → Kept old at value (set old at value) (at + 1)
-kept-within old at value h = record { stored = refl; moved = rw (lt-ltb at (length old) h) }
+module _ {A : Type 0} (old : List A) (at : ℕ) (value : A) where
+  pub kept-within : at < length old → Kept old at value (set old at value) (at + 1)
+  kept-within h = record { stored = refl; moved = rw (lt-ltb at (length old) h) }
 
-pub kept-past : (old : List ℕ) (at value : ℕ) → length old ≤ at → Kept old at value old at
-kept-past old at value h =
-    record { stored = sym (set_out old at value h); moved = rw (le-ltb at (length old) h) }
+  pub kept-past : length old ≤ at → Kept old at value old at
+  kept-past h = record { stored = sym (set_out old at value h); moved = rw (le-ltb at (length old) h) }

@@ -7,4 +7,5 @@ pub mod Store
 pub mod Input
 pub mod Opening
 pub mod Options
+pub mod Parts
 pub mod Refusals

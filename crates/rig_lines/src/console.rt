@@ -32,7 +32,7 @@ const QUOTED: usize = 32;
 pub fn flush(page: &[u8], at: usize) -> usize
     ensures { result ≡ 0 }
 {
-    let end = parts::bytes(at, page);
+    let end = parts::lent(at, page);
     if !io::write_all(STDOUT, &page[..end]) {
         io::write_all(STDERR, b"standard output: cannot be written\n");
     }
@@ -53,7 +53,7 @@ pub fn begin(page: &[u8], at: usize) -> usize
 pub fn note(page: &[u8], from: usize, end: usize) -> usize
     ensures { result ≡ from }
 {
-    let last = parts::bytes(end, page);
+    let last = parts::lent(end, page);
     if from <= last {
         io::write_all(STDERR, &page[from..last]);
     }

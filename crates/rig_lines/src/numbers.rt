@@ -1,5 +1,5 @@
-// Numbers that a text says, counts, and the lesser of two.
-ghost use Rattle.std.specs.Prelude.{min, ◌≡◌};
+// Numbers that a text says, and counts.
+ghost use Rattle.std.specs.Prelude.{◌≡◌};
 ghost use Rattle.rig_lines.specs.Numbers.{value_in, says_number, byte_in, one_more};
 
 use text::Number;
@@ -40,16 +40,4 @@ pub fn more(count: u64) -> u64
     ensures { result ≡ one_more count }
 {
     count.saturating_add(1)
-}
-
-pub fn least(a: usize, b: usize) -> usize
-    ensures { result ≡ min a b }
-{
-    a.min(b)
-}
-
-pub fn least_number(a: u64, b: u64) -> u64
-    ensures { result ≡ min a b }
-{
-    a.min(b)
 }

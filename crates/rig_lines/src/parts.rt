@@ -1,26 +1,18 @@
 // How many elements of a slice to lend: n, or all where there are fewer.
 ghost use Rattle.std.specs.Prelude.{min, ◌≡◌, length};
-ghost use Rattle.io.specs.Counts.{IsPrefixLen};
+ghost use Rattle.rig_lines.specs.Parts.{Lent};
 
-use crate::numbers::least;
-
-pub fn bytes(n: usize, slice: &[u8]) -> usize
-    ensures prefix_len { IsPrefixLen result slice.now }
+pub fn lent<T>(n: usize, slice: &[T]) -> usize
+    ensures prefix_len { Lent result slice.now }
     ensures value { result ≡ min n (length slice.now) }
 {
-    least(n, slice.len())
+    n.min(slice.len())
 }
 
-pub fn events(n: usize, slice: &[u16]) -> usize
-    ensures prefix_len { IsPrefixLen result slice.now }
+// The same of bytes.
+pub(crate) fn bytes(n: usize, slice: &[u8]) -> usize
+    ensures prefix_len { Lent result slice.now }
     ensures value { result ≡ min n (length slice.now) }
 {
-    least(n, slice.len())
-}
-
-pub fn stamps(n: usize, slice: &[u32]) -> usize
-    ensures prefix_len { IsPrefixLen result slice.now }
-    ensures value { result ≡ min n (length slice.now) }
-{
-    least(n, slice.len())
+    lent(n, slice)
 }

@@ -76,8 +76,8 @@ fn with_event(
         return reading.failed(Wrong::Crowded);
     }
     let doubtful = certain(words).len() < words.len();
-    store::line(stamps, reading.seen, marked(stamp, doubtful));
-    reading.seen = store::event(seen, reading.seen, event);
+    store::keep(stamps, reading.seen, marked(stamp, doubtful));
+    reading.seen = store::keep(seen, reading.seen, event);
     reading
 }
 

@@ -5,7 +5,6 @@ use crate::phrase;
 use crate::reading::{Reading, Verdict};
 use frame_match::{SINCE, STATE, WAITS, get, is_load, is_rehearsed};
 use rig_lines::console::PAGE;
-use rig_lines::numbers::more;
 use text::put_byte;
 
 // What is missing: loads and messages that were not on the bus, loads that were not rehearsed.
@@ -58,10 +57,10 @@ impl Missing {
     // With one lack more.
     fn counted(mut self, lack: Lack) -> Missing {
         match lack {
-            Lack::Frame => self.loads = more(self.loads),
-            Lack::InError => self.in_error = more(self.in_error),
-            Lack::Refused => self.refused = more(self.refused),
-            Lack::Message => self.messages = more(self.messages),
+            Lack::Frame => self.loads = self.loads.saturating_add(1),
+            Lack::InError => self.in_error = self.in_error.saturating_add(1),
+            Lack::Refused => self.refused = self.refused.saturating_add(1),
+            Lack::Message => self.messages = self.messages.saturating_add(1),
         }
         self
     }

@@ -6,7 +6,6 @@ use frame_match::{
     Found, end_of, find, load_about, next_after, next_load, settle, span, start_from,
 };
 use rig_lines::console::PAGE;
-use rig_lines::numbers::more;
 
 // How far the frames are held against the loads, and what became of them.
 #[derive(Clone, Copy)]
@@ -25,12 +24,12 @@ pub(crate) struct Matching {
 impl Matching {
     // With one frame more, which was found to be something.
     fn counted(mut self, found: Found) -> Matching {
-        self.frames = more(self.frames);
+        self.frames = self.frames.saturating_add(1);
         match found {
-            Found::Waiting(_) => self.waited = more(self.waited),
-            Found::Rehearsed(_) => self.rehearsed = more(self.rehearsed),
-            Found::Different => self.different = more(self.different),
-            Found::Other => self.other = more(self.other),
+            Found::Waiting(_) => self.waited = self.waited.saturating_add(1),
+            Found::Rehearsed(_) => self.rehearsed = self.rehearsed.saturating_add(1),
+            Found::Different => self.different = self.different.saturating_add(1),
+            Found::Other => self.other = self.other.saturating_add(1),
         }
         self
     }

@@ -6,7 +6,6 @@ use rig_lines::console::{PAGE, begin, put_form, put_quoted};
 use rig_lines::files::put_reason;
 use rig_lines::input;
 use rig_lines::input::{Line, ROOM, Source, Taken};
-use rig_lines::numbers::more;
 use std::io::Stdin;
 use text::{first_word, put_byte, put_bytes};
 
@@ -129,9 +128,9 @@ impl Reading {
     fn passed(mut self, at: usize) -> Reading {
         self.at = at;
         if self.verdict.is_some() {
-            self.gaps = more(self.gaps);
+            self.gaps = self.gaps.saturating_add(1);
         } else {
-            self.faults = more(self.faults);
+            self.faults = self.faults.saturating_add(1);
         }
         self
     }

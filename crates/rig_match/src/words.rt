@@ -78,14 +78,14 @@ pub(crate) fn put_events(
     words: &[u8],
     carried: bool,
 ) -> usize {
-    let mut next = store::event(events, at, START);
+    let mut next = store::keep(events, at, START);
     let mut rest = words;
     for _ in 0..words.len() {
         if !is_event(rest, carried) {
-            return store::event(events, next, STOP);
+            return store::keep(events, next, STOP);
         }
-        next = store::event(events, next, event_in(rest, carried));
+        next = store::keep(events, next, event_in(rest, carried));
         rest = after_event(rest, carried);
     }
-    store::event(events, next, STOP)
+    store::keep(events, next, STOP)
 }

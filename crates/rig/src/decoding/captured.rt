@@ -7,7 +7,6 @@ use dump_reader::LONGEST_TEXT;
 use rig_lines::console::PAGE;
 use rig_lines::input::Source;
 use rig_lines::lists::line_of;
-use rig_lines::numbers::more;
 use rig_lines::parts;
 use rig_lines::refusals::{put_byte_refusal, put_refusal};
 use std::rt::Env;
@@ -31,7 +30,8 @@ pub(crate) fn begins(text: &[u8]) -> bool {
 
 // The line of a byte.
 fn line_of_byte(text: &[u8], place: usize) -> u64 {
-    more(text.iter().take(place).filter(|b| **b == b'\n').count() as u64)
+    let passed = text.iter().take(place).filter(|b| **b == b'\n').count();
+    (passed as u64).saturating_add(1)
 }
 
 fn put_refused(page: &mut [u8; PAGE], text: &[u8], number: u8, place: usize) -> usize {
@@ -57,7 +57,7 @@ fn advice(number: u8) -> &'static [u8] {
 
 // A dump that is not read: at which word, where there is one, and what to do about it.
 fn refuse(page: &mut [u8; PAGE], text: &[u8], number: u8, place: usize) -> usize {
-    let from = parts::bytes(place, text);
+    let from = parts::lent(place, text);
     let word = first_word(first_line(&text[from..]));
     let met = !word.is_empty() & (number != 6) & (number != 26);
     let next = put_refused(page, text, number, place);
@@ -117,8 +117,8 @@ fn show(
     levels: &[u8],
 ) -> usize {
     given.thin = false;
-    let stamp_count = parts::stamps(count, stamps);
-    let level_count = parts::bytes(count, levels);
+    let stamp_count = parts::lent(count, stamps);
+    let level_count = parts::lent(count, levels);
     let at = show_unit(page, timescale);
     answer(
         page,

@@ -170,9 +170,9 @@ fn with_next(
     let from = progress.source;
     let taken = input::next_line(reader, piece, line, from);
     let next = reading.with_line(after(taken), line);
-    store::stamp(stamps, reading.stamps, next.stamp);
-    store::byte(levels, reading.levels, next.level);
-    store::line(lines, reading.stamps, next.progress.source.line);
+    store::keep(stamps, reading.stamps, next.stamp);
+    store::keep(levels, reading.levels, next.level);
+    store::keep(lines, reading.stamps, next.progress.source.line);
     next
 }
 

@@ -2,7 +2,6 @@
 use crate::lines::{end, put_numbers, say_numbers};
 use decode::{Decoder, Listed};
 use rig_lines::console::PAGE;
-use rig_lines::numbers::more;
 use rig_lines::store;
 use trace::{PARTIAL, REPEATED_START, START, STOP};
 use trace_gaps::{apart, is_long};
@@ -49,7 +48,7 @@ impl Shown {
         self.addressed = (event == START) | (event == REPEATED_START);
         self.bytes = self.bytes | (event < START);
         if event == PARTIAL {
-            self.cut_bytes = more(self.cut_bytes);
+            self.cut_bytes = self.cut_bytes.saturating_add(1);
         }
         if is_condition(event) {
             self.doubtful = false;
@@ -102,7 +101,7 @@ impl Shown {
             b"note: no sample from # to # (line #), # times the usual gap: samples may be lost there",
             &[from as u64, to as u64, line, gap as u64 / usual],
         );
-        self.long_gaps = more(self.long_gaps);
+        self.long_gaps = self.long_gaps.saturating_add(1);
         self.doubtful = true;
         self
     }

@@ -75,7 +75,7 @@ impl Listing {
 
     fn with_event(mut self, events: &mut [u16; EVENTS], event: u16) -> Listing {
         if self.count < EVENTS {
-            self.count = store::event(events, self.count, event);
+            self.count = store::keep(events, self.count, event);
             return self;
         }
         self.failed(Fault::ManyEvents.at(0))

@@ -14,4 +14,4 @@ pub returns : goal.returns
 returns c =
     let less : c.args.board < length c.args.lengths = search rules in
     message-cut c.args.lengths c.args.rows.now _ _ _ less
-    c.bytes-start.ensures.value c.bytes-end.ensures.value
+    c.lent-start.ensures.value c.lent-end.ensures.value

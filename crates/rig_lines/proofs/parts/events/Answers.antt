@@ -1,7 +1,0 @@
--- `rig_lines::parts::events` counts elements of its slice.
-use native.Mathlib.Omega.{arith}
-use Rattle.io.proofs.Counting.{prefix_len_of_le}
-use Rattle.rig_lines.proofs.parts.events.Goals as goal
-
-pub returns : goal.returns
-returns c = record { prefix_len = prefix_len_of_le _ _ (omega arith); value = c.least.ensures }
