@@ -47,8 +47,8 @@ returns-in-Err c =
     let stopped = settled-some lent_at.request _ (sym c.settle.ensures ∙ c.in-Err.is) in
     refused-before lent_at c.refused.result (rw stopped.0 stopped.1) (rw stopped.0 c.refused.ensures)
 
-pub returns-in-Ok : goal.returns-in-Ok
-returns-in-Ok c =
+pub returns-then-modules-masters : goal.returns-then-modules-masters
+returns-then-modules-masters c =
     let lent_at : Lent =
     let a = c.args in
     record {
@@ -58,7 +58,7 @@ returns-in-Ok c =
       modules = a.modules.now;
       seats = a.seats.now;
     } in
-    let passes = (settled-none lent_at.request _ (sym c.settle.ensures ∙ c.in-Ok.is)).0 in
+    let passes = (settled-none lent_at.request _ (sym c.settle.ensures ∙ c.in_default.is)).0 in
     let tables : short_table lent_at ≡ true = c.if-modules-masters.true in
     let tight : short lent_at || short_table lent_at ≡ true = rw tables (or-true (short lent_at)) in
     refused-short lent_at 8 passes tight refl
