@@ -1,25 +1,13 @@
 // Lines of output in words with marks.
-use rig_lines::console::{PAGE, begin, put_quoted};
+use rig_lines::console::{PAGE, begin, put_formed, put_quoted, taken};
 use rig_lines::store::line_at;
-use text::{put_byte, put_bytes, put_decimal, put_hex_byte};
+use text::{put_byte, put_bytes};
 
-// What stands for the next number, in decimal or as two hexadecimal digits; for `s`, unless the number before was 1;
-// and for a word that was met, in quotes.
-const DECIMAL: u8 = b'#';
-
-const HEX: u8 = b'%';
-
+// Beside the marks of a form, what stands for `s`, unless the number before was 1, and for a word that was met, in
+// quotes.
 const PLURAL: u8 = b'~';
 
 const WORD: u8 = b'$';
-
-// The place of the next number after a byte of the words.
-fn after(b: u8, place: usize) -> usize {
-    match b {
-        DECIMAL | HEX => place.saturating_add(1),
-        _ => place,
-    }
-}
 
 fn put_mark(
     page: &mut [u8; PAGE],
@@ -30,12 +18,10 @@ fn put_mark(
     word: &[u8],
 ) -> usize {
     match b {
-        DECIMAL => put_decimal(page, at, line_at(numbers, place)),
-        HEX => put_hex_byte(page, at, (line_at(numbers, place) % 256) as u8),
         PLURAL if line_at(numbers, place.saturating_sub(1)) == 1 => at,
         PLURAL => put_byte(page, at, b's'),
         WORD => put_quoted(page, at, word),
-        _ => put_byte(page, at, b),
+        _ => put_formed(page, at, b, line_at(numbers, place)),
     }
 }
 
@@ -51,7 +37,7 @@ pub(crate) fn put(
     let mut place: usize = 0;
     for b in words {
         next = put_mark(page, next, *b, numbers, place, word);
-        place = after(*b, place);
+        place = place.saturating_add(taken(*b));
     }
     next
 }

@@ -29,6 +29,11 @@ impl Progress {
         }
     }
 
+    // Where the next line is taken from, while there is more.
+    pub(crate) fn next(self) -> Option<Source> {
+        self.more.then_some(self.source)
+    }
+
     // There is no more, and nothing is wrong.
     pub(crate) fn ended(mut self) -> Progress {
         self.more = false;

@@ -9,8 +9,9 @@ use crate::trouble::Fault;
 use reply::{Answer, Reply};
 use rig_lines::console::{PAGE, flush};
 use rig_lines::files::Reader;
+use rig_lines::following::follow;
 use rig_lines::input;
-use rig_lines::input::{ROOM, Source};
+use rig_lines::input::{ROOM, Source, Taken};
 use std::rt::Env;
 use text::first_word;
 use usi::Usi;
@@ -62,6 +63,11 @@ impl Session {
         self
     }
 
+    // Where the next line is taken from, while there is more.
+    fn next(self) -> Option<Source> {
+        self.more.then_some(self.source)
+    }
+
     // A line was taken, perhaps one that is no text.
     fn with_progress(mut self, progress: Progress) -> Session {
         self.source = progress.source;
@@ -94,6 +100,14 @@ impl Session {
         self.after(reply)
     }
 
+    // Replies to the line that was taken.
+    fn followed(self, page: &mut [u8; PAGE], taken: Taken, line: &[u8]) -> Session {
+        let progress = after(taken);
+        let words = input::content(line, progress.length);
+        self.with_progress(progress)
+            .replied(page, progress.fault(), words)
+    }
+
     // The last line counts commands that were not understood, else those that were refused, else all.
     fn summary<E: Env>(self, env: &E, page: &mut [u8; PAGE]) -> usize {
         if self.source.errno != 0 {
@@ -118,42 +132,6 @@ impl Session {
     }
 }
 
-// Replies to the next line.
-fn with_next(
-    reader: &mut Reader,
-    page: &mut [u8; PAGE],
-    piece: &mut [u8; PAGE],
-    line: &mut [u8; ROOM],
-    session: Session,
-) -> Session {
-    let from = session.source;
-    let taken = input::next_line(reader, piece, line, from);
-    let progress = after(taken);
-    let next = session.with_progress(progress);
-    next.replied(
-        page,
-        progress.fault(),
-        input::content(line, progress.length),
-    )
-}
-
-fn run_all(
-    reader: &mut Reader,
-    page: &mut [u8; PAGE],
-    piece: &mut [u8; PAGE],
-    line: &mut [u8; ROOM],
-    source: Source,
-) -> Session {
-    let mut session = Session::new(source);
-    for _ in 0..u64::MAX {
-        if !session.more {
-            return session;
-        }
-        session = with_next(reader, page, piece, line, session);
-    }
-    session
-}
-
 pub(crate) fn run<E: Env>(
     env: &E,
     reader: &mut Reader,
@@ -162,6 +140,13 @@ pub(crate) fn run<E: Env>(
 ) -> usize {
     let mut piece = [0u8; PAGE];
     let mut line = [0u8; ROOM];
-    let session = run_all(reader, page, &mut piece, &mut line, source);
+    let session = follow(
+        reader,
+        &mut piece,
+        &mut line,
+        Session::new(source),
+        |session| session.next(),
+        |session, taken, line| session.followed(page, taken, line),
+    );
     session.summary(env, page)
 }

@@ -5,6 +5,7 @@ pub mod Console
 pub mod Numbers
 pub mod Store
 pub mod Input
+pub mod Following
 pub mod Opening
 pub mod Options
 pub mod Parts

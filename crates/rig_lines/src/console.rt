@@ -128,7 +128,7 @@ pub fn put_quoted(page: &mut [u8], at: usize, word: &[u8]) -> usize
 }
 
 // How many numbers a byte of a form takes.
-fn taken(b: u8) -> usize
+pub fn taken(b: u8) -> usize
     ensures value { result ≡ marks b }
     ensures upper_bound { result ≤ 1 }
 {
@@ -136,7 +136,7 @@ fn taken(b: u8) -> usize
 }
 
 // A byte of a form: a mark stands for a number.
-fn put_formed(page: &mut [u8], at: usize, b: u8, n: u64) -> usize
+pub fn put_formed(page: &mut [u8], at: usize, b: u8, n: u64) -> usize
     ensures { Put page.old at (form_byte b n) page.new result }
 {
     if b == DECIMAL {

@@ -4,6 +4,7 @@
 pub mod arguments; // arguments.rt: words of the command line
 pub mod console; // console.rt: text on the page of output
 pub mod files; // files.rt: files by name
+pub mod following; // following.rt: a source followed line by line
 pub mod input; // input.rt: lines of input
 pub mod lists; // lists.rt: words in a list
 pub mod numbers; // numbers.rt: numbers that a text says

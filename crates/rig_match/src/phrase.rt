@@ -1,16 +1,12 @@
 // Words with marks, which stand for numbers, names, events, and lists of boards or bytes.
 use crate::book::Lists;
 use crate::shown;
-use rig_lines::console::{PAGE, begin};
+use rig_lines::console::{PAGE, begin, put_formed, taken};
 use rig_lines::store::line_at;
-use text::{put_byte, put_bytes, put_decimal, put_hex_byte};
+use text::{put_byte, put_bytes};
 
-// What stands for the next number: in decimal, as two hexadecimal digits, for the name of the load or board in that
-// row, for an event, for its acknowledge; and what takes it and puts nothing.
-const DECIMAL: u8 = b'#';
-
-const HEX: u8 = b'%';
-
+// What stands for the next number, beside the marks of a form: for the name of the load or board in that row, for an
+// event, for its acknowledge; and what takes it and puts nothing.
 const NAME: u8 = b'$';
 
 const EVENT: u8 = b'@';
@@ -41,9 +37,9 @@ const CLOSE: u8 = b']';
 // The place after the numbers that a byte of the words takes.
 fn after(b: u8, place: usize) -> usize {
     match b {
-        DECIMAL | HEX | NAME | EVENT | ACKNOWLEDGE | NOTHING => place.saturating_add(1),
+        NAME | EVENT | ACKNOWLEDGE | NOTHING => place.saturating_add(1),
         FRAME | WINNERS | UNDECIDED | WAITING => place.saturating_add(2),
-        _ => place,
+        _ => place.saturating_add(taken(b)),
     }
 }
 
@@ -59,15 +55,13 @@ fn stands(before: bool, b: u8, number: u64) -> bool {
 // What stands for one number, and what takes none.
 fn put_number(page: &mut [u8; PAGE], at: usize, b: u8, number: u64, last: u64) -> usize {
     match b {
-        DECIMAL => put_decimal(page, at, number),
-        HEX => put_hex_byte(page, at, (number % 256) as u8),
         EVENT => shown::put_event(page, at, number),
         ACKNOWLEDGE => put_bytes(page, at, shown::acknowledge(number)),
         PLURAL if last == 1 => at,
         PLURAL => put_byte(page, at, b's'),
         COMMA => shown::put_comma(page, at),
         NOTHING | OPEN | CLOSE => at,
-        _ => put_byte(page, at, b),
+        _ => put_formed(page, at, b, number),
     }
 }
 

@@ -4,6 +4,7 @@ use crate::capture::EVENTS;
 use crate::{book, capture, rehearsal};
 use rig_lines::console::{PAGE, begin, put_form, put_quoted};
 use rig_lines::files::put_reason;
+use rig_lines::following::follow;
 use rig_lines::input;
 use rig_lines::input::{Line, ROOM, Source, Taken};
 use std::io::Stdin;
@@ -205,14 +206,24 @@ pub(crate) fn read_all(
     seen: &mut [u16; EVENTS],
     stamps: &mut [u64; EVENTS],
 ) -> Reading {
-    let mut reading = Reading::new();
-    for _ in 0..u64::MAX {
-        if !reading.more {
-            return ended(page, line, reading);
-        }
-        let taken = input::next_line(stdin, piece, line, reading.source);
-        let next = reading.after(taken);
-        reading = with_line(page, next, line, book, events, names, seen, stamps);
-    }
-    reading
+    let reading = follow(
+        stdin,
+        piece,
+        line,
+        Reading::new(),
+        |reading| reading.more.then_some(reading.source),
+        |reading, taken, line| {
+            with_line(
+                page,
+                reading.after(taken),
+                line,
+                book,
+                events,
+                names,
+                seen,
+                stamps,
+            )
+        },
+    );
+    ended(page, line, reading)
 }

@@ -5,6 +5,7 @@ use crate::reading::{Progress, after};
 use crate::trouble::{Fault, Wrong};
 use rig_lines::console::PAGE;
 use rig_lines::files::Reader;
+use rig_lines::following::follow;
 use rig_lines::input::{ROOM, Source};
 use rig_lines::numbers::{is_number, value};
 use rig_lines::{input, store};
@@ -156,26 +157,7 @@ impl Reading {
     }
 }
 
-// The next line. What it says is kept after the samples before it, and counted where it says it.
-fn with_next(
-    reader: &mut Reader,
-    reading: Reading,
-    piece: &mut [u8; TEXT],
-    line: &mut [u8; ROOM],
-    stamps: &mut [u32; CAPTURE],
-    levels: &mut [u8; CAPTURE],
-    lines: &mut [u64; CAPTURE],
-) -> Reading {
-    let progress = reading.progress;
-    let from = progress.source;
-    let taken = input::next_line(reader, piece, line, from);
-    let next = reading.with_line(after(taken), line);
-    store::keep(stamps, reading.stamps, next.stamp);
-    store::keep(levels, reading.levels, next.level);
-    store::keep(lines, reading.stamps, next.progress.source.line);
-    next
-}
-
+// What a line says is kept after the samples before it, and counted where it says it.
 pub(crate) fn read_all(
     reader: &mut Reader,
     begun: Reading,
@@ -185,12 +167,18 @@ pub(crate) fn read_all(
     levels: &mut [u8; CAPTURE],
     lines: &mut [u64; CAPTURE],
 ) -> Reading {
-    let mut reading = begun;
-    for _ in 0..u64::MAX {
-        if !reading.progress.more {
-            return reading;
-        }
-        reading = with_next(reader, reading, piece, line, stamps, levels, lines);
-    }
-    reading
+    follow(
+        reader,
+        piece,
+        line,
+        begun,
+        |reading| reading.progress.next(),
+        |reading, taken, line| {
+            let next = reading.with_line(after(taken), line);
+            store::keep(stamps, reading.stamps, next.stamp);
+            store::keep(levels, reading.levels, next.level);
+            store::keep(lines, reading.stamps, next.progress.source.line);
+            next
+        },
+    )
 }

@@ -8,6 +8,7 @@ use crate::reading::{Progress, after};
 use crate::trouble::{Fault, Wrong};
 use rig_lines::console::PAGE;
 use rig_lines::files::Reader;
+use rig_lines::following::follow;
 use rig_lines::input::{ROOM, Source};
 use rig_lines::numbers::{is_number, value};
 use rig_lines::{input, store};
@@ -149,20 +150,6 @@ impl Listing {
     }
 }
 
-// The next line.
-fn with_next(
-    reader: &mut Reader,
-    listing: Listing,
-    piece: &mut [u8; PAGE],
-    line: &mut [u8; ROOM],
-    events: &mut [u16; EVENTS],
-) -> Listing {
-    let progress = listing.progress;
-    let from = progress.source;
-    let taken = input::next_line(reader, piece, line, from);
-    listing.followed(events, after(taken), line)
-}
-
 pub(crate) fn read_all(
     reader: &mut Reader,
     begun: Listing,
@@ -170,12 +157,12 @@ pub(crate) fn read_all(
     line: &mut [u8; ROOM],
     events: &mut [u16; EVENTS],
 ) -> Listing {
-    let mut listing = begun;
-    for _ in 0..u64::MAX {
-        if !listing.progress.more {
-            return listing;
-        }
-        listing = with_next(reader, listing, piece, line, events);
-    }
-    listing
+    follow(
+        reader,
+        piece,
+        line,
+        begun,
+        |listing| listing.progress.next(),
+        |listing, taken, line| listing.followed(events, after(taken), line),
+    )
 }
