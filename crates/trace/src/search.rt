@@ -6,9 +6,7 @@ ghost use Rattle.trace.specs.Trace.{bad_level, bad_stamp, place_in};
 pub fn bad_level(levels: &[u8]) -> Option<usize>
     ensures { result ≡ position bad_level levels.now }
 {
-    levels
-        .iter()
-        .position(|level| *level > levels::MAX_LEVEL)
+    levels.iter().position(|level| *level > levels::MAX_LEVEL)
 }
 
 // The place of the first stamp not above the one before, if there is one.
