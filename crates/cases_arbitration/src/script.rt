@@ -1,8 +1,6 @@
 // The numbers of a command's line. One that cannot be read counts as the largest of its type.
 ghost use Rattle.std.specs.Prelude.{◌≤◌, length};
 
-use text::Number;
-
 // How many lengths of parts were read, and how many counts of parts.
 #[derive(Clone, Copy)]
 pub struct Read {
@@ -11,11 +9,7 @@ pub struct Read {
 }
 
 fn value(word: &[u8]) -> u64 {
-    match text::decimal(word) {
-        Number::Value(v) => v,
-        Number::TooLarge => u64::MAX,
-        Number::Bad => u64::MAX,
-    }
+    text::decimal(word).unwrap_or(u64::MAX)
 }
 
 // The number that a word says, or all there is.
@@ -31,8 +25,10 @@ fn push_digit(values: &mut [u8], n: usize, b: u8) -> usize
     requires { n ≤ length values.old }
     ensures { result ≤ length values.new }
 {
-    let digit = text::digit(b);
-    if digit < 16 && n < values.len() {
+    let Some(digit) = text::digit(b) else {
+        return n;
+    };
+    if n < values.len() {
         values[n] = digit;
         return n + 1;
     }

@@ -1,14 +1,8 @@
 // The numbers of a command's line. One that cannot be read counts as the largest of its type.
 ghost use Rattle.std.specs.Prelude.{◌≤◌, ◌<◌, length, IfSome};
 
-use text::Number;
-
 fn value(word: &[u8]) -> u64 {
-    match text::decimal(word) {
-        Number::Value(v) => v,
-        Number::TooLarge => u64::MAX,
-        Number::Bad => u64::MAX,
-    }
+    text::decimal(word).unwrap_or(u64::MAX)
 }
 
 pub fn number(word: &[u8]) -> u32 {

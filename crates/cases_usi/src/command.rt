@@ -1,6 +1,5 @@
 // The commands of a script: a name, and numbers in hexadecimal.
 use check::same;
-use text::Number;
 
 #[derive(Clone, Copy)]
 pub enum Command {
@@ -20,11 +19,7 @@ const WORD: u64 = 0xffff;
 
 // The number that a word says, and one above every limit where it says none.
 fn number(word: &[u8]) -> u64 {
-    match text::hex(word) {
-        Number::Value(v) => v,
-        Number::TooLarge => u64::MAX,
-        Number::Bad => u64::MAX,
-    }
+    text::hex(word).unwrap_or(u64::MAX)
 }
 
 fn power(low: u64, high: u64) -> Command {

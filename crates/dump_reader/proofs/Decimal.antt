@@ -7,7 +7,7 @@ use native.Mathlib.Omega.{arith}
 use borrow.Author.Tests.{lt-ltb, ltb-true, ltb-false}
 use lib.Dec.{ltb}
 use lib.ListN.{length, length-append}
-use Rattle.text.specs.declared.numbers.Number.TheVariants.{Value}
+use Rattle.std.specs.Prelude.{Ok}
 use Rattle.text.specs.Numbers.{between, digit_value, all_digits, value_after, fitting, number_in}
 use Rattle.text.specs.Output.{digit_byte, decimal_up_to, decimal_text}
 use Rattle.text.proofs.Reading.{inside}
@@ -77,7 +77,7 @@ some-digit : (n : ℕ) → 0 < length (decimal_text n)
 unfolding decimal_up_to
 some-digit n = omega (arith, length-append (cond (ltb n 10) [] (decimal_up_to n (n / 10))) (digit_byte (n % 10) ∷ []))
 
-pub number-back : (n : ℕ) → n < 2 ^ 64 → number_in 10 (decimal_text n) ≡ Value n
+pub number-back : (n : ℕ) → n < 2 ^ 64 → number_in 10 (decimal_text n) ≡ Ok n
 unfolding number_in fitting
 number-back n small =
     let self : n < suc n = omega arith in

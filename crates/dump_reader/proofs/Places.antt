@@ -12,8 +12,9 @@ use Rattle.std.specs.Prelude.{Err}
 use Rattle.laws.specs.declared.Refusal.{Refusal}
 use Rattle.laws.proofs.Refusals.{refused_place}
 use Rattle.trace.specs.Limits.{largest_stamp}
-use Rattle.text.specs.declared.numbers.Number.{Number}
-use Rattle.text.specs.declared.numbers.Number.TheVariants.{Value, TooLarge, Bad}
+use Rattle.std.specs.Prelude.{Result, Ok, Err}
+use Rattle.text.specs.declared.numbers.NotNumber.{NotNumber}
+use Rattle.text.specs.declared.numbers.NotNumber.TheVariants.{TooLarge, Bad}
 use Rattle.text.specs.Numbers.{number_in}
 use Rattle.dump_reader.specs.declared.words.Word.{Word}
 use Rattle.dump_reader.specs.declared.reader.Part.{Part}
@@ -86,10 +87,10 @@ judge-place reader stamp inside =
     go false false false true = refl
     go false false false false = refl
 
-stamp-place : (reader : Reader) (said : Number) (inside : Bool) → (read_stamp reader said inside).place ≡ reader.place
-stamp-place reader (Value stamp) inside = judge-place reader stamp inside
-stamp-place reader TooLarge inside = judge-place reader 18446744073709551615 inside
-stamp-place reader Bad inside = refl
+stamp-place : (reader : Reader) (said : Result ℕ NotNumber) (inside : Bool) → (read_stamp reader said inside).place ≡ reader.place
+stamp-place reader (Ok stamp) inside = judge-place reader stamp inside
+stamp-place reader (Err TooLarge) inside = judge-place reader 18446744073709551615 inside
+stamp-place reader (Err Bad) inside = refl
 
 assign-place : (text : List ℕ) (reader : Reader) (word : List ℕ) (high : Bool)
     → (assign text reader word high).place ≡ reader.place

@@ -1,10 +1,9 @@
 -- The definitions: what may stand after each word, in the order of 02 and the standard.
-use Rattle.std.specs.Prelude.{ℕ, Bool, cond, not, ◌&&◌, ◌||◌, List, eqb, ltb, length}
+use Rattle.std.specs.Prelude.{ℕ, Bool, cond, not, ◌&&◌, ◌||◌, List, eqb, ltb, length, Result, Ok, Err}
 use Rattle.text.specs.Bytes.{ascii}
 use Rattle.text.specs.Words.{run_length}
 use Rattle.text.specs.Numbers.{number_in}
-use Rattle.text.specs.declared.numbers.Number as said
-use Rattle.text.specs.declared.numbers.Number.TheVariants.{Value, TooLarge, Bad}
+use Rattle.text.specs.declared.numbers.NotNumber.{NotNumber}
 use Rattle.dump_reader.specs.declared.words.Run.TheVariants.{Graphic}
 use Rattle.dump_reader.specs.declared.words.Word.{Word}
 use Rattle.dump_reader.specs.declared.reader.Part as part
@@ -68,10 +67,9 @@ wire_type word = cond (same word (ascii "wire")) next.WireSize (next.Refused 24)
 unfoldable pub one : ℕ → part.Part
 one size = cond (eqb size 1) next.Identifier (next.Refused 24)
 
-abbrev pub sized : said.Number → part.Part
-sized (Value size) = one size
-sized TooLarge = next.Refused 24
-sized Bad = next.Refused 24
+abbrev pub sized : Result ℕ NotNumber → part.Part
+sized (Ok size) = one size
+sized (Err why) = next.Refused 24
 
 abbrev pub wire_size : List ℕ → part.Part
 wire_size word = sized (number_in 10 word)

@@ -2,8 +2,9 @@
 use Rattle.std.specs.Prelude.{ℕ, Bool, true, false, cond, not, ◌&&◌, ◌||◌, List, eqb, leb, ltb, length, drop}
 use Rattle.text.specs.Bytes.{ascii}
 use Rattle.text.specs.Numbers.{number_in}
-use Rattle.text.specs.declared.numbers.Number as said
-use Rattle.text.specs.declared.numbers.Number.TheVariants.{Value, TooLarge, Bad}
+use Rattle.std.specs.Prelude.{Result, Ok, Err}
+use Rattle.text.specs.declared.numbers.NotNumber.{NotNumber}
+use Rattle.text.specs.declared.numbers.NotNumber.TheVariants.{TooLarge, Bad}
 use Rattle.levels.specs.Levels as levels
 use Rattle.trace.specs.Limits.{largest_stamp}
 use Rattle.dump_reader.specs.declared.reader.Part as part
@@ -55,10 +56,10 @@ judge reader stamp inside =
     (cond inside (refused_by 27 reader) (with_wave (stamped reader.wave stamp) reader))))
 
 -- `#` and decimal digits, any number of them, else 27
-abbrev pub read_stamp : Reader → said.Number → Bool → Reader
-read_stamp reader (Value stamp) inside = judge reader stamp inside
-read_stamp reader TooLarge inside = judge reader 18446744073709551615 inside
-read_stamp reader Bad inside = refused_by 27 reader
+abbrev pub read_stamp : Reader → Result ℕ NotNumber → Bool → Reader
+read_stamp reader (Ok stamp) inside = judge reader stamp inside
+read_stamp reader (Err TooLarge) inside = judge reader 18446744073709551615 inside
+read_stamp reader (Err Bad) inside = refused_by 27 reader
 
 -- 27: no identifier; 22: one that is not declared; 27: before any stamp
 unfoldable pub assign : List ℕ → Reader → List ℕ → Bool → Reader

@@ -4,7 +4,7 @@ ghost use Rattle.dump_reader.specs.Definitions as rule;
 
 use crate::reader::{Part, Reader};
 use crate::words::{Run, Word, bytes_of, is_command, is_same, run_length};
-use text::{Number, decimal};
+use text::{NotNumber, decimal};
 
 // `$end`, and nothing else.
 pub(crate) fn close(word: &[u8], next: Part) -> Part
@@ -124,13 +124,12 @@ pub(crate) fn wire_size(word: &[u8]) -> Part
     sized(decimal(word))
 }
 
-fn sized(size: Number) -> Part
+fn sized(size: Result<u64, NotNumber>) -> Part
     ensures { result ≡ rule.sized size }
 {
     match size {
-        Number::Value(n) => one(n),
-        Number::TooLarge => Part::Refused(24),
-        Number::Bad => Part::Refused(24),
+        Ok(n) => one(n),
+        Err(_) => Part::Refused(24),
     }
 }
 

@@ -5,7 +5,7 @@ ghost use Rattle.dump_reader.specs.Values as rule;
 use crate::definitions::close;
 use crate::reader::{Part, Reader, Wave};
 use crate::words::{bytes_of, first_byte, is_same, tail};
-use text::{Number, decimal};
+use text::{NotNumber, decimal};
 use trace::MAX_STAMP;
 
 // A level byte with one line high or low.
@@ -68,13 +68,13 @@ fn judge(reader: Reader, stamp: u64, inside: bool) -> Reader
     reader.waved(stamped(wave, stamp as u32))
 }
 
-fn read_stamp(reader: Reader, number: Number, inside: bool) -> Reader
+fn read_stamp(reader: Reader, number: Result<u64, NotNumber>, inside: bool) -> Reader
     ensures { result ≡ rule.read_stamp reader number inside }
 {
     match number {
-        Number::Value(stamp) => judge(reader, stamp, inside),
-        Number::TooLarge => judge(reader, u64::MAX, inside),
-        Number::Bad => reader.refused(27),
+        Ok(stamp) => judge(reader, stamp, inside),
+        Err(NotNumber::TooLarge) => judge(reader, u64::MAX, inside),
+        Err(NotNumber::Bad) => reader.refused(27),
     }
 }
 

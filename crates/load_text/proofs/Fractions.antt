@@ -7,13 +7,13 @@ use native.Mathlib.Omega.{arith}
 use borrow.Author.Tests.{eq-eqb, ne_eqb, ltb-true, ltb-false}
 use lib.Dec.{eqb, ltb}
 use lib.ListN.{length, take, drop}
-use Rattle.std.specs.Prelude.{Option, Some, None}
+use Rattle.std.specs.Prelude.{Option, Some, None, Result}
 use Rattle.std.specs.List.{position, position_or_len}
 use Rattle.std.proofs.lemmas.List.Recursion.{is_position_or_len}
 use Rattle.std.proofs.lemmas.Option.{cond_some, none-some}
 use Rattle.laws.specs.Search.{first}
 use Rattle.laws.proofs.Search.{first-within}
-use Rattle.text.specs.declared.numbers.Number.{Number}
+use Rattle.text.specs.declared.numbers.NotNumber.{NotNumber}
 use Rattle.text.specs.Numbers.{number_in}
 use Rattle.text.proofs.Runs.{to_end}
 use Rattle.load_text.specs.Words.{slash, parts_from, parts_in}
@@ -42,7 +42,7 @@ module _ (word : List ℕ) where
       go false so none =
           omega (arith, first-is, first-within slash word, ltb-false (position_or_len slash word) (length word) so)
 
-pub parts-found : (word : List ℕ) (end : ℕ) (one other : Number) (r : Option (ℕ × ℕ))
+pub parts-found : (word : List ℕ) (end : ℕ) (one other : Result ℕ NotNumber) (r : Option (ℕ × ℕ))
     → Some end ≡ position slash word
     → one ≡ number_in 10 (take end word)
     → other ≡ number_in 10 (take (length word - (end + 1)) (drop (end + 1) word))

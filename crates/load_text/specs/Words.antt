@@ -1,13 +1,13 @@
 -- What the words of a file of loads say.
 use Rattle.std.specs.Prelude.{Bool, false, cond, not, ◌&&◌, ◌||◌, List, ℕ, ◌+◌, eqb, leb, ltb, length, get_or, take, drop}
-use Rattle.std.specs.Prelude.{Option, Some, None}
+use Rattle.std.specs.Prelude.{Option, Some, None, Result}
 use Rattle.laws.specs.Search.{first}
-use Rattle.text.specs.declared.numbers.Number.{Number}
+use Rattle.text.specs.declared.numbers.NotNumber.{NotNumber}
 use Rattle.text.specs.Numbers.{number_in, between}
 use Rattle.rig_lines.specs.Numbers.{value_in, says_number}
 
 -- a number up to 255
-unfoldable pub small_in : Number → Option ℕ
+unfoldable pub small_in : Result ℕ NotNumber → Option ℕ
 small_in number = cond (ltb 255 (value_in number)) None (Some (value_in number))
 
 -- a byte of a board: exactly two hexadecimal digits; in the old form one or two
@@ -25,7 +25,7 @@ acknowledge_in word = small_in (number_in 10 word)
 abbrev pub slash : ℕ → Bool
 slash b = eqb b 47
 
-unfoldable pub parts_from : Number → Number → Option (ℕ × ℕ)
+unfoldable pub parts_from : Result ℕ NotNumber → Result ℕ NotNumber → Option (ℕ × ℕ)
 parts_from one other =
     cond (says_number one && says_number other) (Some (value_in one, value_in other)) None
 

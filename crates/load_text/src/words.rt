@@ -4,7 +4,7 @@ ghost use Rattle.load_text.specs.Words.{small_in, byte_in, short_byte_in, acknow
 ghost use Rattle.load_text.specs.Words.{letter, one_or_two_digits, board_name, load_name};
 
 use rig_lines::numbers::{is_number, value};
-use text::Number;
+use text::NotNumber;
 
 // The longest name of a board, and of a load.
 pub const BOARD_NAME: usize = 16;
@@ -12,7 +12,7 @@ pub const BOARD_NAME: usize = 16;
 pub const LOAD_NAME: usize = 32;
 
 // A number up to 255.
-fn small(number: Number) -> Option<u8>
+fn small(number: Result<u64, NotNumber>) -> Option<u8>
     ensures { result ≡ small_in number }
 {
     u8::try_from(value(number)).ok()
@@ -52,7 +52,7 @@ fn slash_at(word: &[u8]) -> Option<usize>
     word.iter().position(|b| *b == b'/')
 }
 
-fn parts_from(one: Number, other: Number) -> Option<(u64, u64)>
+fn parts_from(one: Result<u64, NotNumber>, other: Result<u64, NotNumber>) -> Option<(u64, u64)>
     ensures { result ≡ parts_from one other }
 {
     if is_number(one) & is_number(other) {

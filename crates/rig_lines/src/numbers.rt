@@ -2,35 +2,28 @@
 ghost use Rattle.std.specs.Prelude.{◌≡◌};
 ghost use Rattle.rig_lines.specs.Numbers.{value_in, says_number, byte_in, one_more};
 
-use text::Number;
+use text::NotNumber;
 
 // The number that a word says, and one above every limit where it says none.
-pub fn value(number: Number) -> u64
+pub fn value(number: Result<u64, NotNumber>) -> u64
     ensures { result ≡ value_in number }
 {
-    match number {
-        Number::Value(v) => v,
-        Number::TooLarge => u64::MAX,
-        Number::Bad => u64::MAX,
-    }
+    number.unwrap_or(u64::MAX)
 }
 
-pub fn is_number(number: Number) -> bool
+// Also one that is too large.
+pub fn is_number(number: Result<u64, NotNumber>) -> bool
     ensures { result ≡ says_number number }
 {
-    match number {
-        Number::Value(_) => true,
-        Number::TooLarge => true,
-        Number::Bad => false,
-    }
+    !matches!(number, Err(NotNumber::Bad))
 }
 
 // A byte of one or two hexadecimal digits.
-pub fn hex_byte(word: &[u8]) -> Number
+pub fn hex_byte(word: &[u8]) -> Result<u64, NotNumber>
     ensures { result ≡ byte_in word.now }
 {
     if word.len() > 2 {
-        return Number::Bad;
+        return Err(NotNumber::Bad);
     }
     text::hex(word)
 }

@@ -5,6 +5,6 @@ mod numbers;
 mod output;
 mod words;
 
-pub use numbers::{Number, decimal, digit, hex};
+pub use numbers::{NotNumber, decimal, digit, hex};
 pub use output::{put_byte, put_bytes, put_decimal, put_hex_byte, put_hex_word};
 pub use words::{after_line, after_word, first_line, first_word};

@@ -11,6 +11,7 @@ use trace::{NACK, PARTIAL, REPEATED_START, START, STOP};
 
 const LARGEST_BYTE: u64 = 255;
 
+// No Result: a line of numbers is no failure, and its reader goes on with it.
 #[derive(Clone, Copy)]
 pub enum Said {
     Event(u16),

@@ -1,5 +1,5 @@
 -- `dump_reader::definitions::sized` meets its contract.
 use Rattle.dump_reader.proofs.definitions.sized.Goals as goal
 
-pub returns-in-Value : goal.returns-in-Value
-returns-in-Value c = rw c.in-Value.is c.one.ensures
+pub returns-in-Ok : goal.returns-in-Ok
+returns-in-Ok c = rw c.in-Ok.is c.one.ensures
