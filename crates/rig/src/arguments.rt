@@ -252,6 +252,7 @@ fn chosen<E: Env>(env: &E) -> Result<Task, Complaint> {
     }
 }
 
+// The loop of rig_clash is the same: a function for both would take a closure for the word, and save no line.
 pub(crate) fn parse<E: Env>(env: &E) -> Result<Arguments, Complaint> {
     let mut given = Arguments::none(chosen(env)?);
     for i in 2..count(env) {

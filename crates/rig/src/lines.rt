@@ -26,6 +26,7 @@ fn put_mark(
 }
 
 // A part of a line, perhaps its first.
+// A loop of its own: a function shared with the other programs would take two closures, and save no line here.
 pub(crate) fn put(
     page: &mut [u8; PAGE],
     at: usize,

@@ -59,8 +59,6 @@ pub(crate) struct Arguments {
     input: bool,
     // the option that the next word is for
     wants: Option<Taking>,
-    // what is wrong with them
-    pub(crate) problem: Option<Problem>,
 }
 
 fn flag_of(word: &[u8]) -> Option<Flag> {
@@ -74,6 +72,11 @@ fn flag_of(word: &[u8]) -> Option<Flag> {
         b"--svg" => Some(Flag::Svg),
         _ => None,
     }
+}
+
+// What is wrong with the words, with the word that was met.
+fn trouble(form: Form, word: &[u8]) -> Problem {
+    problem::of(None, form, word, 0, 0, 0, Reach::Line)
 }
 
 impl Arguments {
@@ -90,27 +93,17 @@ impl Arguments {
             room: usize::MAX,
             input: false,
             wants: None,
-            problem: None,
         }
     }
 
-    fn is_broken(self) -> bool {
-        self.problem.is_some()
-    }
-
-    fn trouble(mut self, form: Form, word: &[u8]) -> Arguments {
-        self.problem = Some(problem::of(None, form, word, 0, 0, 0, Reach::Line));
-        self
-    }
-
-    fn with_room(mut self, word: &[u8]) -> Arguments {
+    fn with_room(mut self, word: &[u8]) -> Result<Arguments, Problem> {
         let number = text::decimal(word);
         if !is_number(number) {
-            return self.trouble(Form::Number, word);
+            return Err(trouble(Form::Number, word));
         }
         self.room = value(number) as usize;
         self.wants = None;
-        self
+        Ok(self)
     }
 
     fn with_file(mut self) -> Arguments {
@@ -119,22 +112,22 @@ impl Arguments {
     }
 
     // Standard input is read once.
-    fn with_input(mut self) -> Arguments {
+    fn with_input(mut self) -> Result<Arguments, Problem> {
         if self.input {
-            return self.trouble(Form::InputTwice, b"");
+            return Err(trouble(Form::InputTwice, b""));
         }
         self.input = true;
-        self
+        Ok(self)
     }
 
     // The file after --corrections.
-    fn with_corrections(mut self, argument: usize, word: &[u8]) -> Arguments {
+    fn with_corrections(mut self, argument: usize, word: &[u8]) -> Result<Arguments, Problem> {
         self.corrections = Some(argument);
         self.wants = None;
         if is_dash(word) {
             return self.with_input();
         }
-        self
+        Ok(self)
     }
 
     // The load after --trace.
@@ -144,10 +137,10 @@ impl Arguments {
         self
     }
 
-    fn with_option(self, word: &[u8]) -> Arguments {
+    fn with_option(self, word: &[u8]) -> Result<Arguments, Problem> {
         match flag_of(word) {
-            Some(flag) if takes(self.command, flag) => self.with_flag(flag),
-            _ => self.trouble(unknown_form(self.command), word),
+            Some(flag) if takes(self.command, flag) => Ok(self.with_flag(flag)),
+            _ => Err(trouble(unknown_form(self.command), word)),
         }
     }
 
@@ -163,7 +156,7 @@ impl Arguments {
     }
 
     // A word that no option takes.
-    fn with_other(self, argument: usize, word: &[u8]) -> Arguments {
+    fn with_other(self, argument: usize, word: &[u8]) -> Result<Arguments, Problem> {
         if is_option(word) {
             return self.with_option(word);
         }
@@ -173,15 +166,15 @@ impl Arguments {
         if is_dash(word) {
             return self.with_file().with_input();
         }
-        self.with_file()
+        Ok(self.with_file())
     }
 
     // The load that is drawn.
-    fn with_load(self, argument: usize, word: &[u8]) -> Arguments {
+    fn with_load(self, argument: usize, word: &[u8]) -> Result<Arguments, Problem> {
         if self.trace.is_some() {
-            return self.trouble(Form::AfterLoad, word);
+            return Err(trouble(Form::AfterLoad, word));
         }
-        self.with_trace(argument)
+        Ok(self.with_trace(argument))
     }
 
     pub(crate) fn nights(self) -> bool {
@@ -192,20 +185,20 @@ impl Arguments {
         self.command == Command::Draw
     }
 
-    fn with_word(self, argument: usize, word: &[u8]) -> Arguments {
+    fn with_word(self, argument: usize, word: &[u8]) -> Result<Arguments, Problem> {
         match self.wants {
             Some(Taking::Room) => self.with_room(word),
             Some(Taking::Corrections) => self.with_corrections(argument, word),
-            Some(Taking::Trace) => self.with_trace(argument),
+            Some(Taking::Trace) => Ok(self.with_trace(argument)),
             None => self.with_other(argument, word),
         }
     }
 
-    fn with_argument<E: Env>(self, env: &E, argument: usize) -> Arguments {
+    fn with_argument<E: Env>(self, env: &E, argument: usize) -> Result<Arguments, Problem> {
         let mut space = io::buffer();
         match find(env, argument, &mut space) {
             Ok(n) => self.with_word(argument, &space[..n]),
-            Err(_) => self.trouble(Form::LongArgument, b""),
+            Err(_) => Err(trouble(Form::LongArgument, b"")),
         }
     }
 
@@ -233,13 +226,10 @@ impl Arguments {
         None
     }
 
-    fn finished(self) -> Arguments {
-        if self.is_broken() {
-            return self;
-        }
+    fn finished(self) -> Result<Arguments, Problem> {
         match self.lacking() {
-            Some(form) => self.trouble(form, b""),
-            None => self,
+            Some(form) => Err(trouble(form, b"")),
+            None => Ok(self),
         }
     }
 }
@@ -272,13 +262,10 @@ fn unknown_form(command: Command) -> Form {
     }
 }
 
-pub(crate) fn parse<E: Env>(env: &E) -> Arguments {
+pub(crate) fn parse<E: Env>(env: &E) -> Result<Arguments, Problem> {
     let mut given = Arguments::none(command_of(env));
     for argument in 2..count(env) {
-        if given.is_broken() {
-            return given;
-        }
-        given = given.with_argument(env, argument);
+        given = given.with_argument(env, argument)?;
     }
     given.finished()
 }

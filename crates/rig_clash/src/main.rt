@@ -190,9 +190,8 @@ fn refuse(page: &mut [u8; PAGE], problem: Problem) {
 
 fn main(rt: HostRuntime) {
     let mut page = [0u8; PAGE];
-    let given = arguments::parse(&rt);
-    match given.problem {
-        Some(problem) => refuse(&mut page, problem),
-        None => run(&rt, rt.stdin(), given),
+    match arguments::parse(&rt) {
+        Ok(given) => run(&rt, rt.stdin(), given),
+        Err(problem) => refuse(&mut page, problem),
     }
 }

@@ -2,15 +2,12 @@
 use crate::columns::pad;
 use crate::kept;
 use crate::order::byte_at;
-use rig_lines::console::{PAGE, begin, note, put_form, put_shown};
+use rig_lines::console::{PAGE, begin, note, put_form, put_formed, put_shown, taken};
 use rig_lines::files::put_reason;
-use text::{put_byte, put_bytes, put_decimal, put_hex_byte};
+use rig_lines::store::line_at;
+use text::{put_byte, put_bytes, put_hex_byte};
 
-// What stands for the next number, in decimal or as two hexadecimal digits; for `s`, unless the number before was 1.
-const DECIMAL: u8 = b'#';
-
-const HEX: u8 = b'%';
-
+// Beside the marks of a form, what stands for `s`, unless the number before was 1.
 const PLURAL: u8 = b'~';
 
 // What stands for the name of the load, and for its title after a space, where it has one.
@@ -37,16 +34,12 @@ const COLUMN: u8 = b'_';
 
 const PASSED: u8 = b'?';
 
-fn number_at(numbers: &[u64], place: usize) -> u64 {
-    numbers.get(place).copied().unwrap_or(0)
-}
-
 // The place after a byte of the words.
 fn after(b: u8, place: usize) -> usize {
     match b {
-        DECIMAL | HEX | NAME | BOARD | FILE | REASON | COLUMN | PASSED => place.saturating_add(1),
+        NAME | BOARD | FILE | REASON | COLUMN | PASSED => place.saturating_add(1),
         MESSAGE => place.saturating_add(3),
-        _ => place,
+        _ => place.saturating_add(taken(b)),
     }
 }
 
@@ -121,10 +114,10 @@ fn put_kept(
     numbers: &[u64],
     place: usize,
 ) -> usize {
-    let number = number_at(numbers, place);
-    let one = number_at(numbers, place.saturating_sub(1)) == 1;
-    let start = number_at(numbers, place.saturating_add(1)) as usize;
-    let end = number_at(numbers, place.saturating_add(2)) as usize;
+    let number = line_at(numbers, place);
+    let one = line_at(numbers, place.saturating_sub(1)) == 1;
+    let start = line_at(numbers, place.saturating_add(1)) as usize;
+    let end = line_at(numbers, place.saturating_add(2)) as usize;
     match b {
         PLURAL => put_bytes(page, at, if one { b"" } else { b"s" }),
         LOAD => put_bytes(page, at, kept::name(kept)),
@@ -146,10 +139,8 @@ fn put_mark(
     numbers: &[u64],
     place: usize,
 ) -> usize {
-    let number = number_at(numbers, place);
+    let number = line_at(numbers, place);
     match b {
-        DECIMAL => put_decimal(page, at, number),
-        HEX => put_hex_byte(page, at, (number % 256) as u8),
         FILE => put_file(page, at, kept, number),
         REASON => put_reason(page, at, number),
         COLUMN => pad(page, from, at, number as usize),
@@ -157,11 +148,12 @@ fn put_mark(
         PLURAL | LOAD | TITLE | NAME | BOARD | MESSAGE => put_kept(
             page, at, kept, b, numbers, place,
         ),
-        _ => put_byte(page, at, b),
+        _ => put_formed(page, at, b, number),
     }
 }
 
 // Words with marks and their numbers, in a line that begins at a position.
+// A loop of its own: a function shared with the other programs would take two closures, and save no line here.
 pub(crate) fn put_in(
     page: &mut [u8; PAGE],
     from: usize,

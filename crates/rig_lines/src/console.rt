@@ -149,6 +149,7 @@ pub fn put_formed(page: &mut [u8], at: usize, b: u8, n: u64) -> usize
 }
 
 // Words in which each mark stands for the next number: `#` in decimal, `%` as two hexadecimal digits.
+// The loops of the programs stay beside this one: its contract names the text of each byte, which a closure would hide.
 pub fn put_form(page: &mut [u8], at: usize, words: &[u8], numbers: &[u64]) -> usize
     ensures { Put page.old at (form_text words.now numbers.now)
         page.new result }

@@ -92,6 +92,7 @@ fn put_mark(
 }
 
 // Words, with what the marks in them stand for.
+// A loop of its own: a function shared with the other programs would take three closures, and save no line.
 pub(crate) fn put(
     page: &mut [u8; PAGE],
     at: usize,

@@ -6,5 +6,8 @@ pub loop-init : goal.loop-init
 loop-init g c = (search rules, nothing)
 
 pub loop-preserved : goal.loop-preserved
-loop-preserved g c =
-    (search (rules, of_calls), one c.in-Some.from c.loop.invariant.1 c.in-Some.ensures c.next_line-taken.ensures (_, refl, c.after-state.ensures))
+loop-preserved g c = (
+  search (rules, of_calls),
+  one c.in-Some.from c.loop.invariant.1 c.in-Some.ensures c.next_line-taken.ensures
+      (_, refl, c.after-state.ensures),
+)

@@ -1,5 +1,4 @@
 -- `rig_lines::following::follow` meets its contract. The invariant: the lines so far are followed.
-use Prim.Native.Nat.{ℕ}
 use mathlib.Core.Path.{◌≡◌}
 use Rattle.rig_lines.specs.Following.{Followed}
 use Rattle.rig_lines.proofs.following.follow.Given as goal
