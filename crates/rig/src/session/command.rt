@@ -1,6 +1,6 @@
 // The commands of a session: a name, and numbers in hexadecimal.
 use rig_lines::lists::line_of;
-use text::{Number, after_word, first_word};
+use text::{after_word, first_word};
 use usi::Usi;
 
 #[derive(Clone, Copy)]
@@ -23,10 +23,7 @@ const REGISTERS: &[u8] = b"USICTL0\nUSICTL1\nUSICKCTL\nUSICNT\nUSISRL\nUSISRH\n"
 
 // The number that a word says.
 fn number(word: &[u8]) -> Option<u64> {
-    match text::hex(word) {
-        Number::Value(value) => Some(value),
-        _ => None,
-    }
+    text::hex(word).ok()
 }
 
 fn byte(word: &[u8]) -> Option<u8> {
