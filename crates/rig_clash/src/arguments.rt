@@ -6,6 +6,7 @@ use crate::words::is_dash;
 use rig_lines::arguments::{count, find, word};
 use rig_lines::numbers::{is_number, value};
 use rig_lines::options::is_option;
+use std::env::FillError;
 use std::rt::Env;
 
 #[derive(Clone, Copy, PartialEq, Eq)]
@@ -278,20 +279,22 @@ fn role_of(word: &[u8]) -> Role {
     }
 }
 
-// The same of an argument.
-fn role_at<E: Env>(env: &E, argument: usize) -> Role {
+// The same of an argument, if there is one; what is longer than any option is a file.
+fn role_at<E: Env>(env: &E, argument: usize) -> Option<Role> {
     let mut space = io::buffer();
     match find(env, argument, &mut space) {
-        Ok(n) => role_of(&space[..n]),
-        Err(_) => Role::File,
+        Ok(n) => Some(role_of(&space[..n])),
+        Err(FillError::NotPresent) => None,
+        Err(_) => Some(Role::File),
     }
 }
 
-// The first argument from one on that names a file.
+// The first argument from one on that names a file. The walk ends at the first that is missing: it is made once for each
+// file, so it must not count them all.
 pub(crate) fn next_file<E: Env>(env: &E, from: usize) -> Option<usize> {
     let mut taken = false;
-    for argument in from..count(env) {
-        let role = role_at(env, argument);
+    for argument in from..usize::MAX {
+        let role = role_at(env, argument)?;
         if !taken & (role == Role::File) {
             return Some(argument);
         }

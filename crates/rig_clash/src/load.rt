@@ -14,8 +14,9 @@ pub(crate) struct Load {
     // how many boards there are, in the old form as many as there are rows, and how many of them are kept
     pub(crate) rows: u64,
     pub(crate) boards: usize,
-    // the line of each board; how many bytes it has; whether it is silent, as is a place without a board
-    pub(crate) lines: [Option<u64>; MAX_MASTERS],
+    // the line of each board, 0 where it has none: a load goes by value with every line that is read, and options would
+    // double these; how many bytes it has; whether it is silent, as is a place without a board
+    lines: [u64; MAX_MASTERS],
     pub(crate) lengths: [u32; MAX_MASTERS],
     pub(crate) silent: [bool; MAX_MASTERS],
     // the line with the acknowledges; how many there are, where it does not say `all`
@@ -44,7 +45,7 @@ pub(crate) fn none() -> Load {
         widest: 0,
         rows: 0,
         boards: 0,
-        lines: [None; MAX_MASTERS],
+        lines: [0; MAX_MASTERS],
         lengths: [0; MAX_MASTERS],
         silent: [true; MAX_MASTERS],
         ack_line: None,
@@ -75,7 +76,7 @@ pub(crate) fn begun(line: u64, named: bool, boards: usize, widest: usize) -> Loa
 impl Load {
     // The line of a board.
     pub(crate) fn line_of(self, board: usize) -> Option<u64> {
-        *self.lines.get(board)?
+        self.lines.get(board).copied().filter(|line| *line > 0)
     }
 
     pub(crate) fn length_of(self, board: usize) -> u32 {
@@ -89,7 +90,7 @@ impl Load {
     // A board's line is read: it is not silent unless the line says so.
     pub(crate) fn with_line(mut self, board: usize, line: u64) -> Load {
         if board < MAX_MASTERS {
-            self.lines[board] = Some(line);
+            self.lines[board] = line;
         }
         self
     }
