@@ -82,6 +82,7 @@ pub(crate) enum Sought {
     Waiting,
 }
 
+#[inline(always)]
 pub(crate) fn is_a(book: &[u32], row: usize, sought: Sought) -> bool
     ensures { result ≡ is_a sought book.now row }
 {

@@ -5,7 +5,8 @@ ghost use Rattle.frame_match.specs.Rows.{between, count, first_row, load_of, boa
 
 use crate::book::{Sought, is_a, is_load, is_rehearsed, is_sought};
 
-// The first row from one on that passes a test; the end where none does.
+// The first row from one on that passes a test; the end where none does. Inlined, or each row costs a call of the test.
+#[inline(always)]
 fn first_passing<F: Fn(usize) -> bool>(from: usize, end: usize, passes: F) -> usize
     requires { F.IsAlwaysCallable passes }
     ensures { (test : ℕ → Bool) → ((row : ℕ) (passed : Bool) → F.post passes row passed → passed ≡ test row)

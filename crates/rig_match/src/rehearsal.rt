@@ -51,10 +51,12 @@ fn message_in(words: &[u8]) -> &[u8] {
 
 // The kind of a board by its first word; one that WON may be cut.
 fn kind_of(word: &[u8], message: &[u8]) -> usize {
-    match (word, first_word(words::after_message(message))) {
-        (b"WON", b"CUT") => CUT,
-        (b"WON", _) => WON,
-        (b"in", _) => IN,
+    match word {
+        b"WON" => match first_word(words::after_message(message)) {
+            b"CUT" => CUT,
+            _ => WON,
+        },
+        b"in" => IN,
         _ => LOST,
     }
 }
