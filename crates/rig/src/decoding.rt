@@ -64,10 +64,12 @@ fn put_ending(
 ) -> usize {
     let numbers = [ending.count as u64, samples as u64, ending.pending as u64];
     let pending = put_numbers(page, at, words, &numbers);
-    if ending.pending == 0 {
-        return pending;
-    }
-    put_numbers(page, pending, b", value %h", &[ending.value as u64])
+    // also where there is none, since the page may be full here: then it is written in two
+    let value: &[u8] = match ending.pending {
+        0 => b"",
+        _ => b", value %h",
+    };
+    put_numbers(page, pending, value, &[ending.value as u64])
 }
 
 // The last line: how the trace ends, and what was met that needs a look.
