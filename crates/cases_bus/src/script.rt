@@ -44,7 +44,7 @@ pub fn level_of(sample: &[u8]) -> u8 {
 }
 
 // What `read` makes of each word of a line, as many as there is room for, and how many those are.
-pub fn read_words<T: Copy, F: Fn(&[u8]) -> T>(line: &[u8], items: &mut [T], read: F) -> usize
+pub(crate) fn read_words<T: Copy, F: Fn(&[u8]) -> T>(line: &[u8], items: &mut [T], read: F) -> usize
     requires { F.IsAlwaysCallable read }
     ensures { result ≤ length items.new }
 {

@@ -9,7 +9,7 @@ use crate::trouble::Fault;
 use reply::{Answer, Reply};
 use rig_lines::console::{PAGE, flush};
 use rig_lines::files::Reader;
-use rig_lines::following::follow;
+use rig_lines::following::{Follower, follow};
 use rig_lines::input;
 use rig_lines::input::{ROOM, Source, Taken};
 use std::rt::Env;
@@ -132,6 +132,26 @@ impl Session {
     }
 }
 
+// The page that the replies of a session are put on.
+#[derive(Drop)]
+struct Replies<'a> {
+    page: &'a mut [u8; PAGE],
+}
+
+impl Follower<Session> for Replies<'_> {
+    ghost says = { λ state from. Unit {0} };
+
+    ghost step = { λ before state taken line result after. Unit {0} };
+
+    fn next(&self, session: Session) -> Option<Source> {
+        session.next()
+    }
+
+    fn after(&mut self, session: Session, taken: Taken, line: &[u8]) -> Session {
+        session.followed(self.page, taken, line)
+    }
+}
+
 pub(crate) fn run<E: Env>(
     env: &E,
     reader: &mut Reader,
@@ -140,13 +160,8 @@ pub(crate) fn run<E: Env>(
 ) -> usize {
     let mut piece = [0u8; PAGE];
     let mut line = [0u8; ROOM];
-    let session = follow(
-        reader,
-        &mut piece,
-        &mut line,
-        Session::new(source),
-        |session| session.next(),
-        |session, taken, line| session.followed(page, taken, line),
-    );
-    session.summary(env, page)
+    let mut replies = Replies { page };
+    let begun = Session::new(source);
+    let session = follow(reader, &mut piece, &mut line, begun, &mut replies);
+    session.summary(env, replies.page)
 }

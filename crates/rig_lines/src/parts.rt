@@ -10,7 +10,7 @@ pub fn lent<T>(n: usize, slice: &[T]) -> usize
 }
 
 // The same of bytes.
-pub(crate) fn bytes(n: usize, slice: &[u8]) -> usize
+pub fn bytes(n: usize, slice: &[u8]) -> usize
     ensures prefix_len { Lent result slice.now }
     ensures value { result ≡ min n (length slice.now) }
 {

@@ -4,7 +4,7 @@ use crate::capture::EVENTS;
 use crate::{book, capture, rehearsal};
 use rig_lines::console::{PAGE, begin, put_form, put_quoted};
 use rig_lines::files::put_reason;
-use rig_lines::following::follow;
+use rig_lines::following::{Follower, follow};
 use rig_lines::input;
 use rig_lines::input::{Line, ROOM, Source, Taken};
 use std::io::Stdin;
@@ -194,6 +194,40 @@ fn ended(page: &mut [u8; PAGE], line: &[u8], so_far: Reading) -> Reading {
     reading
 }
 
+// The page that lines are passed on by, and where the rehearsal and the capture are kept.
+#[derive(Drop)]
+struct Kept<'a> {
+    page: &'a mut [u8; PAGE],
+    book: &'a mut [u32; ROW_ROOM],
+    events: &'a mut [u16; EVENT_ROOM],
+    names: &'a mut [u8; NAME_ROOM],
+    seen: &'a mut [u16; EVENTS],
+    stamps: &'a mut [u64; EVENTS],
+}
+
+impl Follower<Reading> for Kept<'_> {
+    ghost says = { λ state from. Unit {0} };
+
+    ghost step = { λ before state taken line result after. Unit {0} };
+
+    fn next(&self, reading: Reading) -> Option<Source> {
+        reading.more.then_some(reading.source)
+    }
+
+    fn after(&mut self, reading: Reading, taken: Taken, line: &[u8]) -> Reading {
+        with_line(
+            self.page,
+            reading.after(taken),
+            line,
+            self.book,
+            self.events,
+            self.names,
+            self.seen,
+            self.stamps,
+        )
+    }
+}
+
 // All of the input.
 pub(crate) fn read_all(
     stdin: &mut Stdin,
@@ -206,24 +240,14 @@ pub(crate) fn read_all(
     seen: &mut [u16; EVENTS],
     stamps: &mut [u64; EVENTS],
 ) -> Reading {
-    let reading = follow(
-        stdin,
-        piece,
-        line,
-        Reading::new(),
-        |reading| reading.more.then_some(reading.source),
-        |reading, taken, line| {
-            with_line(
-                page,
-                reading.after(taken),
-                line,
-                book,
-                events,
-                names,
-                seen,
-                stamps,
-            )
-        },
-    );
-    ended(page, line, reading)
+    let mut kept = Kept {
+        page,
+        book,
+        events,
+        names,
+        seen,
+        stamps,
+    };
+    let reading = follow(stdin, piece, line, Reading::new(), &mut kept);
+    ended(kept.page, line, reading)
 }

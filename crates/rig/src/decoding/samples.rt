@@ -5,8 +5,8 @@ use crate::reading::{Progress, after};
 use crate::trouble::{Fault, Wrong};
 use rig_lines::console::PAGE;
 use rig_lines::files::Reader;
-use rig_lines::following::follow;
-use rig_lines::input::{ROOM, Source};
+use rig_lines::following::{Follower, follow};
+use rig_lines::input::{ROOM, Source, Taken};
 use rig_lines::numbers::{is_number, value};
 use rig_lines::{input, store};
 use std::rt::Env;
@@ -157,7 +157,32 @@ impl Reading {
     }
 }
 
-// What a line says is kept after the samples before it, and counted where it says it.
+// Where samples, and the lines of their stamps, are kept: what a line says comes after the samples before it.
+#[derive(Drop)]
+struct Samples<'a> {
+    stamps: &'a mut [u32; CAPTURE],
+    levels: &'a mut [u8; CAPTURE],
+    lines: &'a mut [u64; CAPTURE],
+}
+
+impl Follower<Reading> for Samples<'_> {
+    ghost says = { λ state from. Unit {0} };
+
+    ghost step = { λ before state taken line result after. Unit {0} };
+
+    fn next(&self, reading: Reading) -> Option<Source> {
+        reading.progress.next()
+    }
+
+    fn after(&mut self, reading: Reading, taken: Taken, line: &[u8]) -> Reading {
+        let next = reading.with_line(after(taken), line);
+        store::keep(self.stamps, reading.stamps, next.stamp);
+        store::keep(self.levels, reading.levels, next.level);
+        store::keep(self.lines, reading.stamps, next.progress.source.line);
+        next
+    }
+}
+
 pub(crate) fn read_all(
     reader: &mut Reader,
     begun: Reading,
@@ -167,18 +192,10 @@ pub(crate) fn read_all(
     levels: &mut [u8; CAPTURE],
     lines: &mut [u64; CAPTURE],
 ) -> Reading {
-    follow(
-        reader,
-        piece,
-        line,
-        begun,
-        |reading| reading.progress.next(),
-        |reading, taken, line| {
-            let next = reading.with_line(after(taken), line);
-            store::keep(stamps, reading.stamps, next.stamp);
-            store::keep(levels, reading.levels, next.level);
-            store::keep(lines, reading.stamps, next.progress.source.line);
-            next
-        },
-    )
+    let mut samples = Samples {
+        stamps,
+        levels,
+        lines,
+    };
+    follow(reader, piece, line, begun, &mut samples)
 }

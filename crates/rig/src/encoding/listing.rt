@@ -8,8 +8,8 @@ use crate::reading::{Progress, after};
 use crate::trouble::{Fault, Wrong};
 use rig_lines::console::PAGE;
 use rig_lines::files::Reader;
-use rig_lines::following::follow;
-use rig_lines::input::{ROOM, Source};
+use rig_lines::following::{Follower, follow};
+use rig_lines::input::{ROOM, Source, Taken};
 use rig_lines::numbers::{is_number, value};
 use rig_lines::{input, store};
 use std::rt::Env;
@@ -150,6 +150,26 @@ impl Listing {
     }
 }
 
+// Where the events of a list are kept.
+#[derive(Drop)]
+struct Events<'a> {
+    events: &'a mut [u16; EVENTS],
+}
+
+impl Follower<Listing> for Events<'_> {
+    ghost says = { λ state from. Unit {0} };
+
+    ghost step = { λ before state taken line result after. Unit {0} };
+
+    fn next(&self, listing: Listing) -> Option<Source> {
+        listing.progress.next()
+    }
+
+    fn after(&mut self, listing: Listing, taken: Taken, line: &[u8]) -> Listing {
+        listing.followed(self.events, after(taken), line)
+    }
+}
+
 pub(crate) fn read_all(
     reader: &mut Reader,
     begun: Listing,
@@ -157,12 +177,5 @@ pub(crate) fn read_all(
     line: &mut [u8; ROOM],
     events: &mut [u16; EVENTS],
 ) -> Listing {
-    follow(
-        reader,
-        piece,
-        line,
-        begun,
-        |listing| listing.progress.next(),
-        |listing, taken, line| listing.followed(events, after(taken), line),
-    )
+    follow(reader, piece, line, begun, &mut Events { events })
 }
