@@ -4,6 +4,7 @@ use mathlib.Core.Path.{◌≡◌, refl, sym, ap, ◌∙◌}
 use mathlib.Core.List.{List, [], ◌∷◌, ◌++◌, map, zip_with}
 use native.Mathlib.Omega.{arith}
 use borrow.Author.Tests.{ne_eqb}
+use Rattle.std.specs.Prelude.{Result, Ok, Err}
 use lib.ListN.{length, take, drop, replicate, length-map}
 use lib.Seq.{take-append_seam}
 use Rattle.laws.specs.declared.Refusal.{Refusal}
@@ -30,9 +31,10 @@ use Rattle.arbitration_turns.proofs.Ran as ran
 use Rattle.arbitration.specs.Shown as shows
 use Rattle.arbitration.specs.Shown.{Lent, shown, cleared_in, all_cleared, OnlyUndecided, Arbitrates}
 use Rattle.arbitration.specs.declared.prepare.Prepared.{Prepared}
-use Rattle.arbitration.specs.Prepared.{begun, replied_by}
+use Rattle.arbitration.specs.Prepared.{begun, prepared, replied_by}
 use Rattle.arbitration.proofs.Given.{arbitration, whole, short, carried-length, levels-length}
 use Rattle.arbitration.proofs.Given.{Unrefused, unrefused-gives}
+use Rattle.arbitration.proofs.Preparing.{runs, stops}
 
 -- seats that differ in nothing but the master
 seats-alike : {A : Type 0} (flags : ℕ) (list : List A) (masters : List Master) → length masters ≡ length list
@@ -48,6 +50,23 @@ same-cleared : (masters : List Master)
     → map (λ (seat : Seat). seat.cleared) (map (seat_of members.writes_clear) masters) ≡ all_cleared (length masters)
 same-cleared [] = refl
 same-cleared (master ∷ masters) = ap (λ (flags : List ℕ). members.writes_clear ∷ flags) (same-cleared masters)
+
+-- how a call ends that was prepared so: a run where its last turn left it, and its reply; a refusal with the slices as
+-- they were
+pub data Ended (request : Request) (entry : Lent) : Result Prepared Refusal → Lent → Arbitrated → Type 0 where
+  after-run : (ready : Prepared) (final : Turn)
+      → Reached (length request.counts) ready.rows request.acknowledges
+      (record {
+        sequencer = ready.first;
+        table = entry.table;
+        carried = entry.carried;
+        levels = entry.levels;
+      })
+      final
+      → (reply : Arbitrated) → reply ≡ replied_by final.sequencer (length request.counts)
+      → Ended request entry (Ok ready)
+      (record { table = final.table; carried = final.carried; levels = final.levels }) reply
+  after-refusal : (r : Refusal) (reply : Arbitrated) → reply ≡ refused r → Ended request entry (Err r) entry reply
 
 module _ (request : Request) (entry : Lent) where
   abbrev messages : List (List ℕ)
@@ -260,11 +279,11 @@ module _ (request : Request) (entry : Lent) where
           answered-none = unfold answered in refl
 
   -- what was prepared, and where it ended
-  pub promised : Bytes request.bytes → what_applies.number ≡ 0 → (prepared : Prepared) → begun request ≡ prepared
+  pub run-clauses : Bytes request.bytes → what_applies.number ≡ 0 → (ready : Prepared) → begun request ≡ ready
       → (final : Turn)
-      → Reached (length request.counts) prepared.rows acknowledges
+      → Reached (length request.counts) ready.rows acknowledges
       (record {
-        sequencer = prepared.first;
+        sequencer = ready.first;
         table = entry.table;
         carried = entry.carried;
         levels = entry.levels;
@@ -272,8 +291,19 @@ module _ (request : Request) (entry : Lent) where
       final
       → (reply : Arbitrated) → reply ≡ replied_by final.sequencer (length request.counts)
       → Promise (record { table = final.table; carried = final.carried; levels = final.levels }) reply
-  promised small accepted prepared is final reached reply replies =
+  run-clauses small accepted ready is final reached reply replies =
       let first-is = ap (λ (p : Prepared). p.first) is in
       let rows-are = ap (λ (p : Prepared). p.rows) is in
       ran-clauses small accepted final (rw (lengths-count request, first-is, rows-are) reached) reply
       (rw (lengths-count request) replies)
+
+  -- what was prepared, a run or a refusal, and how it ended
+  pub promised : Bytes request.bytes → (outcome : Result Prepared Refusal)
+      → outcome ≡ prepared request (length entry.table) (length entry.carried) (length entry.levels)
+      → (exit : Lent) (reply : Arbitrated) → Ended request entry outcome exit reply → Promise exit reply
+  promised small (Ok ready) is exit reply (after-run _ final reached _ replies) =
+      let known = runs request (length entry.table) (length entry.carried) (length entry.levels) ready (sym is) in
+      run-clauses small known.0 ready known.1 final reached reply replies
+  promised small (Err r) is exit reply (after-refusal _ _ refuses) =
+      let known = stops request (length entry.table) (length entry.carried) (length entry.levels) r (sym is) in
+      refused-clauses r reply known.0 known.1 refuses
