@@ -9,7 +9,7 @@ use Rattle.usi.specs.declared.Written.{Written}
 use Rattle.usi_spi.specs.declared.Driven.{Driven}
 use Rattle.usi_spi.specs.declared.Driven.TheVariants.{Released, Low, High}
 use Rattle.usi.specs.Module.{pulls_scl, pulls_sda, spi_lines}
-use Rattle.usi.specs.Step.{refusal, module_of, read_refusal, value_of}
+use Rattle.usi.specs.Step.{refusal, module_of, cleared_by, read_refusal, value_of}
 
 -- byte k of a number
 abbrev pub byte_at : ℕ → ℕ → ℕ
@@ -60,10 +60,14 @@ pub record Bytes (u : Usi) : Type 0 where
 abbrev pub packed_step : Result Usi Refused → ℕ
 packed_step s = packed (module_of s) + 2 ^ 55 * refusal s
 
--- a write's answer: the same, and the flags that it cleared in bits 60 to 63, of a refused one none (02: Ask 12)
+-- the step that a write made
+abbrev pub step_of : Result Written Refused → Result Usi Refused
+step_of (Ok w) = Ok w.usi
+step_of (Err r) = Err r
+
+-- a write's answer: that of its step, and the flags that it cleared in bits 60 to 63, of a refused one none (02: Ask 12)
 abbrev pub packed_written : Result Written Refused → ℕ
-packed_written (Ok w) = packed w.usi + 2 ^ 60 * w.cleared
-packed_written (Err r) = packed r.usi + 2 ^ 55 * r.number
+packed_written w = packed_step (step_of w) + 2 ^ 60 * cleared_by w
 
 -- a read's answer: the value, and the refusal's number above 16 bits
 abbrev pub packed_read : Result ℕ Refusal → ℕ
