@@ -102,6 +102,7 @@ pub fn is_of(book: &[u32], events: &[u16], row: usize, frame: &[u16]) -> bool
 }
 
 // The same of a row that is looked for.
+#[inline(always)]
 pub(crate) fn is_sought(
     book: &[u32],
     events: &[u16],
